@@ -1,0 +1,4 @@
+pub mod Fields
+pub mod Descriptor
+pub mod Validate
+pub mod ArrayIndex

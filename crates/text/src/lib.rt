@@ -1,0 +1,1 @@
+// The strings that were entered, by number.
