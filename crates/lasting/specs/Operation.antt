@@ -1,0 +1,78 @@
+-- What a step asks for, by its code. Assumes nothing.
+use Prim.Native.Nat.{ℕ}
+use mathlib.Core.Option.{Option, none, some}
+use mathlib.Core.List.{List}
+use lib.Dec.{eqb}
+use lib.IntN.{ℤ, pos, negsuc}
+use Rattle.value.specs.declared.Value.{Value}
+use Rattle.value.specs.declared.Value.the-variants as value
+use Rattle.value.specs.declared.PropertyKey.{PropertyKey}
+use Rattle.value.specs.declared.PropertyKey.the-variants.{String}
+use Rattle.value.specs.PropertyKey.{keyOf}
+use Rattle.value.specs.Words.{pick}
+use Rattle.property.specs.declared.PropertyDescriptor.{PropertyDescriptor}
+use Rattle.property.specs.Descriptor.{toPropertyDescriptor}
+use Rattle.record.specs.declared.Step.{Step}
+use Rattle.record.specs.Step.{stepOf}
+
+-- the object comes first, and the receiver last
+pub data Operation : Type 0 where
+  makeObject : Value → Operation
+  makeProxy : ℕ → ℕ → Operation
+  revoke : ℕ → Operation
+  getPrototypeOf : ℕ → Operation
+  setPrototypeOf : ℕ → Value → Operation
+  isExtensible : ℕ → Operation
+  preventExtensions : ℕ → Operation
+  getOwnProperty : ℕ → PropertyKey → Operation
+  defineOwnProperty : ℕ → PropertyKey → PropertyDescriptor → Operation
+  hasProperty : ℕ → PropertyKey → Operation
+  get : ℕ → PropertyKey → Value → Operation
+  set : ℕ → PropertyKey → Value → Value → Operation
+  delete : ℕ → PropertyKey → Operation
+  ownPropertyKeys : ℕ → Operation
+
+-- the key that a value is; one that is none is refused before it is asked for
+abbrev pub keyOrFirst : Option PropertyKey → PropertyKey
+keyOrFirst none = String 0
+keyOrFirst (some k) = k
+
+-- the trap mask that a value is; one that is none is refused before it is asked for
+abbrev pub maskNumber : ℤ → ℕ
+maskNumber (pos n) = n
+maskNumber (negsuc n) = 0
+
+abbrev pub maskOf : Value → ℕ
+maskOf value.Undefined = 0
+maskOf value.Null = 0
+maskOf (value.Boolean b) = 0
+maskOf (value.Integer32 n) = maskNumber n
+maskOf (value.Float64 x) = 0
+maskOf (value.String s) = 0
+maskOf (value.Symbol s) = 0
+maskOf (value.Object o) = 0
+maskOf (value.Function f) = 0
+
+abbrev pub byCode : ℕ → ℕ → PropertyKey → Value → Value → PropertyDescriptor → Operation
+byCode code o k v receiver d =
+    pick (eqb code 1) (makeObject v)
+    (pick (eqb code 2) (makeProxy o (maskOf v))
+    (pick (eqb code 3) (revoke o)
+    (pick (eqb code 4) (getPrototypeOf o)
+    (pick (eqb code 5) (setPrototypeOf o v)
+    (pick (eqb code 6) (isExtensible o)
+    (pick (eqb code 7) (preventExtensions o)
+    (pick (eqb code 8) (getOwnProperty o k)
+    (pick (eqb code 9) (defineOwnProperty o k d)
+    (pick (eqb code 10) (hasProperty o k)
+    (pick (eqb code 11) (get o k receiver)
+    (pick (eqb code 12) (set o k v receiver)
+    (pick (eqb code 13) (delete o k)
+    (ownPropertyKeys o)))))))))))))
+
+unfoldable pub operationOf : Step → Operation
+operationOf s = byCode (s .code) (s .object) (keyOrFirst (keyOf (s .key))) (s .value) (s .receiver) (toPropertyDescriptor (s .descriptor))
+
+-- what the bytes of a step ask for
+unfoldable pub asked : List ℕ → Operation
+asked bytes = operationOf (stepOf bytes)

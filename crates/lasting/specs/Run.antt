@@ -1,0 +1,29 @@
+-- Lists of calls: each finds the world that its predecessor left. Assumes nothing.
+use Prim.Native.Nat.{ℕ}
+use mathlib.Core.List.{List, [], _∷_}
+use Rattle.store.specs.Store.{World, empty}
+use Rattle.lasting.specs.Response.{Response, Effect}
+use Rattle.lasting.specs.Step
+use Rattle.lasting.specs.Alone.{enterString}
+
+-- a step with its sheet and its output, of any content and length; or a string's code units
+pub data Call : Type 0 where
+  step : (bytes sheet output : List ℕ) → Call
+  enter : (units : List ℕ) → Call
+
+unfoldable pub effect : World → Call → Effect
+effect ω (step bytes sheet output) = Step.step ω bytes sheet output
+effect ω (enter units) = enterString ω units
+
+-- a call that was made, and what it answered
+pub record Event : Type 0 where
+  pub call : Call
+  pub response : Response
+
+unfoldable pub runFrom : World → List Call → List Event
+runFrom ω [] = []
+runFrom ω (c ∷ cs) = record { call = c; response = effect ω c .response } ∷ runFrom (effect ω c .world) cs
+
+-- the events of a list of calls, from nothing made or entered
+unfoldable pub run : List Call → List Event
+run calls = runFrom empty calls

@@ -1,0 +1,86 @@
+-- A step over bytes: what is refused, what is run, and what world and output are after it. Assumes nothing.
+use Prim.Native.Nat.{ℕ, _-_, _*_}
+use mathlib.Core.Bool.{Bool, true, false, cond}
+use mathlib.Core.Option.{Option, none, some}
+use mathlib.Core.List.{List, [], _∷_, _++_}
+use lib.Dec.{leb}
+use lib.ListN.{length, drop}
+use Rattle.value.specs.declared.Value.{Value}
+use Rattle.value.specs.declared.PropertyKey.{PropertyKey}
+use Rattle.value.specs.PropertyKey.{keyValue}
+use Rattle.store.specs.Store.{Store, World, maximumProperties}
+use Rattle.internal_methods.specs.declared.Failure.the-variants.{Refused, TypeError, Thrown}
+use Rattle.internal_methods.specs.Monad.{Answer, State, state, Out, failed, done}
+use Rattle.internal_methods.specs.Methods.{Context}
+use Rattle.record.specs.Bytes.{valueSize, valueBytes}
+use Rattle.record.specs.Tests.{Counts, isMade, isKnown, isDescriptor}
+use Rattle.record.specs.Step.{stepOf, isStep, areObjectsMade, areKindsUsable}
+use Rattle.record.specs.Sheet.{sheetOf, isSheet, sheetPasses}
+use Rattle.lasting.specs.Operation.{asked}
+use Rattle.lasting.specs.Perform.{Result, value, descriptor, absent, keys, maximumCalls, perform}
+use Rattle.lasting.specs.Response.{Ending, refused, result, typeError, thrown, Response, refusal, Effect, firstFailing}
+
+abbrev pub countsOf : World → Counts
+countsOf ω = record { objects = length (ω .store .objects); strings = length (ω .strings) }
+
+abbrev pub contextOf : World → Context
+contextOf ω = record { store = ω .store; strings = ω .strings; allowance = maximumProperties }
+
+-- refusals 1 to 4 over the step, then 1 to 3 over the sheet
+abbrev pub recordTests : World → List ℕ → List ℕ → List (ℕ × Bool)
+recordTests ω bytes sheet =
+    (1, isStep bytes)
+    ∷ (2, areObjectsMade (countsOf ω) (stepOf bytes))
+    ∷ (3, areKindsUsable (ω .store) (countsOf ω) (stepOf bytes))
+    ∷ (4, isDescriptor (stepOf bytes .descriptor))
+    ∷ (1, isSheet sheet)
+    ∷ (2, sheetPasses (isMade (countsOf ω)) (sheetOf sheet))
+    ∷ (3, sheetPasses (isKnown (countsOf ω)) (sheetOf sheet))
+    ∷ []
+
+unfoldable pub keysBytes : List PropertyKey → List ℕ
+keysBytes [] = []
+keysBytes (k ∷ ks) = valueBytes (keyValue k) ++ keysBytes ks
+
+-- refusal 11: the output holds 9 bytes for each key
+abbrev pub outputHolds : Result → List ℕ → Bool
+outputHolds (value v) output = true
+outputHolds (descriptor p) output = true
+outputHolds absent output = true
+outputHolds (keys ks) output = leb (valueSize * length ks) (length output)
+
+-- the keys stand at the output's start; the bytes after them stay
+abbrev pub outputAfter : Result → List ℕ → List ℕ
+outputAfter (value v) output = output
+outputAfter (descriptor p) output = output
+outputAfter absent output = output
+outputAfter (keys ks) output = keysBytes ks ++ drop (valueSize * length ks) output
+
+abbrev pub refusing : ℕ → World → List ℕ → Effect
+refusing n ω output = record { response = refusal n; world = ω; output = output }
+
+-- the answers used and the calls made, from what is left of them
+abbrev pub responding : Ending → List Answer → State → Response
+responding e answers s = record { ending = e; answers = length answers - length (s .answers); calls = maximumCalls - s .calls }
+
+abbrev pub withStore : World → Store → World
+withStore ω σ = record { store = σ; strings = ω .strings }
+
+unfoldable pub ended : World → List Answer → List ℕ → Out (Result × Store) → Effect
+ended ω answers output (failed (Refused n) s) = refusing n ω output
+ended ω answers output (failed (TypeError n) s) = record { response = responding (typeError n) answers s; world = ω; output = output }
+ended ω answers output (failed (Thrown v) s) = record { response = responding (thrown v) answers s; world = ω; output = output }
+ended ω answers output (done a s) = elim (outputHolds (a .0) output) [
+  | false ↦ refusing 11 ω output
+  | true ↦ record { response = responding (result (a .0)) answers s; world = withStore ω (a .1); output = outputAfter (a .0) output }
+]
+
+-- the run of a step whose records passed their tests
+unfoldable pub ran : World → List ℕ → List ℕ → Out (Result × Store)
+ran ω bytes sheet = perform (contextOf ω) (asked bytes) .run (state (sheetOf sheet) maximumCalls)
+
+unfoldable pub step : World → List ℕ → List ℕ → List ℕ → Effect
+step ω bytes sheet output = elim (firstFailing (recordTests ω bytes sheet)) [
+  | some n ↦ refusing n ω output
+  | none ↦ ended ω (sheetOf sheet) output (ran ω bytes sheet)
+]

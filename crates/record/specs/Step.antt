@@ -1,0 +1,114 @@
+-- A step is 58 bytes: code, object, key, value, receiver, descriptor. Assumes nothing.
+use Prim.Native.Nat.{ℕ, _+_}
+use mathlib.Core.Bool.{Bool, true, false, not, _&&_, _||_, cond}
+use mathlib.Core.Option.{Option, none, some}
+use mathlib.Core.List.{List, [], _∷_}
+use lib.Dec.{eqb, leb, ltb}
+use lib.IntN.{ℤ, pos, negsuc}
+use lib.ListN.{length}
+use Rattle.value.specs.declared.Value.{Value}
+use Rattle.value.specs.declared.Value.the-variants.{Undefined, Null, Boolean, Integer32, Float64, String, Symbol, Object, Function}
+use Rattle.value.specs.declared.PropertyKey.{PropertyKey}
+use Rattle.value.specs.PropertyKey.{keyOf}
+use Rattle.value.specs.Words.{kindOf}
+use Rattle.store.specs.declared.Object
+use Rattle.store.specs.declared.Object.the-variants as object
+use Rattle.store.specs.Store.{Store, lookup}
+use Rattle.record.specs.declared.Step.{Step}
+use Rattle.record.specs.Bytes.{byteAt, areZero, valueAt, isPartAt}
+use Rattle.record.specs.Descriptor.{descriptorSize, descriptorAt, isDescriptorAt}
+use Rattle.record.specs.Tests.{Counts, isMade, isKnown, descriptorPasses, isDescriptor}
+
+abbrev pub stepSize : ℕ
+stepSize = 58
+
+unfoldable pub stepOf : List ℕ → Step
+stepOf bytes = record {
+  code = byteAt bytes 0;
+  object = byteAt bytes 1;
+  key = valueAt bytes 2;
+  value = valueAt bytes 11;
+  receiver = valueAt bytes 20;
+  descriptor = descriptorAt bytes 29;
+}
+
+-- the codes, by the parts that they use
+abbrev pub usesObject : ℕ → Bool
+usesObject code = not (eqb code 1)
+
+abbrev pub usesKey : ℕ → Bool
+usesKey code = leb 8 code && leb code 13
+
+abbrev pub usesPrototype : ℕ → Bool
+usesPrototype code = eqb code 1 || eqb code 5
+
+abbrev pub usesMask : ℕ → Bool
+usesMask code = eqb code 2
+
+abbrev pub usesValue : ℕ → Bool
+usesValue code = usesPrototype code || (usesMask code || eqb code 12)
+
+abbrev pub usesReceiver : ℕ → Bool
+usesReceiver code = eqb code 11 || eqb code 12
+
+abbrev pub usesDescriptor : ℕ → Bool
+usesDescriptor code = eqb code 9
+
+-- a trap mask that is an Integer32 is 0 to 2047
+unfoldable pub isMask : Value → Bool
+isMask Undefined = true
+isMask Null = true
+isMask (Boolean b) = true
+isMask (Integer32 (pos n)) = leb n 2047
+isMask (Integer32 (negsuc n)) = false
+isMask (Float64 x) = true
+isMask (String s) = true
+isMask (Symbol s) = true
+isMask (Object o) = true
+isMask (Function f) = true
+
+abbrev pub unless : Bool → Bool → Bool
+unless used test = not used || test
+
+-- refusal 1 over the step
+unfoldable pub isStep : List ℕ → Bool
+isStep bytes =
+    let code = byteAt bytes 0 in
+    eqb (length bytes) stepSize
+    && ((leb 1 code && leb code 14)
+    && ((usesObject code || eqb (byteAt bytes 1) 0)
+    && (isPartAt (usesKey code) bytes 2
+    && (isPartAt (usesValue code) bytes 11
+    && (isPartAt (usesReceiver code) bytes 20
+    && (cond (usesDescriptor code) (isDescriptorAt bytes 29) (areZero bytes 29 descriptorSize)
+    && unless (usesMask code) (isMask (valueAt bytes 11))))))))
+
+-- the values of a step pass a test
+abbrev pub stepPasses : (Value → Bool) → Step → Bool
+stepPasses test s = test (s .key) && (test (s .value) && (test (s .receiver) && descriptorPasses test (s .descriptor)))
+
+-- refusal 2 over the step
+unfoldable pub areObjectsMade : Counts → Step → Bool
+areObjectsMade n s = unless (usesObject (s .code)) (ltb (s .object) (n .objects)) && stepPasses (isMade n) s
+
+abbrev pub isSome : {A : Type 0} → Option A → Bool
+isSome none = false
+isSome (some a) = true
+
+abbrev pub isNullOrObject : Value → Bool
+isNullOrObject v = eqb (kindOf v) 1 || eqb (kindOf v) 7
+
+abbrev pub isProxy : Option Object.Object → Bool
+isProxy none = false
+isProxy (some (object.Ordinary r)) = false
+isProxy (some (object.Proxy p)) = true
+
+-- refusal 3 over the step: known numbers, and kinds that the step can use
+unfoldable pub areKindsUsable : Store → Counts → Step → Bool
+areKindsUsable σ n s =
+    stepPasses (isKnown n) s
+    && (unless (usesKey (s .code)) (isSome (keyOf (s .key)))
+    && (unless (usesPrototype (s .code)) (isNullOrObject (s .value))
+    && (unless (usesMask (s .code)) (eqb (kindOf (s .value)) 3)
+    && (unless (eqb (s .code) 3) (isProxy (lookup σ (s .object)))
+    && unless (usesReceiver (s .code)) (not (eqb (kindOf (s .receiver)) 8))))))

@@ -1,0 +1,51 @@
+-- Refusals 2, 3 and 4 over a value and a descriptor. Assumes nothing.
+use Prim.Native.Nat.{ℕ}
+use mathlib.Core.Bool.{Bool, true, false, not, _&&_, _||_}
+use lib.Dec.{ltb}
+use Rattle.value.specs.declared.Value.{Value}
+use Rattle.value.specs.declared.Value.the-variants.{Undefined, Null, Boolean, Integer32, Float64, String, Symbol, Object, Function}
+use Rattle.property.specs.declared.Field.{Field}
+use Rattle.property.specs.declared.Field.the-variants.{Absent, Present}
+use Rattle.property.specs.declared.DescriptorObject.{DescriptorObject}
+use Rattle.property.specs.Descriptor.{isUncallable, isMixed}
+
+-- how many objects and strings there are
+pub record Counts : Type 0 where
+  pub objects : ℕ
+  pub strings : ℕ
+
+-- 2: an object number was never made
+unfoldable pub isMade : Counts → Value → Bool
+isMade n Undefined = true
+isMade n Null = true
+isMade n (Boolean b) = true
+isMade n (Integer32 i) = true
+isMade n (Float64 x) = true
+isMade n (String s) = true
+isMade n (Symbol s) = true
+isMade n (Object o) = ltb o (n .objects)
+isMade n (Function f) = true
+
+-- 3: a string was not entered, or a symbol or function number exceeds 255
+unfoldable pub isKnown : Counts → Value → Bool
+isKnown n Undefined = true
+isKnown n Null = true
+isKnown n (Boolean b) = true
+isKnown n (Integer32 i) = true
+isKnown n (Float64 x) = true
+isKnown n (String s) = ltb s (n .strings)
+isKnown n (Symbol s) = ltb s 256
+isKnown n (Object o) = true
+isKnown n (Function f) = ltb f 256
+
+abbrev pub fieldPasses : (Value → Bool) → Field → Bool
+fieldPasses test Absent = true
+fieldPasses test (Present v) = test v
+
+-- a test of the values of a descriptor
+abbrev pub descriptorPasses : (Value → Bool) → DescriptorObject → Bool
+descriptorPasses test d = fieldPasses test (d .value) && (fieldPasses test (d .get) && fieldPasses test (d .set))
+
+-- 4: it mixes value or writable with get or set, or its get or set is neither undefined nor a function
+unfoldable pub isDescriptor : DescriptorObject → Bool
+isDescriptor d = not (isMixed d) && (not (isUncallable (d .get)) && not (isUncallable (d .set)))
