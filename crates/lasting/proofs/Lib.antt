@@ -1,1 +1,2 @@
 pub mod RowsHold
+pub mod Steps

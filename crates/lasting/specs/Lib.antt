@@ -5,3 +5,5 @@ pub mod Step
 pub mod Alone
 pub mod Run
 pub mod Rows
+pub mod Lasting
+pub mod Refusals

@@ -66,21 +66,28 @@ responding e answers s = record { ending = e; answers = length answers - length 
 abbrev pub withStore : World → Store → World
 withStore ω σ = record { store = σ; strings = ω .strings }
 
-unfoldable pub ended : World → List Answer → List ℕ → Out (Result × Store) → Effect
+-- a result, unless the output cannot hold its keys
+abbrev pub completed : World → List Answer → List ℕ → Result × Store → State → Bool → Effect
+completed ω answers output a s false = refusing 11 ω output
+completed ω answers output a s true = record {
+  response = responding (result (a .0)) answers s;
+  world = withStore ω (a .1);
+  output = outputAfter (a .0) output;
+}
+
+abbrev pub ended : World → List Answer → List ℕ → Out (Result × Store) → Effect
 ended ω answers output (failed (Refused n) s) = refusing n ω output
 ended ω answers output (failed (TypeError n) s) = record { response = responding (typeError n) answers s; world = ω; output = output }
 ended ω answers output (failed (Thrown v) s) = record { response = responding (thrown v) answers s; world = ω; output = output }
-ended ω answers output (done a s) = elim (outputHolds (a .0) output) [
-  | false ↦ refusing 11 ω output
-  | true ↦ record { response = responding (result (a .0)) answers s; world = withStore ω (a .1); output = outputAfter (a .0) output }
-]
+ended ω answers output (done a s) = completed ω answers output a s (outputHolds (a .0) output)
 
 -- the run of a step whose records passed their tests
 unfoldable pub ran : World → List ℕ → List ℕ → Out (Result × Store)
-ran ω bytes sheet = perform (contextOf ω) (asked bytes) .run (state (sheetOf sheet) maximumCalls)
+ran ω bytes sheet = perform maximumCalls (contextOf ω) (asked bytes) .run (state (sheetOf sheet) maximumCalls)
+
+abbrev pub tested : World → List Answer → List ℕ → Out (Result × Store) → Option ℕ → Effect
+tested ω answers output run (some n) = refusing n ω output
+tested ω answers output run none = ended ω answers output run
 
 unfoldable pub step : World → List ℕ → List ℕ → List ℕ → Effect
-step ω bytes sheet output = elim (firstFailing (recordTests ω bytes sheet)) [
-  | some n ↦ refusing n ω output
-  | none ↦ ended ω (sheetOf sheet) output (ran ω bytes sheet)
-]
+step ω bytes sheet output = tested ω (sheetOf sheet) output (ran ω bytes sheet) (firstFailing (recordTests ω bytes sheet))

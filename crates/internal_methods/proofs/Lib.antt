@@ -1,0 +1,3 @@
+pub mod Ensures
+pub mod Base
+pub mod Later

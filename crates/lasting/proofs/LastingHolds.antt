@@ -1,0 +1,158 @@
+-- Demand 3 holds of every list of calls. Assumes nothing.
+use Prim.Native.Nat.{ℕ, zero, suc, _≤_, _<_}
+use native.Mathlib.Nat.{le-of-lt, le-trans}
+use mathlib.Core.Path.{_≡_, refl, sym, ap, _∙_, subst}
+use mathlib.Core.Bool.{Bool, true, false, not, false≢true, true≢false}
+use mathlib.Core.List.{List}
+use lib.Dec.{leb}
+use borrow.Author.Tests.{leb-true, leb-false}
+use Rattle.value.specs.declared.Value.{Value}
+use Rattle.value.specs.declared.PropertyKey.{PropertyKey}
+use Rattle.value.specs.Value.{sameValue}
+use Rattle.value.proofs.SameValue.{same-refl, same-like, same-sym}
+use Rattle.property.specs.declared.Property.{Property}
+use Rattle.property.specs.declared.Property.the-variants.{Data, Accessor}
+use Rattle.property.specs.declared.OwnProperty.{OwnProperty}
+use Rattle.property.specs.declared.OwnProperty.the-variants.{Absent, Present}
+use Rattle.store.specs.declared.OrdinaryObject.{OrdinaryObject}
+use Rattle.store.specs.Store.{Store, own}
+use Rattle.internal_methods.specs.KeyList.{hasKey}
+use Rattle.internal_methods.proofs.Base.{frozenAs, isAbsent, Under, at-base, Frozen, Shut, Rooted, Lacking}
+use Rattle.internal_methods.proofs.Later.{frozen-lasts, shut-lasts, rooted-lasts, lacking-lasts}
+use Rattle.internal_methods.proofs.Reports.{Faithful, SamePrototype, frozen-learnt, frozen-told, lacking-learnt, lacking-told}
+use Rattle.lasting.specs.Operation.{Operation, getPrototypeOf, isExtensible, preventExtensions, getOwnProperty, hasProperty, get, delete, ownPropertyKeys}
+use Rattle.lasting.specs.Perform.{Result, value, descriptor, absent, keys, ownResult, boolean}
+use Rattle.lasting.specs.Run.{Call, Event, run}
+use Rattle.lasting.specs.Lasting.{At, Tells, ReportsFixed, ReportsNonExtensible, by-isExtensible, by-preventExtensions, ReportsAbsent, ShowsOwn, IsDataWith, StaysFixed, StaysNonExtensible, Lasting}
+use Rattle.lasting.specs.Lasting
+use Rattle.lasting.proofs.Performed.{boolean-is}
+use Rattle.lasting.proofs.Places.{worldAt, says-at, grows-at}
+
+-- Results as what methods give --------------------------------------------------------
+
+value-is : (v w : Value) → value v ≡ value w → v ≡ w
+value-is v w h = cc
+
+keys-is : (ks ls : List PropertyKey) → keys ks ≡ keys ls → ks ≡ ls
+keys-is ks ls h = cc
+
+own-is : (p : Property) (d : OwnProperty) → descriptor p ≡ ownResult d → Present p ≡ d
+own-is p Absent h = absurd (false≢true cc)
+own-is p (Present q) h = cc
+
+absent-is : (d : OwnProperty) → absent ≡ ownResult d → Absent ≡ d
+absent-is Absent h = refl
+absent-is (Present q) h = absurd (false≢true cc)
+
+frozen-data : (d : OwnProperty) (v : Value) → frozenAs v d ≡ true → IsDataWith v (ownResult d)
+frozen-data Absent v h = absurd (false≢true h)
+frozen-data (Present (Accessor g s e c)) v h = absurd (false≢true h)
+frozen-data (Present (Data w true e c)) v h = absurd (false≢true h)
+frozen-data (Present (Data w false e true)) v h = absurd (false≢true h)
+frozen-data (Present (Data w false e false)) v h = record { current = w; writable = false; enumerable = e; configurable = false; is = refl; same = h }
+
+frozen-there : (d : OwnProperty) (v : Value) → frozenAs v d ≡ true → not (isAbsent d) ≡ true
+frozen-there Absent v h = absurd (false≢true h)
+frozen-there (Present p) v h = refl
+
+module _ (calls : List Call) where
+  -- the store that the call at place i finds
+  abbrev σ : ℕ → Store
+  σ i = worldAt calls i .store
+
+  -- What is reported is so of the base from then on ------------------------------------
+
+  pub fixed-learnt : (i : ℕ) (e : Event) (o : ℕ) (k : PropertyKey) (v : Value) → At (run calls) i e → ReportsFixed o k v e → (j : ℕ) → i < j → Frozen (σ j) o k v
+  fixed-learnt i e o k v h t j l =
+      let (d, q, f) = says-at calls i e _ _ h (t .told) in
+      let p : Present (Data v false (t .enumerable) false) ≡ d = own-is _ d q in
+      frozen-lasts k v (grows-at calls i j (le-of-lt l)) (frozen-learnt k d v f (subst (λ (x : OwnProperty). frozenAs v x ≡ true) p (same-refl v)))
+
+  pub shut-learnt : (i : ℕ) (e : Event) (o : ℕ) → At (run calls) i e → ReportsNonExtensible o e → (j : ℕ) → i < j → Shut (σ j) o
+  shut-learnt i e o h (by-isExtensible t) j l =
+      let (x, q, u) = says-at calls i e _ _ h t in
+      let p : false ≡ x = boolean-is false x q in
+      shut-lasts (grows-at calls i j (le-of-lt l)) (record { number = u .number; object = u .object; base = u .base; holds = sym (u .holds) ∙ sym p })
+  shut-learnt i e o h (by-preventExtensions t) j l = shut-lasts (grows-at calls (suc i) j l) (says-at calls i e _ _ h t refl)
+
+  pub absent-learnt : (i : ℕ) (e : Event) (o : ℕ) (k : PropertyKey) → At (run calls) i e → Shut (σ i) o → ReportsAbsent o k e → (j : ℕ) → i < j → Lacking (σ j) o k
+  absent-learnt i e o k h s (ReportsAbsent.by-getOwnProperty t) j l =
+      let (d, q, f) = says-at calls i e _ _ h t in
+      lacking-lasts k (grows-at calls i j (le-of-lt l)) (lacking-learnt k (subst (λ (x : OwnProperty). Faithful (σ i) o k x) (sym (absent-is d q)) f) s)
+  absent-learnt i e o k h s (ReportsAbsent.by-hasProperty t) j l =
+      let (x, q, f) = says-at calls i e _ _ h t in
+      lacking-lasts k (grows-at calls i j (le-of-lt l)) (f .shown (sym (boolean-is false x q)) s)
+  absent-learnt i e o k h s (ReportsAbsent.by-ownPropertyKeys ks t n) j l =
+      let (ls, q, u) = says-at calls i e _ _ h t in
+      let m : hasKey k ls ≡ false = ap (λ (x : List PropertyKey). hasKey k x) (sym (keys-is ks ls q)) ∙ n in
+      let x = at-base (u .base) s in
+      lacking-lasts k (grows-at calls i j (le-of-lt l)) (record {
+        number = u .number;
+        object = u .object;
+        base = u .base;
+        holds = (x, gone (isAbsent (own (σ i) (u .number) k)) (sym (u .holds .shown x k) ∙ m));
+      })
+    where
+      gone : (b : Bool) → not b ≡ false → b ≡ true
+      gone true g = refl
+      gone false g = absurd (true≢false g)
+
+  -- What is so of the base binds every report -------------------------------------------
+
+  stays-fixed : (i : ℕ) (o : ℕ) (k : PropertyKey) (v : Value) → ((j : ℕ) → i < j → Frozen (σ j) o k v) → StaysFixed (run calls) i o k v
+  stays-fixed i o k v frozen = record {
+    described = λ j f r l h t.
+      let (d, q, u) = says-at calls j f _ _ h t in
+      subst (λ (x : Result). IsDataWith v x) (sym q) (frozen-data d v (frozen-told k d v u (frozen j l)));
+    read = λ j f receiver w l h t.
+      let (x, q, u) = says-at calls j f _ _ h t in
+      ap (λ (y : Value). sameValue y v) (value-is w x q) ∙ u v (frozen j l);
+    listed = λ j f ks l h t.
+      let (ls, q, u) = says-at calls j f _ _ h t in
+      ap (λ (x : List PropertyKey). hasKey k x) (keys-is ks ls q) ∙ u .holds .fixed k v (at-base (u .base) (frozen j l));
+    undeleted = λ j f l h t. says-at calls j f _ _ h t refl .loose v (frozen j l);
+  }
+
+  prototypes : (i : ℕ) (o : ℕ) (p q : Value) → (j l : ℕ) → j ≤ l → Shut (σ j) o → SamePrototype (σ j) o p → SamePrototype (σ l) o q → sameValue p q ≡ true
+  prototypes i o p q j l h s u w =
+      let e = at-base (u .base) s in
+      let r : Rooted (σ j) o p = record { number = u .number; object = u .object; base = u .base; holds = (e, same-sym _ _ ∙ u .holds e) } in
+      let g = at-base (w .base) (rooted-lasts p (grows-at calls j l h) r) in
+      same-sym p q ∙ (same-like q (w .object .prototype) p (w .holds (g .0)) ∙ g .1)
+
+  stays-nonExtensible : (i : ℕ) (o : ℕ) → ((j : ℕ) → i < j → Shut (σ j) o) → StaysNonExtensible (run calls) i o
+  stays-nonExtensible i o shut = record {
+    closed = λ j f l h t.
+      let (x, q, u) = says-at calls j f _ _ h t in
+      true≢false (boolean-is true x q ∙ (u .holds ∙ at-base (u .base) (shut j l)));
+    prototype = λ j m f g p q lj lm hf hg tf tg.
+      let (x, a, u) = says-at calls j f _ _ hf tf in
+      let (y, b, w) = says-at calls m g _ _ hg tg in
+      let u′ = subst (λ (z : Value). SamePrototype (σ j) o z) (sym (value-is p x a)) u in
+      let w′ = subst (λ (z : Value). SamePrototype (σ m) o z) (sym (value-is q y b)) w in
+      ordered j m p q lj lm u′ w′;
+    hidden = λ j m f g k lj lm hf hg tf tg. shows m g k hg (absent-learnt j f o k hf (shut j lj) tf m lm) tg;
+  }
+    where
+      ordered : (j m : ℕ) (p q : Value) → i < j → i < m → SamePrototype (σ j) o p → SamePrototype (σ m) o q → sameValue p q ≡ true
+      ordered j m p q lj lm u w = go (leb j m) refl
+        where
+          go : (b : Bool) → leb j m ≡ b → sameValue p q ≡ true
+          go true e = prototypes i o p q j m (leb-true j m e) (shut j lj) u w
+          go false e = same-sym p q ∙ prototypes i o q p m j (le-of-lt (leb-false j m e)) (shut m lm) w u
+      shows : (m : ℕ) (g : Event) (k : PropertyKey) → At (run calls) m g → Lacking (σ m) o k → ShowsOwn o k g → ⊥
+      shows m g k h a (ShowsOwn.by-getOwnProperty p t) =
+          let (d, q, u) = says-at calls m g _ _ h t in
+          false≢true (subst (λ (x : OwnProperty). isAbsent x ≡ true) (sym (own-is p d q)) (lacking-told k d u a))
+      shows m g k h a (ShowsOwn.by-ownPropertyKeys ks t n) =
+          let (ls, q, u) = says-at calls m g _ _ h t in
+          let b = at-base (u .base) a in
+          let z : hasKey k ls ≡ true = ap (λ (x : List PropertyKey). hasKey k x) (sym (keys-is ks ls q)) ∙ n in
+          false≢true (sym (ap not (b .1)) ∙ (sym (u .holds .shown (b .0) k) ∙ z))
+
+-- Demand 3: over every list of steps and string entries, from nothing made or entered
+pub lasting : (calls : List Call) → Lasting (run calls)
+lasting calls = record {
+  fixed = λ i e o k v h t. stays-fixed calls i o k v (λ j l. fixed-learnt calls i e o k v h t j l);
+  nonExtensible = λ i e o h t. stays-nonExtensible calls i o (λ j l. shut-learnt calls i e o h t j l);
+}
