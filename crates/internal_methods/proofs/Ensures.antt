@@ -35,8 +35,8 @@ module _ {A B : Type 0} where
   unfolding _>>=_
   ensures-bind {m} {k} {P} {Q} hm hk = record {
     at = λ s b t e.
-      let (a, u, p, q) = next-done k (m .run s) b t e in
-      hk a (hm .at s a u p) .at u b t q;
+        let (a, u, p, q) = next-done k (m .run s) b t e in
+        hk a (hm .at s a u p) .at u b t q;
   }
 
 module _ {A : Type 0} {Q : A → Type 0} where
@@ -65,7 +65,10 @@ module _ {A : Type 0} {Q : A → Type 0} where
   pub ensures-all : (m : M A) → ((a : A) → Q a) → Ensures m Q
   ensures-all m f = record { at = λ s a t e. f a }
 
-  -- both of an object that may be there
+  pub ensures-both : {m : M A} {P : A → Type 0} → Ensures m P → Ensures m Q → Ensures m (λ a. P a × Q a)
+  ensures-both f g = record { at = λ s a t e. (f .at s a t e, g .at s a t e) }
+
+  -- whether there is an object or not
   pub ensures-option : {m : M A} {f : ℕ → M A} (x : Option ℕ) → Ensures m Q → ((q : ℕ) → Ensures (f q) Q) → Ensures (elim x [ none ↦ m | some q ↦ f q ]) Q
   ensures-option none g h = g
   ensures-option (some q) g h = h q

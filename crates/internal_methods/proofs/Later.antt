@@ -60,9 +60,9 @@ grows-refl σ = record { lasts = λ o x e. (x, e, lasts-same σ σ o x (λ k. re
 pub grows-trans : {σ τ υ : Store} → Grows σ τ → Grows τ υ → Grows σ υ
 grows-trans f g = record {
   lasts = λ o x e.
-    let (y, a, l) = f .lasts o x e in
-    let (z, b, m) = g .lasts o y a in
-    (z, b, lasts-trans l m);
+      let (y, a, l) = f .lasts o x e in
+      let (z, b, m) = g .lasts o y a in
+      (z, b, lasts-trans l m);
 }
 
 pub grows-add : (σ : Store) (x : Object) → Grows σ (add σ x)
@@ -74,9 +74,11 @@ grows-put σ o x y e l = record { lasts = λ b z f. go b z f (eqb o b) refl }
     go : (b : ℕ) (z : Object) → lookup σ b ≡ some z → (t : Bool) → eqb o b ≡ t → (w : Object) × (lookup (put σ o y) b ≡ some w) × Lasts σ (put σ o y) b z w
     go b z f true h =
         let p : o ≡ b = eqb-true o b h in
-        let q : x ≡ z = cc in
-        (y, subst (λ (n : ℕ). lookup (put σ o y) n ≡ some y) p (lookup-put σ o x y e),
-          subst (λ (n : ℕ). Lasts σ (put σ o y) n z y) p (subst (λ (u : Object). Lasts σ (put σ o y) o u y) q l))
+        let q : x ≡ z = cc in (
+          y,
+          subst (λ (n : ℕ). lookup (put σ o y) n ≡ some y) p (lookup-put σ o x y e),
+          subst (λ (n : ℕ). Lasts σ (put σ o y) n z y) p (subst (λ (u : Object). Lasts σ (put σ o y) o u y) q l),
+        )
     go b z f false h = (z, lookup-put-other σ o b y h ∙ f, lasts-same σ (put σ o y) b z (λ k. own-put σ o y b k))
 
 -- a proxy is revoked, or has other traps

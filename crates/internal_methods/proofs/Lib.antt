@@ -1,3 +1,12 @@
 pub mod Ensures
 pub mod Base
 pub mod Later
+pub mod Tied
+pub mod Reading
+pub mod Writing
+pub mod KeyListLaws
+pub mod Keys
+pub mod Reports
+pub mod Longer
+pub mod StoreClosed
+pub mod Budget

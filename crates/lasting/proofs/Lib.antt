@@ -1,2 +1,6 @@
 pub mod RowsHold
 pub mod Steps
+pub mod Made
+pub mod Performed
+pub mod Places
+pub mod LastingHolds

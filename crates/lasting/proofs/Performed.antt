@@ -48,9 +48,9 @@ written : {σ : Store} {P : Store → Type 0} {asks : Operation} (m : M Written)
     → ((r : Result) (τ : Store) → (r ≡ boolean true → P τ) → Says σ asks r τ) → Ensures (writing m) (Said σ asks)
 written m h f = ensures-bind h (λ a c. ensures-pure _ (record { grows = c .grows; says = f _ _ (λ e. c .says (boolean-is (a .0) true e)) }))
 
-read : {A : Type 0} {σ : Store} {Q : A → Type 0} {result : A → Result} {asks : Operation} (m : M A) → Ensures m Q
+read : {A : Type 0} (σ : Store) {Q : A → Type 0} (result : A → Result) {asks : Operation} (m : M A) → Ensures m Q
     → ((a : A) → Q a → Says σ asks (result a) σ) → Ensures (reading σ result m) (Said σ asks)
-read {σ = σ} m h f = ensures-bind h (λ a q. ensures-pure _ (record { grows = grows-refl σ; says = f a q }))
+read σ result m h f = ensures-bind h (λ a q. ensures-pure _ (record { grows = grows-refl σ; says = f a q }))
 
 made : (σ : Store) (x : Object) (asks : Operation) → ((r : Result) (τ : Store) → Says σ asks r τ) → Ensures (make σ x) (Said σ asks)
 unfolding make
@@ -66,14 +66,14 @@ unfolding perform
 performed n c (makeObject v) = made (c .store) _ _ (λ _ _. tt)
 performed n c (makeProxy o traps) = made (c .store) _ _ (λ _ _. tt)
 performed n c (revoke o) = ensures-pure _ (record { grows = revoked-grows (c .store) o _ refl; says = tt })
-performed n c (getPrototypeOf o) = read _ (getPrototypeOf-report n c o) (λ v u. (v, refl, u))
+performed n c (getPrototypeOf o) = read _ value _ (getPrototypeOf-report n c o) (λ v u. (v, refl, u))
 performed n c (setPrototypeOf o v) = written _ (setPrototypeOf-report n c o v) (λ r τ f. f)
-performed n c (isExtensible o) = read _ (isExtensible-report n c o) (λ x u. (x, refl, u))
+performed n c (isExtensible o) = read _ boolean _ (isExtensible-report n c o) (λ x u. (x, refl, u))
 performed n c (preventExtensions o) = written _ (preventExtensions-report n c o) (λ r τ f. f)
-performed n c (getOwnProperty o k) = read _ (getOwnProperty-report n c o k) (λ d u. (d, refl, u))
+performed n c (getOwnProperty o k) = read _ ownResult _ (getOwnProperty-report n c o k) (λ d u. (d, refl, u))
 performed n c (defineOwnProperty o k d) = written _ (defineOwnProperty-report n c o k d) (λ r τ f. f)
-performed n c (hasProperty o k) = read _ (hasProperty-report n c o k) (λ x u. (x, refl, u))
-performed n c (get o k receiver) = read _ (get-report n c o k receiver) (λ x u. (x, refl, u))
+performed n c (hasProperty o k) = read _ boolean _ (hasProperty-report n c o k) (λ x u. (x, refl, u))
+performed n c (get o k receiver) = read _ value _ (get-report n c o k receiver) (λ x u. (x, refl, u))
 performed n c (set o k v receiver) = written _ (set-report n c o k v receiver) (λ r τ f. f)
 performed n c (delete o k) = written _ (delete-report n c o k) (λ r τ f. f)
-performed n c (ownPropertyKeys o) = read _ (ownPropertyKeys-report n c o) (λ ks u. (ks, refl, u))
+performed n c (ownPropertyKeys o) = read _ keys _ (ownPropertyKeys-report n c o) (λ ks u. (ks, refl, u))

@@ -65,7 +65,12 @@ refusalOrMessage (outcome.Result c) = 0
 refusalOrMessage (outcome.TypeError n) = n
 refusalOrMessage (outcome.Thrown v) = 0
 
+-- the number of a test that does not pass, or what the later tests give
+abbrev pub failing : Bool → ℕ → Option ℕ → Option ℕ
+failing false n later = some n
+failing true n later = later
+
 -- the number of the first test that does not pass
 unfoldable pub firstFailing : List (ℕ × Bool) → Option ℕ
-firstFailing List.[] = none
-firstFailing (List._∷_ t ts) = elim (t .1) [ false ↦ some (t .0) | true ↦ firstFailing ts ]
+firstFailing [] = none
+firstFailing (t ∷ ts) = failing (t .1) (t .0) (firstFailing ts)
