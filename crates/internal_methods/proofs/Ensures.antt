@@ -1,6 +1,6 @@
 -- Rules for what a method ensures of its result, wherever it is done. Assumes nothing.
-use Prim.Native.Nat.{ℕ, suc, zero}
-use mathlib.Core.Path.{_≡_, refl, sym, subst}
+use Prim.Native.Nat.{ℕ}
+use mathlib.Core.Path.{_≡_, refl, subst}
 use mathlib.Core.Bool.{Bool, true, false, false≢true}
 use mathlib.Core.Option.{Option, none, some}
 use Rattle.store.specs.declared.OrdinaryObject.{OrdinaryObject}

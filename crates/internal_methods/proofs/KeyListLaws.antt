@@ -9,8 +9,7 @@ use Rattle.value.specs.declared.PropertyKey.{PropertyKey}
 use Rattle.value.specs.PropertyKey.{sameKey}
 use Rattle.value.proofs.Bools.{or-swap, or-true-right, or-cases, and-true, bool-ext}
 use Rattle.value.proofs.SameKey.{key-eq}
-use Rattle.property.specs.declared.OwnProperty.{OwnProperty}
-use Rattle.property.specs.declared.OwnProperty.the-variants.{Absent, Present}
+use Rattle.property.specs.declared.OwnProperty.the-variants.{Present}
 use Rattle.text.specs.Strings.{Strings}
 use Rattle.store.specs.declared.Entry.{Entry}
 use Rattle.store.specs.Store.{Store, isAt, find, own}

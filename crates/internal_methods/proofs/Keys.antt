@@ -1,8 +1,7 @@
 -- What [[OwnPropertyKeys]] reports of an object is so of its base. Assumes nothing.
 use Prim.Native.Nat.{ℕ, suc, zero}
 use mathlib.Core.Path.{_≡_, refl, sym, ap, _∙_, subst}
-use mathlib.Core.Bool.{Bool, true, false, not, _||_, false≢true, true≢false, or-assoc}
-use mathlib.Core.Option.{Option, none, some}
+use mathlib.Core.Bool.{Bool, true, false, not, _||_, false≢true, or-assoc}
 use mathlib.Core.List.{List, [], _∷_}
 use Rattle.value.specs.declared.Value.{Value}
 use Rattle.value.specs.declared.PropertyKey.{PropertyKey}
@@ -13,15 +12,14 @@ use Rattle.property.specs.declared.OwnProperty.{OwnProperty}
 use Rattle.property.specs.declared.OwnProperty.the-variants.{Absent, Present}
 use Rattle.property.proofs.ValidateLaws.{configurable-not-frozen}
 use Rattle.store.specs.declared.OrdinaryObject.{OrdinaryObject}
-use Rattle.store.specs.declared.ProxyObject.{ProxyObject}
 use Rattle.store.specs.Store.{Store, own}
 use Rattle.internal_methods.specs.Monad.{M}
-use Rattle.internal_methods.specs.Methods.{Context, Methods}
-use Rattle.internal_methods.specs.KeyList.{hasKey, Sorted, rejected}
+use Rattle.internal_methods.specs.Methods.{Context}
+use Rattle.internal_methods.specs.KeyList.{hasKey, Sorted}
 use Rattle.internal_methods.specs.Proxy.{absentOrConfigurable, sortedBy, sorted, proxyOwnPropertyKeys}
 use Rattle.internal_methods.specs.Internal.{methods}
 use Rattle.internal_methods.proofs.Ensures.{Ensures, ensures-pure, ensures-fails, ensures-bind, ensures-if, ensures-throwAny, ensures-then, ensures-weaken, ensures-dispatch}
-use Rattle.internal_methods.proofs.Base.{frozenAs, isAbsent, Base, here, over, Under, at-base, through, Frozen}
+use Rattle.internal_methods.proofs.Base.{frozenAs, isAbsent, here, Under, at-base, through, Frozen}
 use Rattle.internal_methods.proofs.Reading.{isExtensible-report, Faithful, getOwnProperty-report, frozen-told}
 use Rattle.internal_methods.proofs.KeyListLaws.{own-keys-has, Admitted, admitted}
 

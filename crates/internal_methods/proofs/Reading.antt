@@ -1,33 +1,28 @@
 -- What the methods that read report of an object is so of its base. Assumes nothing.
 use Prim.Native.Nat.{ℕ, suc, zero}
-use mathlib.Core.Path.{_≡_, refl, sym, ap, _∙_, subst}
-use mathlib.Core.Bool.{Bool, true, false, not, _&&_, Bool·beq, false≢true, true≢false}
-use mathlib.Core.Option.{Option, none, some}
+use mathlib.Core.Path.{_≡_, refl, sym, _∙_, subst}
+use mathlib.Core.Bool.{Bool, true, false, not, false≢true, true≢false}
+use mathlib.Core.Option.{none, some}
 use borrow.Author.Tests.{not-false}
 use Rattle.value.specs.declared.Value.{Value}
 use Rattle.value.specs.declared.PropertyKey.{PropertyKey}
-use Rattle.value.specs.Value.{sameValue, objectOf}
+use Rattle.value.specs.Value.{sameValue}
 use Rattle.value.proofs.Bools.{beq-eq}
-use Rattle.value.proofs.SameValue.{same-like, same-refl}
-use Rattle.property.specs.declared.DescriptorObject.{DescriptorObject}
-use Rattle.property.specs.declared.Property.{Property}
+use Rattle.value.proofs.SameValue.{same-like, same-refl, same-sym}
 use Rattle.property.specs.declared.Property.the-variants.{Data, Accessor}
 use Rattle.property.specs.declared.OwnProperty.{OwnProperty}
 use Rattle.property.specs.declared.OwnProperty.the-variants.{Absent, Present}
-use Rattle.property.specs.Fields.{configurable}
-use Rattle.property.specs.Descriptor.{toPropertyDescriptor, complete, descriptorOf}
 use Rattle.property.proofs.ValidateLaws.{configurable-not-frozen}
 use Rattle.store.specs.declared.OrdinaryObject.{OrdinaryObject}
 use Rattle.store.specs.declared.ProxyObject.{ProxyObject}
-use Rattle.store.specs.declared.Object.{Object}
 use Rattle.store.specs.declared.Object.the-variants.{Ordinary, Proxy}
 use Rattle.store.specs.Store.{Store, lookup, own}
-use Rattle.internal_methods.specs.Methods.{Context, Methods}
+use Rattle.internal_methods.specs.Methods.{Context}
 use Rattle.internal_methods.specs.Ordinary.{ordinaryHasProperty, ordinaryGet}
 use Rattle.internal_methods.specs.Proxy.{proxyGetPrototypeOf, proxyIsExtensible, proxyGetOwnProperty, proxyHasProperty, proxyGet, fixesOther}
 use Rattle.internal_methods.specs.Internal.{methods}
 use Rattle.internal_methods.proofs.Ensures.{Ensures, ensures-pure, ensures-fails, ensures-bind, ensures-if, ensures-throwIf, ensures-then, ensures-weaken, ensures-all, ensures-dispatch}
-use Rattle.internal_methods.proofs.Base.{frozenAs, isAbsent, Base, here, over, Under, at-base, through, at-target, Frozen, Shut, Lacking}
+use Rattle.internal_methods.proofs.Base.{frozenAs, isAbsent, here, Under, at-base, through, at-target, Frozen, Shut, Rooted, Lacking}
 use Rattle.internal_methods.proofs.Tied.{Tied, tied-refl, tied-trans, tied-undefined, tied-descriptor}
 
 -- [[IsExtensible]]
@@ -179,6 +174,14 @@ getPrototypeOf-report (suc n) c o = ensures-dispatch (c .store) o
     (λ _. ensures-bind (getPrototypeOf-report n c (p .target)) λ targetProto t.
     ensures-throwIf _ _ λ twelve.
     ensures-pure _ (through e (same-prototype handlerProto targetProto twelve t)))))
+
+pub rooted-learnt : {σ : Store} {o : ℕ} (v : Value) → SamePrototype σ o v → Shut σ o → Rooted σ o v
+rooted-learnt v u shut =
+    let s = at-base (u .base) shut in
+    record { number = u .number; object = u .object; base = u .base; holds = (s, same-sym (u .object .prototype) v ∙ u .holds s) }
+
+pub rooted-told : {σ : Store} {o : ℕ} (v w : Value) → SamePrototype σ o v → Rooted σ o w → sameValue v w ≡ true
+rooted-told v w u h = let b = at-base (u .base) h in same-like v (u .object .prototype) w (u .holds (b .0)) ∙ b .1
 
 -- [[HasProperty]]
 

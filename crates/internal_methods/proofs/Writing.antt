@@ -1,8 +1,8 @@
 -- What the methods that write do to a store, and what their answer `true` says. Assumes nothing.
 use Prim.Native.Nat.{ℕ, suc, zero}
 use mathlib.Core.Path.{_≡_, refl, sym, ap, _∙_, subst}
-use mathlib.Core.Bool.{Bool, true, false, not, _&&_, cond, false≢true, true≢false}
-use mathlib.Core.Option.{Option, none, some}
+use mathlib.Core.Bool.{Bool, true, false, not, cond, false≢true, true≢false}
+use mathlib.Core.Option.{some}
 use lib.ListN.{length}
 use borrow.Author.Tests.{not-false}
 use Rattle.value.specs.declared.Value.{Value}
@@ -20,18 +20,15 @@ use Rattle.property.specs.Fields.{configurable}
 use Rattle.property.specs.Validate.{validate, isCompatible}
 use Rattle.property.proofs.ValidateLaws.{configurable-not-frozen, AsksFrozen, validate-keeps, validate-adds, validate-refuses, validate-gives, validate-unchanged}
 use Rattle.store.specs.declared.OrdinaryObject.{OrdinaryObject}
-use Rattle.store.specs.declared.ProxyObject.{ProxyObject}
-use Rattle.store.specs.declared.Object.{Object}
-use Rattle.store.specs.declared.Object.the-variants.{Ordinary, Proxy}
+use Rattle.store.specs.declared.Object.the-variants.{Ordinary}
 use Rattle.store.specs.Store.{Store, lookup, put, own, withProperty, withoutProperty}
-use Rattle.store.proofs.StoreLaws.{samePlace, place-refl, lookup-put, lookup-with, lookup-without, own-with, own-without}
-use Rattle.internal_methods.specs.Monad.{M}
-use Rattle.internal_methods.specs.Methods.{Context, Methods, Written}
+use Rattle.store.proofs.StoreLaws.{place-refl, lookup-put, lookup-with, lookup-without, own-with, own-without}
+use Rattle.internal_methods.specs.Methods.{Context, Written}
 use Rattle.internal_methods.specs.Ordinary.{reaches, ordinarySetPrototypeOf, applyValidation, ordinaryDefineOwnProperty, setOnReceiver, setData, ordinarySet, ordinaryDelete, withPrototype}
 use Rattle.internal_methods.specs.Proxy.{proxySetPrototypeOf, proxyPreventExtensions, proxyDefineOwnProperty, proxySet, proxyDelete}
 use Rattle.internal_methods.specs.Internal.{methods}
 use Rattle.internal_methods.proofs.Ensures.{Ensures, ensures-pure, ensures-fails, ensures-bind, ensures-if, ensures-throwIf, ensures-then, ensures-weaken, ensures-both, ensures-option, ensures-dispatch}
-use Rattle.internal_methods.proofs.Base.{frozenAs, isAbsent, Base, here, over, Under, at-base, through, at-target, Frozen, Shut, Lacking}
+use Rattle.internal_methods.proofs.Base.{frozenAs, here, at-base, through, at-target, Frozen, Shut, Lacking}
 use Rattle.internal_methods.proofs.Later.{Grows, grows-refl, grows-object, grows-with, grows-without, through-later}
 use Rattle.internal_methods.proofs.Tied.{asked-frozen}
 use Rattle.internal_methods.proofs.Reading.{isExtensible-report, isExtensible-exact, Faithful, getOwnProperty-report, getOwnProperty-exact, frozen-learnt, frozen-told, lacking-learnt, lacking-told, fixed-value, SamePrototype, loose-prototype, same-prototype, getPrototypeOf-report}
@@ -94,7 +91,7 @@ module _ (c : Context) (o : ℕ) (r : OrdinaryObject) (k : PropertyKey) (d : Pro
     };
   }
 
-  -- whatever the property that makes the store full
+  -- t only decides whether a full store refuses
   apply-report : (v : Validation) → validate (r .extensible) d (own (c .store) o k) ≡ v → (t : OwnProperty)
       → Ensures (applyValidation c o k t v) (Changed (c .store) (Defined (c .store) o k d))
   unfolding applyValidation isCompatible

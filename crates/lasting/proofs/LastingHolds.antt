@@ -22,11 +22,11 @@ use Rattle.internal_methods.proofs.Later.{frozen-lasts, shut-lasts, rooted-last
 use Rattle.internal_methods.proofs.Reports.{Faithful, SamePrototype, frozen-learnt, frozen-told, lacking-learnt, lacking-told}
 use Rattle.lasting.specs.Operation.{Operation, getPrototypeOf, isExtensible, preventExtensions, getOwnProperty, hasProperty, get, delete, ownPropertyKeys}
 use Rattle.lasting.specs.Perform.{Result, value, descriptor, absent, keys, ownResult, boolean}
-use Rattle.lasting.specs.Run.{Call, Event, run}
+use Rattle.lasting.specs.Run.{Call, Event, run, worldAt}
 use Rattle.lasting.specs.Lasting.{At, Tells, ReportsFixed, ReportsNonExtensible, by-isExtensible, by-preventExtensions, ReportsAbsent, ShowsOwn, IsDataWith, StaysFixed, StaysNonExtensible, Lasting}
 use Rattle.lasting.specs.Lasting
 use Rattle.lasting.proofs.Performed.{boolean-is}
-use Rattle.lasting.proofs.Places.{worldAt, says-at, grows-at}
+use Rattle.lasting.proofs.Places.{says-at, grows-at}
 
 -- Results as what methods give --------------------------------------------------------
 

@@ -4,3 +4,5 @@ pub mod Made
 pub mod Performed
 pub mod Places
 pub mod LastingHolds
+pub mod Performs
+pub mod Decided

@@ -20,7 +20,7 @@ use Rattle.lasting.specs.Response.{Effect, Response, firstFailing}
 use Rattle.lasting.specs.Step.{recordTests, contextOf, outputHolds, withStore, completed, ended, ran, tested}
 use Rattle.lasting.specs.Step
 use Rattle.lasting.specs.Alone.{enterString, entered}
-use Rattle.lasting.specs.Run.{Call, step, effect, Event, runFrom, run}
+use Rattle.lasting.specs.Run.{Call, step, effect, Event, runFrom, run, worldFrom, worldAt}
 use Rattle.lasting.specs.Run
 use Rattle.lasting.specs.Lasting.{At, Tells}
 use Rattle.lasting.proofs.Steps.{Resulted, resulted}
@@ -58,15 +58,6 @@ effect-grows ω (step bytes sheet output) = tested-grows ω bytes sheet output (
 effect-grows ω (Run.enter units) = entered-grows ω (enter (ω .strings) units)
 
 -- Places ------------------------------------------------------------------------------
-
--- the world that the call at place i finds
-unfoldable pub worldFrom : World → List Call → ℕ → World
-worldFrom ω cs zero = ω
-worldFrom ω [] (suc i) = ω
-worldFrom ω (c ∷ cs) (suc i) = worldFrom (effect ω c .world) cs i
-
-abbrev pub worldAt : List Call → ℕ → World
-worldAt calls i = worldFrom empty calls i
 
 pub grows-from : (ω : World) (cs : List Call) (i j : ℕ) → i ≤ j → Grows (worldFrom ω cs i .store) (worldFrom ω cs j .store)
 unfolding worldFrom

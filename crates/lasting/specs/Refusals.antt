@@ -1,37 +1,95 @@
--- Demand 1: which steps are refused, with which number, and what a step may change. Assumes nothing.
-use Prim.Native.Nat.{ℕ, _≤_}
+-- Demand 1: which calls are refused, with which number, and what a call may change. Assumes nothing.
+use Prim.Native.Nat.{ℕ, _≤_, _<_}
 use mathlib.Core.Path.{_≡_}
+use mathlib.Core.Logic.{_↔_}
 use mathlib.Core.Bool.{Bool, true, false}
 use mathlib.Core.Option.{Option, none, some}
-use mathlib.Core.List.{List, []}
+use mathlib.Core.List.{List, [], _++_}
+use lib.Dec.{ltb}
 use lib.ListN.{length}
 use Rattle.value.specs.declared.Value.{Value}
 use Rattle.text.specs.Strings.{numberOf, maximumLength, maximumStrings}
 use Rattle.store.specs.Store.{Store, World, maximumObjects, maximumProperties}
-use Rattle.internal_methods.specs.declared.Failure.the-variants.{Refused, TypeError, Thrown}
-use Rattle.internal_methods.specs.Monad.{State, Out, failed, done}
-use Rattle.lasting.specs.Perform.{Result, maximumCalls}
+use Rattle.internal_methods.specs.declared.Failure.the-variants.{Refused}
+use Rattle.internal_methods.specs.Monad.{Answer, State, state, Out, failed, done}
+use Rattle.record.specs.Sheet.{sheetOf}
+use Rattle.lasting.specs.Operation.{asked}
+use Rattle.lasting.specs.Perform.{Result, maximumCalls, perform}
 use Rattle.lasting.specs.Response.{Ending, refused, result, typeError, thrown, Response, Effect, firstFailing}
-use Rattle.lasting.specs.Step.{recordTests, outputHolds, ran, step}
+use Rattle.lasting.specs.Step.{contextOf, recordTests, outputHolds, refusing, ran, step}
 use Rattle.lasting.specs.Alone.{enterString}
+
+-- 32 objects, or 256 properties
+pub data NoRoom (ω : World) : Type 0 where
+  objects : maximumObjects ≤ length (ω .store .objects) → NoRoom ω
+  properties : maximumProperties ≤ length (ω .store .properties) → NoRoom ω
 
 -- the conditions of document 01, "Turned back at the desk", by their numbers
 pub data Refusal (ω : World) (bytes sheet output : List ℕ) : ℕ → Type 0 where
   -- 1 to 4 over the step, then 1 to 3 over the sheet: the first test that fails
   malformed : {n : ℕ} → firstFailing (recordTests ω bytes sheet) ≡ some n → Refusal ω bytes sheet output n
-  -- 7: the 33rd object or the 257th property would be added
-  full : {s : State} → firstFailing (recordTests ω bytes sheet) ≡ none → ran ω bytes sheet ≡ failed (Refused 7) s → Refusal ω bytes sheet output 7
+  -- 7: there is no room for the object or the property that would be added
+  full : {s : State} → firstFailing (recordTests ω bytes sheet) ≡ none → ran ω bytes sheet ≡ failed (Refused 7) s → NoRoom ω → Refusal ω bytes sheet output 7
   -- 8: there is no next answer; all were taken
   spent : {s : State} → firstFailing (recordTests ω bytes sheet) ≡ none → ran ω bytes sheet ≡ failed (Refused 8) s → s .answers ≡ [] → Refusal ω bytes sheet output 8
   -- 9: the next answer cannot be read
   unreadable : {s : State} → firstFailing (recordTests ω bytes sheet) ≡ none → ran ω bytes sheet ≡ failed (Refused 9) s → Refusal ω bytes sheet output 9
-  -- 10: a 2,049th call would begin; 2,048 were made
+  -- 10: a 2,049th call would begin; no call is left
   exhausted : {s : State} → firstFailing (recordTests ω bytes sheet) ≡ none → ran ω bytes sheet ≡ failed (Refused 10) s → s .calls ≡ 0 → Refusal ω bytes sheet output 10
-  -- 11: the output cannot hold the keys
+  -- 11: the output cannot hold 9 bytes for each key
   short : {a : Result × Store} {s : State} → firstFailing (recordTests ω bytes sheet) ≡ none → ran ω bytes sheet ≡ done a s → outputHolds (a .0) output ≡ false → Refusal ω bytes sheet output 11
 
--- a step that is not refused ends in a result, a TypeError by one of the 31 messages, or a throw from the sheet
-pub data Accepted (r : Response) : Type 0 where
-  resulted : (x : Result) → r .ending ≡ result x → Accepted r
-  erred : (n : ℕ) → 1 ≤ n → n ≤ 31 → r .ending ≡ typeError n → Accepted r
-  threw : (v : Value) → r .ending ≡ thrown v → Accepted r
+-- a result, a TypeError by one of the 31 messages, or a throw
+pub data Accepted : Ending → Type 0 where
+  by-result : (r : Result) → Accepted (result r)
+  by-typeError : (n : ℕ) → 1 ≤ n → n ≤ 31 → Accepted (typeError n)
+  by-throw : (v : Value) → Accepted (thrown v)
+
+-- only a result changes anything
+pub data Unless (e : Ending) (P : Type 0) : Type 0 where
+  is-result : (r : Result) → e ≡ result r → Unless e P
+  otherwise : P → Unless e P
+
+-- the first list is what is left of the second, once some from its front were taken
+pub record LeftOf (rest answers : List Answer) : Type 0 where
+  pub taken : List Answer
+  pub splits : taken ++ rest ≡ answers
+
+-- the answers left where a run ended
+abbrev pub leftIn : Out (Result × Store) → List Answer
+leftIn (failed f s) = s .answers
+leftIn (done a s) = s .answers
+
+-- what demand 1 says of one step
+pub record StepDecided (ω : World) (bytes sheet output : List ℕ) : Type 0 where
+  -- the refusal is n exactly if the condition numbered n holds and none before it does
+  pub refuses : (n : ℕ) → (step ω bytes sheet output .response .ending ≡ refused n) ↔ Refusal ω bytes sheet output n
+  -- any other step is accepted
+  pub accepts : ((n : ℕ) → Refusal ω bytes sheet output n → ⊥) → Accepted (step ω bytes sheet output .response .ending)
+  -- a refusal reports zeros, and leaves store, strings and output
+  pub untouched : (n : ℕ) → step ω bytes sheet output .response .ending ≡ refused n → step ω bytes sheet output ≡ refusing n ω output
+  -- a TypeError and a throw leave store, strings and output too
+  pub unchanged : Unless (step ω bytes sheet output .response .ending) ((step ω bytes sheet output .world ≡ ω) × (step ω bytes sheet output .output ≡ output))
+  -- no step changes the strings
+  pub strings : step ω bytes sheet output .world .strings ≡ ω .strings
+  -- the sheet is spent only once all of it is read: with a longer one, whatever comes, all these answers are used
+  pub reads : {s : State} → ran ω bytes sheet ≡ failed (Refused 8) s → firstFailing (recordTests ω bytes sheet) ≡ none → (more : List Answer)
+      → LeftOf (leftIn (perform maximumCalls (contextOf ω) (asked bytes) .run (state (sheetOf sheet ++ more) maximumCalls))) more
+  -- the bound on depth never decides: the 2,048 calls do
+  pub depth : firstFailing (recordTests ω bytes sheet) ≡ none → (n : ℕ) → maximumCalls ≤ n
+      → perform n (contextOf ω) (asked bytes) .run (state (sheetOf sheet) maximumCalls) ≡ ran ω bytes sheet
+
+-- the conditions under which a string is not entered
+pub data EntryRefusal (ω : World) (units : List ℕ) : ℕ → Type 0 where
+  -- 3: it exceeds 32 code units
+  long : maximumLength < length units → EntryRefusal ω units 3
+  -- 7: it would be the 257th string
+  full : length units ≤ maximumLength → numberOf (ω .strings) units ≡ none → maximumStrings ≤ length (ω .strings) → EntryRefusal ω units 7
+
+-- what demand 1 says of entering a string
+pub record EntryDecided (ω : World) (units : List ℕ) : Type 0 where
+  pub refuses : (n : ℕ) → (enterString ω units .response .ending ≡ refused n) ↔ EntryRefusal ω units n
+  pub accepts : ((n : ℕ) → EntryRefusal ω units n → ⊥) → Accepted (enterString ω units .response .ending)
+  pub untouched : (n : ℕ) → enterString ω units .response .ending ≡ refused n → enterString ω units ≡ refusing n ω []
+  -- entering a string leaves the store
+  pub store : enterString ω units .world .store ≡ ω .store

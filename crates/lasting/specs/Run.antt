@@ -1,5 +1,5 @@
 -- Lists of calls: each finds the world that its predecessor left. Assumes nothing.
-use Prim.Native.Nat.{ℕ}
+use Prim.Native.Nat.{ℕ, zero, suc}
 use mathlib.Core.List.{List, [], _∷_}
 use Rattle.store.specs.Store.{World, empty}
 use Rattle.lasting.specs.Response.{Response, Effect}
@@ -27,3 +27,12 @@ runFrom ω (c ∷ cs) = record { call = c; response = effect ω c .response } �
 -- the events of a list of calls, from nothing made or entered
 unfoldable pub run : List Call → List Event
 run calls = runFrom empty calls
+
+-- the world that the call at place i finds, counted from 0
+unfoldable pub worldFrom : World → List Call → ℕ → World
+worldFrom ω cs zero = ω
+worldFrom ω [] (suc i) = ω
+worldFrom ω (c ∷ cs) (suc i) = worldFrom (effect ω c .world) cs i
+
+abbrev pub worldAt : List Call → ℕ → World
+worldAt calls i = worldFrom empty calls i

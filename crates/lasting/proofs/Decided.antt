@@ -1,0 +1,258 @@
+-- Demand 1 holds of every call of every list of calls. Assumes nothing.
+use Prim.Native.Nat.{ℕ, zero, suc, _≤_, _<_}
+use native.Mathlib.Nat.{le-refl, not-le-of-lt}
+use mathlib.Core.Path.{_≡_, refl, sym, ap, _∙_, subst}
+use mathlib.Core.Logic.{_↔_}
+use mathlib.Core.Bool.{Bool, true, false, not, cond, false≢true}
+use mathlib.Core.Option.{Option, none, some}
+use mathlib.Core.List.{List, [], _∷_, _++_}
+use lib.Dec.{leb, ltb}
+use lib.ListN.{length}
+use borrow.Author.Tests.{ltb-false, leb-true, leb-false, le-leb, lt-leb, le-ltb, not-true}
+use Rattle.text.specs.Strings.{Strings, Entry, entering, numberOf, enter, maximumLength, maximumStrings}
+use Rattle.text.specs.Strings as entry
+use Rattle.store.specs.Store.{Store, World, empty, lookup, maximumObjects, maximumProperties}
+use Rattle.internal_methods.specs.declared.Failure.{Failure}
+use Rattle.internal_methods.specs.declared.Failure.the-variants.{Refused, TypeError, Thrown}
+use Rattle.internal_methods.specs.Monad.{Answer, State, state, Out, failed, done}
+use Rattle.internal_methods.specs.Ordinary.{isFull}
+use Rattle.internal_methods.proofs.StoreClosed.{Closed}
+use Rattle.internal_methods.proofs.Budget.{Met}
+use Rattle.internal_methods.proofs.Budget as met
+use Rattle.internal_methods.proofs.Longer.{Suffix, spent-reads-all}
+use Rattle.internal_methods.proofs.Longer as longer
+use Rattle.record.specs.Sheet.{sheetOf}
+use Rattle.lasting.specs.Operation.{asked}
+use Rattle.lasting.specs.Perform.{Result, maximumCalls, perform}
+use Rattle.lasting.specs.Response.{Ending, refused, result, typeError, thrown, Response, Effect, firstFailing}
+use Rattle.lasting.specs.Step.{contextOf, recordTests, outputHolds, refusing, withStore, completed, ended, ran, tested, step}
+use Rattle.lasting.specs.Alone.{enterString, entered}
+use Rattle.lasting.specs.Run.{Call, effect, worldFrom, worldAt}
+use Rattle.lasting.specs.Run as call
+use Rattle.lasting.specs.Refusals.{NoRoom, Refusal, malformed, spent, unreadable, exhausted, short, Accepted, by-result, by-typeError, by-throw, Unless, is-result, otherwise, LeftOf, leftIn, StepDecided, EntryRefusal, long, EntryDecided}
+use Rattle.lasting.specs.Refusals as refusal
+use Rattle.lasting.proofs.Made.{NamesMade, names-made}
+use Rattle.lasting.proofs.Performs.{Fails, Performs, crowded, method, performs, perform-longer}
+use Rattle.lasting.proofs.Steps.{step-is}
+
+refused-is : (m n : ℕ) → refused m ≡ refused n → m ≡ n
+refused-is m n h = cc
+
+not-accepted : (n : ℕ) (e : Ending) → e ≡ refused n → Accepted e → ⊥
+not-accepted n e h (by-result r) = false≢true cc
+not-accepted n e h (by-typeError m i j) = false≢true cc
+not-accepted n e h (by-throw v) = false≢true cc
+
+-- The store stays closed --------------------------------------------------------------
+
+module _ (ω : World) (bytes sheet output : List ℕ) (closed : Closed (ω .store)) where
+  -- what is known of the run once the records passed
+  module _ (passes : firstFailing (recordTests ω bytes sheet) ≡ none) where
+    abbrev runs : Performs (contextOf ω) maximumCalls (asked bytes)
+    runs = performs (contextOf ω) maximumCalls closed (asked bytes) (names-made ω bytes sheet passes .operation)
+
+    pub ran-fails : (f : Failure) (s : State) → ran ω bytes sheet ≡ failed f s → Fails (contextOf ω) f s
+    unfolding ran
+    ran-fails f s e = runs .fails _ s f (le-refl _) (names-made ω bytes sheet passes .answers) e
+
+    ran-closes : (a : Result × Store) (s : State) → ran ω bytes sheet ≡ done a s → Closed (a .1)
+    unfolding ran
+    ran-closes a s e = runs .closes _ s a (le-refl _) (names-made ω bytes sheet passes .answers) e
+
+    ran-depth : (n : ℕ) → maximumCalls ≤ n → perform n (contextOf ω) (asked bytes) .run (state (sheetOf sheet) maximumCalls) ≡ ran ω bytes sheet
+    unfolding ran
+    ran-depth n h = runs .alike n maximumCalls h (le-refl _) _ (le-refl _) (names-made ω bytes sheet passes .answers)
+
+  completed-closed : (a : Result × Store) (s : State) (b : Bool) → Closed (a .1) → Closed (completed ω (sheetOf sheet) output a s b .world .store)
+  completed-closed a s false h = closed
+  completed-closed a s true h = h
+
+  ended-closed : firstFailing (recordTests ω bytes sheet) ≡ none → (x : Out (Result × Store)) → ran ω bytes sheet ≡ x → Closed (ended ω (sheetOf sheet) output x .world .store)
+  ended-closed p (failed (Refused n) s) e = closed
+  ended-closed p (failed (TypeError n) s) e = closed
+  ended-closed p (failed (Thrown v) s) e = closed
+  ended-closed p (done a s) e = completed-closed a s (outputHolds (a .0) output) (ran-closes p a s e)
+
+  step-closed : Closed (step ω bytes sheet output .world .store)
+  unfolding step
+  step-closed = go (firstFailing (recordTests ω bytes sheet)) refl
+    where
+      go : (t : Option ℕ) → firstFailing (recordTests ω bytes sheet) ≡ t → Closed (tested ω (sheetOf sheet) output (ran ω bytes sheet) t .world .store)
+      go (some n) e = closed
+      go none e = ended-closed e (ran ω bytes sheet) refl
+
+entered-closed : (ω : World) (x : Entry) → Closed (ω .store) → Closed (entered ω x .world .store)
+entered-closed ω (entry.refused n) h = h
+entered-closed ω (entry.entered n strings) h = h
+
+effect-closed : (ω : World) (c : Call) → Closed (ω .store) → Closed (effect ω c .world .store)
+unfolding effect enterString
+effect-closed ω (call.step bytes sheet output) h = step-closed ω bytes sheet output h
+effect-closed ω (call.enter units) h = entered-closed ω (enter (ω .strings) units) h
+
+closed-from : (ω : World) (cs : List Call) (i : ℕ) → Closed (ω .store) → Closed (worldFrom ω cs i .store)
+unfolding worldFrom
+closed-from ω cs zero h = h
+closed-from ω [] (suc i) h = h
+closed-from ω (c ∷ cs) (suc i) h = closed-from (effect ω c .world) cs i (effect-closed ω c h)
+
+closed-empty : Closed (empty .store)
+unfolding lookup
+closed-empty = record { ordinary = λ o r e. absurd (false≢true cc); proxy = λ o p e. absurd (false≢true cc) }
+
+-- in every world of a list of calls, objects name objects that were made
+pub closed-at : (calls : List Call) (i : ℕ) → Closed (worldAt calls i .store)
+closed-at calls i = closed-from empty calls i closed-empty
+
+-- A step --------------------------------------------------------------------------------
+
+suffix-left : {rest answers : List Answer} → Suffix rest answers → LeftOf rest answers
+suffix-left longer.same = record { taken = []; splits = refl }
+suffix-left (longer.more {x = x} h) = let t = suffix-left h in record { taken = x ∷ t .taken; splits = ap (λ (l : List Answer). x ∷ l) (t .splits) }
+
+left-is : (x : Out (Result × Store)) → longer.left x ≡ leftIn x
+left-is (failed f s) = refl
+left-is (done a s) = refl
+
+spent-met : (ω : World) (s : State) → Fails (contextOf ω) (Refused 8) s → s .answers ≡ []
+spent-met ω s (method (met.spent e)) = e
+
+module _ (ω : World) (bytes sheet output : List ℕ) (closed : Closed (ω .store)) where
+  -- a failure of the run is a refusal by its number, or is accepted
+  met-refusal : (n : ℕ) (s : State) → firstFailing (recordTests ω bytes sheet) ≡ none → ran ω bytes sheet ≡ failed (Refused n) s → Fails (contextOf ω) (Refused n) s → Refusal ω bytes sheet output n
+  met-refusal n s p e (crowded h) = refusal.full p e (refusal.objects (ltb-false _ _ h))
+  met-refusal n s p e (method (met.full h)) = refusal.full p e (refusal.properties (ltb-false _ _ (not-true _ h)))
+  met-refusal n s p e (method (met.spent h)) = spent p e h
+  met-refusal n s p e (method met.unreadable) = unreadable p e
+  met-refusal n s p e (method (met.exhausted h)) = exhausted p e h
+
+  errs : (n : ℕ) (s : State) → Fails (contextOf ω) (TypeError n) s → Accepted (typeError n)
+  errs n s (method (met.error m i j)) = by-typeError n i j
+
+  abbrev ending : Ending
+  ending = step ω bytes sheet output .response .ending
+
+  -- how the step ended, with the step itself
+  data Shape : Effect → Type 0 where
+    refuses : {n : ℕ} → Refusal ω bytes sheet output n → Shape (refusing n ω output)
+    accepts : {e : Effect} → Accepted (e .response .ending) → Unless (e .response .ending) ((e .world ≡ ω) × (e .output ≡ output)) → e .world .strings ≡ ω .strings → Shape e
+
+  shape-room : (a : Result × Store) (s : State) (b : Bool) → outputHolds (a .0) output ≡ b → firstFailing (recordTests ω bytes sheet) ≡ none → ran ω bytes sheet ≡ done a s
+      → Shape (completed ω (sheetOf sheet) output a s b)
+  shape-room a s false h p e = refuses (short p e h)
+  shape-room a s true h p e = accepts (by-result (a .0)) (is-result (a .0) refl) refl
+
+  shape-run : (x : Out (Result × Store)) → firstFailing (recordTests ω bytes sheet) ≡ none → ran ω bytes sheet ≡ x → Shape (ended ω (sheetOf sheet) output x)
+  shape-run (failed (Refused n) s) p e = refuses (met-refusal n s p e (ran-fails ω bytes sheet output closed p _ s e))
+  shape-run (failed (TypeError n) s) p e = accepts (errs n s (ran-fails ω bytes sheet output closed p _ s e)) (otherwise (refl, refl)) refl
+  shape-run (failed (Thrown v) s) p e = accepts (by-throw v) (otherwise (refl, refl)) refl
+  shape-run (done a s) p e = shape-room a s (outputHolds (a .0) output) refl p e
+
+  shape : Shape (step ω bytes sheet output)
+  unfolding step
+  shape = go (firstFailing (recordTests ω bytes sheet)) refl
+    where
+      go : (t : Option ℕ) → firstFailing (recordTests ω bytes sheet) ≡ t → Shape (tested ω (sheetOf sheet) output (ran ω bytes sheet) t)
+      go (some n) e = refuses (malformed e)
+      go none e = shape-run (ran ω bytes sheet) e refl
+
+  ended-in : {e : Effect} → step ω bytes sheet output ≡ e → ending ≡ e .response .ending
+  ended-in q = ap (λ (x : Effect). x .response .ending) q
+
+  -- a condition that holds refuses the step
+  refused-by : (n : ℕ) → Refusal ω bytes sheet output n → ending ≡ refused n
+  refused-by n (malformed e) = ended-in (step-is ω bytes sheet output _ _ e refl)
+  refused-by n (refusal.full p e r) = ended-in (step-is ω bytes sheet output _ _ p e)
+  refused-by n (spent p e h) = ended-in (step-is ω bytes sheet output _ _ p e)
+  refused-by n (unreadable p e) = ended-in (step-is ω bytes sheet output _ _ p e)
+  refused-by n (exhausted p e h) = ended-in (step-is ω bytes sheet output _ _ p e)
+  refused-by n (short {a = a} {s = s} p e h) = ended-in (step-is ω bytes sheet output _ _ p e ∙ ap (completed ω (sheetOf sheet) output a s) h)
+
+  only-by : (n : ℕ) (x : Effect) → Shape x → x .response .ending ≡ refused n → Refusal ω bytes sheet output n × (x ≡ refusing n ω output)
+  only-by n x (refuses {n = m} r) h = let q : m ≡ n = refused-is m n h in (subst (Refusal ω bytes sheet output) q r, ap (λ (i : ℕ). refusing i ω output) q)
+  only-by n x (accepts a u s) h = absurd (not-accepted n _ h a)
+
+  accepted-else : (x : Effect) → Shape x → ((n : ℕ) → Refusal ω bytes sheet output n → ⊥) → Accepted (x .response .ending)
+  accepted-else x (refuses {n = m} r) none-holds = absurd (none-holds m r)
+  accepted-else x (accepts a u s) none-holds = a
+
+  unchanged-in : (x : Effect) → Shape x → Unless (x .response .ending) ((x .world ≡ ω) × (x .output ≡ output))
+  unchanged-in x (refuses r) = otherwise (refl, refl)
+  unchanged-in x (accepts a u s) = u
+
+  strings-in : (x : Effect) → Shape x → x .world .strings ≡ ω .strings
+  strings-in x (refuses r) = refl
+  strings-in x (accepts a u s) = s
+
+  all-read : {s : State} → ran ω bytes sheet ≡ failed (Refused 8) s → firstFailing (recordTests ω bytes sheet) ≡ none → (more : List Answer)
+      → LeftOf (leftIn (perform maximumCalls (contextOf ω) (asked bytes) .run (state (sheetOf sheet ++ more) maximumCalls))) more
+  unfolding ran
+  all-read {s} e p more = rw (← left-is _) (suffix-left (spent-reads-all (perform maximumCalls (contextOf ω) (asked bytes)) (perform-longer maximumCalls (contextOf ω) (asked bytes)) _ s e
+      (spent-met ω s (ran-fails ω bytes sheet output closed p _ s e)) more))
+
+  decided : StepDecided ω bytes sheet output
+  decided = record {
+    refuses = λ n. (λ h. only-by n _ shape h .0, λ r. refused-by n r);
+    accepts = λ h. accepted-else _ shape h;
+    untouched = λ n h. only-by n _ shape h .1;
+    unchanged = unchanged-in _ shape;
+    strings = strings-in _ shape;
+    reads = λ e p more. all-read e p more;
+    depth = λ p n h. ran-depth ω bytes sheet output closed p n h;
+  }
+
+-- Demand 1 for steps: at every place of every list of calls, whatever the bytes of the step, the sheet and the output
+pub step-decided : (calls : List Call) (i : ℕ) (bytes sheet output : List ℕ) → StepDecided (worldAt calls i) bytes sheet output
+step-decided calls i bytes sheet output = decided (worldAt calls i) bytes sheet output (closed-at calls i)
+
+-- A string --------------------------------------------------------------------------------
+
+module _ (ω : World) (units : List ℕ) where
+  data EntryShape : Effect → Type 0 where
+    refuses : {n : ℕ} → EntryRefusal ω units n → EntryShape (refusing n ω [])
+    accepts : {e : Effect} → Accepted (e .response .ending) → e .world .store ≡ ω .store → EntryShape e
+
+  abbrev added : Bool → Entry
+  added b = cond b (entry.entered (length (ω .strings)) (ω .strings ++ (units ∷ []))) (entry.refused 7)
+
+  shape-full : (b : Bool) → ltb (length (ω .strings)) maximumStrings ≡ b → length units ≤ maximumLength → numberOf (ω .strings) units ≡ none → EntryShape (entered ω (added b))
+  shape-full true e h q = accepts (by-result _) refl
+  shape-full false e h q = refuses (refusal.EntryRefusal.full h q (ltb-false _ _ e))
+
+  shape-number : (x : Option ℕ) → numberOf (ω .strings) units ≡ x → length units ≤ maximumLength → EntryShape (entered ω (entering (ω .strings) units x))
+  shape-number (some n) e h = accepts (by-result _) refl
+  shape-number none e h = shape-full (ltb (length (ω .strings)) maximumStrings) refl h e
+
+  entry-shape : EntryShape (enterString ω units)
+  unfolding enterString enter
+  entry-shape = go (leb (length units) maximumLength) refl
+    where
+      go : (b : Bool) → leb (length units) maximumLength ≡ b → EntryShape (entered ω (cond b (entering (ω .strings) units (numberOf (ω .strings) units)) (entry.refused 3)))
+      go true e = shape-number (numberOf (ω .strings) units) refl (leb-true _ _ e)
+      go false e = refuses (long (leb-false _ _ e))
+
+  entry-refused-by : (n : ℕ) → EntryRefusal ω units n → enterString ω units .response .ending ≡ refused n
+  unfolding enterString enter
+  entry-refused-by n (long h) = rw (lt-leb (length units) maximumLength h)
+  entry-refused-by n (refusal.EntryRefusal.full h q r) = rw (le-leb (length units) maximumLength h, q) (rw (le-ltb (length (ω .strings)) maximumStrings r))
+
+  entry-only-by : (n : ℕ) (x : Effect) → EntryShape x → x .response .ending ≡ refused n → EntryRefusal ω units n × (x ≡ refusing n ω [])
+  entry-only-by n x (refuses {n = m} r) h = let q : m ≡ n = refused-is m n h in (subst (EntryRefusal ω units) q r, ap (λ (i : ℕ). refusing i ω []) q)
+  entry-only-by n x (accepts a s) h = absurd (not-accepted n _ h a)
+
+  entry-accepted : (x : Effect) → EntryShape x → ((n : ℕ) → EntryRefusal ω units n → ⊥) → Accepted (x .response .ending)
+  entry-accepted x (refuses {n = m} r) none-holds = absurd (none-holds m r)
+  entry-accepted x (accepts a s) none-holds = a
+
+  entry-store : (x : Effect) → EntryShape x → x .world .store ≡ ω .store
+  entry-store x (refuses r) = refl
+  entry-store x (accepts a s) = s
+
+  -- Demand 1 for entering a string, in any world
+  pub entry-decided : EntryDecided ω units
+  entry-decided = record {
+    refuses = λ n. (λ h. entry-only-by n _ entry-shape h .0, λ r. entry-refused-by n r);
+    accepts = λ h. entry-accepted _ entry-shape h;
+    untouched = λ n h. entry-only-by n _ entry-shape h .1;
+    store = entry-store _ entry-shape;
+  }
