@@ -17,9 +17,9 @@ use Rattle.property.specs.declared.OwnProperty.the-variants.{Absent, Present}
 use Rattle.store.specs.declared.OrdinaryObject.{OrdinaryObject}
 use Rattle.store.specs.Store.{Store, own}
 use Rattle.internal_methods.specs.KeyList.{hasKey}
-use Rattle.internal_methods.proofs.Base.{frozenAs, isAbsent, Under, at-base, Frozen, Shut, Rooted, Lacking}
+use Rattle.internal_methods.proofs.Base.{frozenAs, isAbsent, Under, at-base, Frozen, Shut, Lacking}
 use Rattle.internal_methods.proofs.Later.{frozen-lasts, shut-lasts, rooted-lasts, lacking-lasts}
-use Rattle.internal_methods.proofs.Reports.{Faithful, SamePrototype, frozen-learnt, frozen-told, lacking-learnt, lacking-told}
+use Rattle.internal_methods.proofs.Reports.{Faithful, SamePrototype, frozen-learnt, frozen-told, lacking-learnt, lacking-told, rooted-learnt, rooted-told}
 use Rattle.lasting.specs.Operation.{Operation, getPrototypeOf, isExtensible, preventExtensions, getOwnProperty, hasProperty, get, delete, ownPropertyKeys}
 use Rattle.lasting.specs.Perform.{Result, value, descriptor, absent, keys, ownResult, boolean}
 use Rattle.lasting.specs.Run.{Call, Event, run, worldAt}
@@ -30,7 +30,7 @@ use Rattle.lasting.proofs.Places.{says-at, grows-at}
 
 -- Results as what methods give --------------------------------------------------------
 
-value-is : (v w : Value) → value v ≡ value w → v ≡ w
+pub value-is : (v w : Value) → value v ≡ value w → v ≡ w
 value-is v w h = cc
 
 keys-is : (ks ls : List PropertyKey) → keys ks ≡ keys ls → ks ≡ ls
@@ -50,10 +50,6 @@ frozen-data (Present (Accessor g s e c)) v h = absurd (false≢true h)
 frozen-data (Present (Data w true e c)) v h = absurd (false≢true h)
 frozen-data (Present (Data w false e true)) v h = absurd (false≢true h)
 frozen-data (Present (Data w false e false)) v h = record { current = w; writable = false; enumerable = e; configurable = false; is = refl; same = h }
-
-frozen-there : (d : OwnProperty) (v : Value) → frozenAs v d ≡ true → not (isAbsent d) ≡ true
-frozen-there Absent v h = absurd (false≢true h)
-frozen-there (Present p) v h = refl
 
 module _ (calls : List Call) where
   -- the store that the call at place i finds
@@ -99,7 +95,7 @@ module _ (calls : List Call) where
 
   -- What is so of the base binds every report -------------------------------------------
 
-  stays-fixed : (i : ℕ) (o : ℕ) (k : PropertyKey) (v : Value) → ((j : ℕ) → i < j → Frozen (σ j) o k v) → StaysFixed (run calls) i o k v
+  pub stays-fixed : (i : ℕ) (o : ℕ) (k : PropertyKey) (v : Value) → ((j : ℕ) → i < j → Frozen (σ j) o k v) → StaysFixed (run calls) i o k v
   stays-fixed i o k v frozen = record {
     described = λ j f r l h t.
       let (d, q, u) = says-at calls j f _ _ h t in
@@ -113,12 +109,27 @@ module _ (calls : List Call) where
     undeleted = λ j f l h t. says-at calls j f _ _ h t refl .loose v (frozen j l);
   }
 
-  prototypes : (i : ℕ) (o : ℕ) (p q : Value) → (j l : ℕ) → j ≤ l → Shut (σ j) o → SamePrototype (σ j) o p → SamePrototype (σ l) o q → sameValue p q ≡ true
-  prototypes i o p q j l h s u w =
-      let e = at-base (u .base) s in
-      let r : Rooted (σ j) o p = record { number = u .number; object = u .object; base = u .base; holds = (e, same-sym _ _ ∙ u .holds e) } in
-      let g = at-base (w .base) (rooted-lasts p (grows-at calls j l h) r) in
-      same-sym p q ∙ (same-like q (w .object .prototype) p (w .holds (g .0)) ∙ g .1)
+  prototypes : (o : ℕ) (p q : Value) (j l : ℕ) → j ≤ l → Shut (σ j) o → SamePrototype (σ j) o p → SamePrototype (σ l) o q → sameValue p q ≡ true
+  prototypes o p q j l h s u w = same-sym p q ∙ rooted-told q p w (rooted-lasts p (grows-at calls j l h) (rooted-learnt p u s))
+
+  -- two reports of the prototype after the object was non-extensible, in either order
+  pub same-prototypes : (i : ℕ) (o : ℕ) → ((j : ℕ) → i < j → Shut (σ j) o) → (j m : ℕ) (p q : Value) → i < j → i < m → SamePrototype (σ j) o p → SamePrototype (σ m) o q → sameValue p q ≡ true
+  same-prototypes i o shut j m p q lj lm u w = go (leb j m) refl
+    where
+      go : (b : Bool) → leb j m ≡ b → sameValue p q ≡ true
+      go true e = prototypes o p q j m (leb-true j m e) (shut j lj) u w
+      go false e = same-sym p q ∙ prototypes o q p m j (le-of-lt (leb-false j m e)) (shut m lm) w u
+
+  -- what the object lacks is not shown
+  pub not-shown : (m : ℕ) (g : Event) (o : ℕ) (k : PropertyKey) → At (run calls) m g → Lacking (σ m) o k → ShowsOwn o k g → ⊥
+  not-shown m g o k h a (ShowsOwn.by-getOwnProperty p t) =
+      let (d, q, u) = says-at calls m g _ _ h t in
+      false≢true (subst (λ (x : OwnProperty). isAbsent x ≡ true) (sym (own-is p d q)) (lacking-told k d u a))
+  not-shown m g o k h a (ShowsOwn.by-ownPropertyKeys ks t n) =
+      let (ls, q, u) = says-at calls m g _ _ h t in
+      let b = at-base (u .base) a in
+      let z : hasKey k ls ≡ true = ap (λ (x : List PropertyKey). hasKey k x) (sym (keys-is ks ls q)) ∙ n in
+      false≢true (sym (ap not (b .1)) ∙ (sym (u .holds .shown (b .0) k) ∙ z))
 
   stays-nonExtensible : (i : ℕ) (o : ℕ) → ((j : ℕ) → i < j → Shut (σ j) o) → StaysNonExtensible (run calls) i o
   stays-nonExtensible i o shut = record {
@@ -128,27 +139,11 @@ module _ (calls : List Call) where
     prototype = λ j m f g p q lj lm hf hg tf tg.
       let (x, a, u) = says-at calls j f _ _ hf tf in
       let (y, b, w) = says-at calls m g _ _ hg tg in
-      let u′ = subst (λ (z : Value). SamePrototype (σ j) o z) (sym (value-is p x a)) u in
-      let w′ = subst (λ (z : Value). SamePrototype (σ m) o z) (sym (value-is q y b)) w in
-      ordered j m p q lj lm u′ w′;
-    hidden = λ j m f g k lj lm hf hg tf tg. shows m g k hg (absent-learnt j f o k hf (shut j lj) tf m lm) tg;
+      same-prototypes i o shut j m p q lj lm
+      (subst (λ (z : Value). SamePrototype (σ j) o z) (sym (value-is p x a)) u)
+      (subst (λ (z : Value). SamePrototype (σ m) o z) (sym (value-is q y b)) w);
+    hidden = λ j m f g k lj lm hf hg tf tg. not-shown m g o k hg (absent-learnt j f o k hf (shut j lj) tf m lm) tg;
   }
-    where
-      ordered : (j m : ℕ) (p q : Value) → i < j → i < m → SamePrototype (σ j) o p → SamePrototype (σ m) o q → sameValue p q ≡ true
-      ordered j m p q lj lm u w = go (leb j m) refl
-        where
-          go : (b : Bool) → leb j m ≡ b → sameValue p q ≡ true
-          go true e = prototypes i o p q j m (leb-true j m e) (shut j lj) u w
-          go false e = same-sym p q ∙ prototypes i o q p m j (le-of-lt (leb-false j m e)) (shut m lm) w u
-      shows : (m : ℕ) (g : Event) (k : PropertyKey) → At (run calls) m g → Lacking (σ m) o k → ShowsOwn o k g → ⊥
-      shows m g k h a (ShowsOwn.by-getOwnProperty p t) =
-          let (d, q, u) = says-at calls m g _ _ h t in
-          false≢true (subst (λ (x : OwnProperty). isAbsent x ≡ true) (sym (own-is p d q)) (lacking-told k d u a))
-      shows m g k h a (ShowsOwn.by-ownPropertyKeys ks t n) =
-          let (ls, q, u) = says-at calls m g _ _ h t in
-          let b = at-base (u .base) a in
-          let z : hasKey k ls ≡ true = ap (λ (x : List PropertyKey). hasKey k x) (sym (keys-is ks ls q)) ∙ n in
-          false≢true (sym (ap not (b .1)) ∙ (sym (u .holds .shown (b .0) k) ∙ z))
 
 -- Demand 3: over every list of steps and string entries, from nothing made or entered
 pub lasting : (calls : List Call) → Lasting (run calls)

@@ -6,3 +6,4 @@ pub mod Places
 pub mod LastingHolds
 pub mod Performs
 pub mod Decided
+pub mod FurtherHold

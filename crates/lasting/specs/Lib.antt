@@ -7,3 +7,4 @@ pub mod Run
 pub mod Rows
 pub mod Lasting
 pub mod Refusals
+pub mod Further
