@@ -98,14 +98,14 @@ module _ (calls : List Call) where
   pub stays-fixed : (i : ℕ) (o : ℕ) (k : PropertyKey) (v : Value) → ((j : ℕ) → i < j → Frozen (σ j) o k v) → StaysFixed (run calls) i o k v
   stays-fixed i o k v frozen = record {
     described = λ j f r l h t.
-      let (d, q, u) = says-at calls j f _ _ h t in
-      subst (λ (x : Result). IsDataWith v x) (sym q) (frozen-data d v (frozen-told k d v u (frozen j l)));
+        let (d, q, u) = says-at calls j f _ _ h t in
+        subst (λ (x : Result). IsDataWith v x) (sym q) (frozen-data d v (frozen-told k d v u (frozen j l)));
     read = λ j f receiver w l h t.
-      let (x, q, u) = says-at calls j f _ _ h t in
-      ap (λ (y : Value). sameValue y v) (value-is w x q) ∙ u v (frozen j l);
+        let (x, q, u) = says-at calls j f _ _ h t in
+        ap (λ (y : Value). sameValue y v) (value-is w x q) ∙ u v (frozen j l);
     listed = λ j f ks l h t.
-      let (ls, q, u) = says-at calls j f _ _ h t in
-      ap (λ (x : List PropertyKey). hasKey k x) (keys-is ks ls q) ∙ u .holds .fixed k v (at-base (u .base) (frozen j l));
+        let (ls, q, u) = says-at calls j f _ _ h t in
+        ap (λ (x : List PropertyKey). hasKey k x) (keys-is ks ls q) ∙ u .holds .fixed k v (at-base (u .base) (frozen j l));
     undeleted = λ j f l h t. says-at calls j f _ _ h t refl .loose v (frozen j l);
   }
 
@@ -134,14 +134,14 @@ module _ (calls : List Call) where
   stays-nonExtensible : (i : ℕ) (o : ℕ) → ((j : ℕ) → i < j → Shut (σ j) o) → StaysNonExtensible (run calls) i o
   stays-nonExtensible i o shut = record {
     closed = λ j f l h t.
-      let (x, q, u) = says-at calls j f _ _ h t in
-      true≢false (boolean-is true x q ∙ (u .holds ∙ at-base (u .base) (shut j l)));
+        let (x, q, u) = says-at calls j f _ _ h t in
+        true≢false (boolean-is true x q ∙ (u .holds ∙ at-base (u .base) (shut j l)));
     prototype = λ j m f g p q lj lm hf hg tf tg.
-      let (x, a, u) = says-at calls j f _ _ hf tf in
-      let (y, b, w) = says-at calls m g _ _ hg tg in
-      same-prototypes i o shut j m p q lj lm
-      (subst (λ (z : Value). SamePrototype (σ j) o z) (sym (value-is p x a)) u)
-      (subst (λ (z : Value). SamePrototype (σ m) o z) (sym (value-is q y b)) w);
+        let (x, a, u) = says-at calls j f _ _ hf tf in
+        let (y, b, w) = says-at calls m g _ _ hg tg in
+        same-prototypes i o shut j m p q lj lm
+        (subst (λ (z : Value). SamePrototype (σ j) o z) (sym (value-is p x a)) u)
+        (subst (λ (z : Value). SamePrototype (σ m) o z) (sym (value-is q y b)) w);
     hidden = λ j m f g k lj lm hf hg tf tg. not-shown m g o k hg (absent-learnt j f o k hf (shut j lj) tf m lm) tg;
   }
 

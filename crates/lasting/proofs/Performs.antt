@@ -66,6 +66,7 @@ module _ (c : Context) (n : ℕ) (closed : Closed (c .store)) where
           → (if_then_else_ b (pure (added (c .store) x)) (fails (Refused 7))) .run s ≡ failed f t → Fails c f t
       failing true q s t f e = absurd (false≢true cc)
       failing false q s t f e = let g : Refused 7 ≡ f = cc in subst (λ (y : Failure). Fails c y t) g (crowded q)
+
       closing : (b : Bool) (s t : State) (a : Result × Store)
           → (if_then_else_ b (pure (added (c .store) x)) (fails (Refused 7))) .run s ≡ done a t → Closed (a .1)
       closing true s t a e = subst (λ (y : Result × Store). Closed (y .1)) (let g : added (c .store) x ≡ a = cc in g) (closed-add (c .store) x closed m)

@@ -52,12 +52,14 @@ module _ (ω : World) (bytes sheet output : List ℕ) where
             world = ap (λ (x : Effect). x .world) q;
             wrote = ap (λ (x : Effect). x .output) q ∙ ap (λ (x : Result). outputAfter x output) p;
           }
+
       by-run : (x : Out (Result × Store)) → ran ω bytes sheet ≡ x → firstFailing (recordTests ω bytes sheet) ≡ none
           → step ω bytes sheet output ≡ ended ω (sheetOf sheet) output x → Resulted ω bytes sheet output r
       by-run (failed (Refused n) s) f t q = let g : refused n ≡ result r = ap (λ (x : Effect). x .response .ending) (sym q) ∙ h in absurd (false≢true cc)
       by-run (failed (TypeError n) s) f t q = let g : typeError n ≡ result r = ap (λ (x : Effect). x .response .ending) (sym q) ∙ h in absurd (false≢true cc)
       by-run (failed (Thrown v) s) f t q = let g : thrown v ≡ result r = ap (λ (x : Effect). x .response .ending) (sym q) ∙ h in absurd (false≢true cc)
       by-run (done a s) f t q = by-room a s (outputHolds (a .0) output) refl t f (q ∙ completed-is a s _ refl)
+
       by-tests : (t : Option ℕ) → firstFailing (recordTests ω bytes sheet) ≡ t → Resulted ω bytes sheet output r
       by-tests (some n) e = let g : refused n ≡ result r = ap (λ (x : Effect). x .response .ending) (sym (step-is (some n) _ e refl)) ∙ h in absurd (false≢true cc)
       by-tests none e = by-run (ran ω bytes sheet) refl e (step-is none _ e refl)

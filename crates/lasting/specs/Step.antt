@@ -8,7 +8,9 @@ use lib.ListN.{length, drop}
 use Rattle.value.specs.declared.Value.{Value}
 use Rattle.value.specs.declared.PropertyKey.{PropertyKey}
 use Rattle.value.specs.PropertyKey.{keyValue}
-use Rattle.store.specs.Store.{Store, World, maximumProperties}
+use Rattle.store.specs.declared.Object.{Object}
+use Rattle.store.specs.declared.Object.the-variants.{Ordinary, Proxy}
+use Rattle.store.specs.Store.{Store, World, lookup, maximumProperties}
 use Rattle.internal_methods.specs.declared.Failure.the-variants.{Refused, TypeError, Thrown}
 use Rattle.internal_methods.specs.Monad.{Answer, State, state, Out, failed, done}
 use Rattle.internal_methods.specs.Methods.{Context}
@@ -26,12 +28,17 @@ countsOf ω = record { objects = length (ω .store .objects); strings = length (
 abbrev pub contextOf : World → Context
 contextOf ω = record { store = ω .store; strings = ω .strings; allowance = maximumProperties }
 
+abbrev pub isProxy : Option Object → Bool
+isProxy none = false
+isProxy (some (Ordinary r)) = false
+isProxy (some (Proxy p)) = true
+
 -- refusals 1 to 4 over the step, then 1 to 3 over the sheet
 abbrev pub recordTests : World → List ℕ → List ℕ → List (ℕ × Bool)
 recordTests ω bytes sheet =
     (1, isStep bytes)
     ∷ (2, areObjectsMade (countsOf ω) (stepOf bytes))
-    ∷ (3, areKindsUsable (ω .store) (countsOf ω) (stepOf bytes))
+    ∷ (3, areKindsUsable (isProxy (lookup (ω .store) (stepOf bytes .object))) (countsOf ω) (stepOf bytes))
     ∷ (4, isDescriptor (stepOf bytes .descriptor))
     ∷ (1, isSheet sheet)
     ∷ (2, sheetPasses (isMade (countsOf ω)) (sheetOf sheet))

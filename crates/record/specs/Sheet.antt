@@ -2,14 +2,14 @@
 use Prim.Native.Nat.{ℕ, zero, suc, _+_, _*_}
 use mathlib.Core.Bool.{Bool, true, false, _&&_, cond}
 use mathlib.Core.Option.{Option, none, some}
-use mathlib.Core.List.{List, [], _∷_}
+use mathlib.Core.List.{List, [], _∷_, _++_}
 use lib.Dec.{eqb, leb, ltb}
 use lib.ListN.{length}
 use Rattle.value.specs.declared.Value.{Value}
 use Rattle.value.specs.Words.{pick}
 use Rattle.internal_methods.specs.Monad.{Answer, value, descriptor, keys, throw}
-use Rattle.record.specs.Bytes.{byteAt, numberAt, valueSize, valueAt, isValueAt}
-use Rattle.record.specs.Descriptor.{descriptorSize, descriptorAt, isDescriptorAt}
+use Rattle.record.specs.Bytes.{byteAt, numberAt, bytesOf, valueSize, valueAt, isValueAt, valueBytes}
+use Rattle.record.specs.Descriptor.{descriptorSize, descriptorAt, isDescriptorAt, descriptorBytes}
 use Rattle.record.specs.Tests.{Counts, isMade, isKnown, descriptorPasses}
 
 -- n values from i on
@@ -50,10 +50,10 @@ isAnswerAt bytes i =
     (pick (eqb (byteAt bytes i) 4) (isValueAt bytes (i + 1))
     false)))
 
--- n answers from i on
+-- n answers from i on, as far as they are there
 unfoldable pub answersAt : List ℕ → ℕ → ℕ → List Answer
 answersAt bytes i zero = []
-answersAt bytes i (suc n) = answerAt bytes i ∷ answersAt bytes (answerEnd bytes i) n
+answersAt bytes i (suc n) = pick (leb (answerEnd bytes i) (length bytes)) (answerAt bytes i ∷ answersAt bytes (answerEnd bytes i) n) []
 
 unfoldable pub areAnswersAt : List ℕ → ℕ → ℕ → Bool
 areAnswersAt bytes i zero = eqb i (length bytes)
@@ -82,3 +82,21 @@ answerPasses test (throw v) = test v
 unfoldable pub sheetPasses : (Value → Bool) → List Answer → Bool
 sheetPasses test [] = true
 sheetPasses test (a ∷ rest) = answerPasses test a && sheetPasses test rest
+
+unfoldable pub valuesBytes : List Value → List ℕ
+valuesBytes [] = []
+valuesBytes (v ∷ vs) = valueBytes v ++ valuesBytes vs
+
+unfoldable pub answerBytes : Answer → List ℕ
+answerBytes (value v) = 1 ∷ valueBytes v
+answerBytes (descriptor d) = 2 ∷ descriptorBytes d
+answerBytes (keys vs) = 3 ∷ (bytesOf 2 (length vs) ++ valuesBytes vs)
+answerBytes (throw v) = 4 ∷ valueBytes v
+
+unfoldable pub answersBytes : List Answer → List ℕ
+answersBytes [] = []
+answersBytes (a ∷ rest) = answerBytes a ++ answersBytes rest
+
+-- the bytes of a sheet
+unfoldable pub sheetBytes : List Answer → List ℕ
+sheetBytes answers = length answers ∷ answersBytes answers

@@ -2,21 +2,17 @@
 use Prim.Native.Nat.{ℕ, _+_}
 use mathlib.Core.Bool.{Bool, true, false, not, _&&_, _||_, cond}
 use mathlib.Core.Option.{Option, none, some}
-use mathlib.Core.List.{List, [], _∷_}
+use mathlib.Core.List.{List, [], _∷_, _++_}
 use lib.Dec.{eqb, leb, ltb}
 use lib.IntN.{ℤ, pos, negsuc}
 use lib.ListN.{length}
 use Rattle.value.specs.declared.Value.{Value}
 use Rattle.value.specs.declared.Value.the-variants.{Undefined, Null, Boolean, Integer32, Float64, String, Symbol, Object, Function}
-use Rattle.value.specs.declared.PropertyKey.{PropertyKey}
 use Rattle.value.specs.PropertyKey.{keyOf}
 use Rattle.value.specs.Words.{kindOf}
-use Rattle.store.specs.declared.Object
-use Rattle.store.specs.declared.Object.the-variants as object
-use Rattle.store.specs.Store.{Store, lookup}
 use Rattle.record.specs.declared.Step.{Step}
-use Rattle.record.specs.Bytes.{byteAt, areZero, valueAt, isPartAt}
-use Rattle.record.specs.Descriptor.{descriptorSize, descriptorAt, isDescriptorAt}
+use Rattle.record.specs.Bytes.{byteAt, areZero, valueAt, isPartAt, valueBytes}
+use Rattle.record.specs.Descriptor.{descriptorSize, descriptorAt, isDescriptorAt, descriptorBytes}
 use Rattle.record.specs.Tests.{Counts, isMade, isKnown, descriptorPasses, isDescriptor}
 
 abbrev pub stepSize : ℕ
@@ -98,17 +94,16 @@ isSome (some a) = true
 abbrev pub isNullOrObject : Value → Bool
 isNullOrObject v = eqb (kindOf v) 1 || eqb (kindOf v) 7
 
-abbrev pub isProxy : Option Object.Object → Bool
-isProxy none = false
-isProxy (some (object.Ordinary r)) = false
-isProxy (some (object.Proxy p)) = true
-
--- refusal 3 over the step: known numbers, and kinds that the step can use
-unfoldable pub areKindsUsable : Store → Counts → Step → Bool
-areKindsUsable σ n s =
+-- refusal 3 over the step: known numbers, and kinds that the step can use; `proxy` says whether its object is one
+unfoldable pub areKindsUsable : Bool → Counts → Step → Bool
+areKindsUsable proxy n s =
     stepPasses (isKnown n) s
     && (unless (usesKey (s .code)) (isSome (keyOf (s .key)))
     && (unless (usesPrototype (s .code)) (isNullOrObject (s .value))
     && (unless (usesMask (s .code)) (eqb (kindOf (s .value)) 3)
-    && (unless (eqb (s .code) 3) (isProxy (lookup σ (s .object)))
+    && (unless (eqb (s .code) 3) proxy
     && unless (usesReceiver (s .code)) (not (eqb (kindOf (s .receiver)) 8))))))
+
+-- the 58 bytes of a step
+unfoldable pub stepBytes : Step → List ℕ
+stepBytes s = s .code ∷ s .object ∷ (valueBytes (s .key) ++ (valueBytes (s .value) ++ (valueBytes (s .receiver) ++ descriptorBytes (s .descriptor))))
