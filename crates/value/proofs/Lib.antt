@@ -1,3 +1,8 @@
 pub mod Bools
 pub mod SameValue
 pub mod SameKey
+pub mod Numbers
+pub mod Truth
+pub mod Ints
+pub mod FloatWords
+pub mod Missing

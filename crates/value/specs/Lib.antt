@@ -1,3 +1,4 @@
 pub mod Value
 pub mod PropertyKey
 pub mod Words
+pub mod Answers

@@ -1,4 +1,21 @@
 // ECMAScript language values and property keys. Strings, symbols, objects and functions are numbers.
+mod conversions;
+mod encoding;
+mod equality;
+mod keys;
+
+pub use conversions::is_callable;
+pub use conversions::is_undefined;
+pub use conversions::object_of;
+pub use conversions::to_boolean;
+pub use encoding::is_formed;
+pub use encoding::value_of;
+pub use encoding::words_of;
+pub use equality::same_number;
+pub use equality::same_value;
+pub use keys::key_of;
+pub use keys::key_value;
+pub use keys::same_key;
 
 pub enum Value {
     Undefined,
@@ -15,4 +32,22 @@ pub enum Value {
 pub enum PropertyKey {
     String(u64),
     Symbol(u64),
+}
+
+// The key that a value is, if it is one.
+pub enum KeyResult {
+    Key(PropertyKey),
+    NotKey,
+}
+
+// The object of the store that a value is, if it is one.
+pub enum ObjectResult {
+    Object(u64),
+    NotObject,
+}
+
+// A value as two numbers.
+pub struct Words {
+    pub kind: u64,
+    pub payload: u64,
 }
