@@ -1,5 +1,5 @@
 -- What a test that was taken, or was not, says of its parts. Assumes nothing.
-use mathlib.Core.Path.{_≡_, refl}
+use mathlib.Core.Path.{_≡_, refl, sym, _∙_}
 use mathlib.Core.Bool.{Bool, true, false, _&&_, _||_, Bool·beq, false≢true, true≢false}
 
 pub beq-refl : (b : Bool) → Bool·beq b b ≡ true
@@ -28,6 +28,14 @@ pub and-true : (a b : Bool) → (a && b) ≡ true → (a ≡ true) × (b ≡ tru
 and-true true b h = (refl, h)
 and-true false b h = absurd (false≢true h)
 
+pub and-false-right : (a b : Bool) → a ≡ true → (a && b) ≡ false → b ≡ false
+and-false-right true b h f = f
+and-false-right false b h f = absurd (false≢true h)
+
+pub and-false-left : (a b : Bool) → b ≡ true → (a && b) ≡ false → a ≡ false
+and-false-left true b h f = absurd (true≢false (sym h ∙ f))
+and-false-left false b h f = refl
+
 pub refuted : (a : Bool) → (a ≡ true → ⊥) → a ≡ false
 refuted true h = absurd (h refl)
 refuted false h = refl
@@ -37,3 +45,8 @@ bool-ext true true f g = refl
 bool-ext true false f g = absurd (false≢true (f refl))
 bool-ext false true f g = absurd (false≢true (g refl))
 bool-ext false false f g = refl
+
+pub or-swap : (a b c : Bool) → (a || (b || c)) ≡ (b || (a || c))
+or-swap true true c = refl
+or-swap true false c = refl
+or-swap false b c = refl
