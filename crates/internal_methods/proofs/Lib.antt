@@ -10,3 +10,4 @@ pub mod Reports
 pub mod Longer
 pub mod StoreClosed
 pub mod Budget
+pub mod Chain

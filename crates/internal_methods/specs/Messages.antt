@@ -1,5 +1,5 @@
 -- The texts of the TypeErrors by number: boa's for 1 to 28. Assumes nothing.
-use Prim.Native.Nat.{ℕ, _-_}
+use Prim.Native.Nat.{ℕ}
 use Prim.Native.String.{String}
 use Prim.Native.String
 use Prim.Native.Char.{code}
@@ -11,9 +11,11 @@ unfoldable pub codes : String → List ℕ
 codes String.[] = []
 codes (String._∷_ c s) = code c ∷ codes s
 
+-- message 0 stands for none
 abbrev pub texts : List String
 texts =
-    "Proxy object has empty handler and target"
+    ""
+    ∷ "Proxy object has empty handler and target"
     ∷ "Proxy trap result is neither object nor null"
     ∷ "Proxy trap returned unexpected prototype"
     ∷ "Proxy trap failed to set prototype"
@@ -46,6 +48,6 @@ texts =
     ∷ "Property key list is not an object"
     ∷ []
 
--- the text of message n, for n from 1 to 31
+-- the text of message n, for n from 1 to 31; of any other number it is empty
 unfoldable pub messageText : ℕ → List ℕ
-messageText n = codes (getD texts (n - 1) "")
+messageText n = codes (getD texts n "")

@@ -7,3 +7,4 @@ pub mod LastingHolds
 pub mod Performs
 pub mod Decided
 pub mod FurtherHold
+pub mod Walk

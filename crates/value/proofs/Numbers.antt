@@ -1,7 +1,6 @@
 -- A float that differs from itself is NaN, and off NaN the same Number is the same bits. Assumes nothing.
-use Prim.Native.Nat.{ℕ}
 use mathlib.Core.Path.{_≡_, refl, sym, ap, _∙_, subst}
-use mathlib.Core.Bool.{Bool, true, false, not, true≢false, false≢true}
+use mathlib.Core.Bool.{Bool, true, false, not, true≢false}
 use lib.Dec.{T, eqb}
 use borrow.Author.Tests.{eqb-true, eq-eqb}
 use lib.Ieee.{Float, nan, inf, fin, binary64, ne, fits, isNan, toBits, ofBits}

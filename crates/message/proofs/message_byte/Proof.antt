@@ -1,0 +1,29 @@
+-- A byte of a message's text. Assumes nothing.
+use mathlib.Core.Path.{sym}
+use borrow.Author.Needs.{needs}
+use Rattle.internal_methods.specs.Messages.{codes}
+use Rattle.message.proofs.Texts.{byte-right, no-byte, past-row, rowsOf}
+use Rattle.message.proofs.message_byte.Statement.{statement}
+use Rattle.message.proofs.message_byte.Tie as tie
+
+mul-result : tie.Need-mul-result
+mul-result c = search needs
+
+index-1-result : tie.Need-index-1-result
+index-1-result c = search needs
+
+index-2-result : tie.Need-index-2-result
+index-2-result c = search needs
+
+returns : tie.Need-returns
+unfolding rowsOf codes
+returns c = byte-right _ _ _ (search needs) (search needs)
+
+returns-2 : tie.Need-returns-2
+returns-2 c = sym (past-row _ _ (search needs))
+
+returns-3 : tie.Need-returns-3
+returns-3 c = sym (no-byte _ (search needs) _)
+
+pub message-byte-spec : {M : Type 1} → statement M
+message-byte-spec = tie.close (tie.spec mul-result index-1-result index-2-result returns returns-2 returns-3)
