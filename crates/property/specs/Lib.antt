@@ -2,3 +2,4 @@ pub mod Fields
 pub mod Descriptor
 pub mod Validate
 pub mod ArrayIndex
+pub mod Answers

@@ -1,0 +1,347 @@
+// Makes the outside vectors of the leaves: crates/vectors/stdin.
+//
+//     node tests/vectors.mjs > crates/vectors/stdin
+//
+// Each record is 192 bytes: an operation, its inputs, and what JavaScript answers. The engine answers SameValue (Object.is), ToBoolean
+// (Boolean), array indices (does an Array's length follow the key?), and descriptors completed, validated and merged
+// (Reflect.defineProperty on an object made for it, then Object.getOwnPropertyDescriptor). The tests of steps and sheets, operations 6
+// and 7, are document 01's refusals 1 to 4, written here a second time, since no engine has them. The generator is
+// seeded: a second run gives the same bytes.
+
+const size = 192;
+const records = [];
+let state = 0x9e3779b9;
+
+function random(n) {
+  state ^= state << 13;
+  state ^= state >>> 17;
+  state ^= state << 5;
+  return (state >>> 0) % n;
+}
+
+const pick = (list) => list[random(list.length)];
+
+// Values: { kind, payload } with a BigInt payload, and the JavaScript value that each stands for.
+
+const strings = ["", "a", "0", "01", "visits", "4294967294", "4294967295"];
+const symbols = Array.from({ length: 256 }, (_, n) => Symbol(n));
+const objects = Array.from({ length: 8 }, (_, n) => ({ n }));
+const functions = Array.from({ length: 256 }, () => () => {});
+const view = new DataView(new ArrayBuffer(8));
+
+function toJs({ kind, payload }) {
+  switch (kind) {
+    case 0: return undefined;
+    case 1: return null;
+    case 2: return payload === 1n;
+    case 3: return Number(BigInt.asIntN(32, payload));
+    case 4: view.setBigUint64(0, payload); return view.getFloat64(0);
+    case 5: return strings[Number(payload)];
+    case 6: return symbols[Number(payload)];
+    case 7: return objects[Number(payload)];
+    default: return functions[Number(payload)];
+  }
+}
+
+// A value of JavaScript as a record; a Number as Float64.
+function fromJs(value) {
+  if (value === undefined) return { kind: 0, payload: 0n };
+  if (value === null) return { kind: 1, payload: 0n };
+  if (typeof value === "boolean") return { kind: 2, payload: value ? 1n : 0n };
+  if (typeof value === "number") {
+    view.setFloat64(0, value);
+    return { kind: 4, payload: Number.isNaN(value) ? 0x7ff8000000000000n : view.getBigUint64(0) };
+  }
+  if (typeof value === "string") return { kind: 5, payload: BigInt(strings.indexOf(value)) };
+  if (typeof value === "symbol") return { kind: 6, payload: BigInt(symbols.indexOf(value)) };
+  if (typeof value === "function") return { kind: 8, payload: BigInt(functions.indexOf(value)) };
+  return { kind: 7, payload: BigInt(objects.indexOf(value)) };
+}
+
+function bytesOf({ kind, payload }) {
+  const bytes = [kind];
+  for (let i = 0n; i < 8n; i++) bytes.push(Number((payload >> (8n * i)) & 0xffn));
+  return bytes;
+}
+
+const float = (payload) => ({ kind: 4, payload });
+const integer = (n) => ({ kind: 3, payload: BigInt.asUintN(32, BigInt(n)) });
+const edges = [
+  { kind: 0, payload: 0n }, { kind: 1, payload: 0n }, { kind: 2, payload: 0n }, { kind: 2, payload: 1n },
+  integer(0), integer(1), integer(-1), integer(4464), integer(70000), integer(2147483647), integer(-2147483648),
+  float(0n), float(0x8000000000000000n), float(0x3ff0000000000000n), float(0xbff0000000000000n),
+  float(0x40f1170000000000n), float(0x40b1700000000000n),            // 70000 and 4464
+  float(0x41dfffffffc00000n), float(0xc1e0000000000000n),            // the ends of Integer32
+  float(1n), float(0x8000000000000001n), float(0x000fffffffffffffn), // subnormals
+  float(0x0010000000000000n), float(0x7fefffffffffffffn), float(0x7ff0000000000000n), float(0xfff0000000000000n),
+  float(0x7ff8000000000000n), float(0xfff8000000000000n), float(0x7ff0000000000001n), float(0x7fffffffffffffffn), // NaNs
+  { kind: 5, payload: 0n }, { kind: 5, payload: 1n }, { kind: 6, payload: 0n }, { kind: 6, payload: 255n },
+  { kind: 7, payload: 0n }, { kind: 7, payload: 1n }, { kind: 8, payload: 0n }, { kind: 8, payload: 255n },
+];
+
+function emit(...parts) {
+  const bytes = parts.flat();
+  if (bytes.length > size) throw new Error("a record is too long");
+  records.push(Uint8Array.from([...bytes, ...Array(size - bytes.length).fill(0)]));
+}
+
+const at = (bytes, n) => [...bytes, ...Array(n - bytes.length).fill(0)];
+
+// 1: SameValue, every pair of the edges; 2: ToBoolean
+for (const a of edges) for (const b of edges) emit(1, bytesOf(a), bytesOf(b), Object.is(toJs(a), toJs(b)) ? 1 : 0);
+for (const a of edges) emit(2, bytesOf(a), a.kind === 5 ? strings[Number(a.payload)].length : 0, toJs(a) ? 1 : 0);
+
+// 3: array indices
+function isIndex(text) {
+  const array = [];
+  array[text] = 1;
+  return array.length > 0 ? array.length - 1 : -1;
+}
+
+const texts = ["", "0", "00", "01", "1", "9", "10", "a", "1a", "a1", " 1", "1 ", "-1", "+1", "1.0", "1e3", "/", ":", "\u0660", "\uff11", "0x1",
+  "4294967293", "4294967294", "4294967295", "4294967296", "4294967300", "9999999999", "10000000000", "42949672940", "429496729", "1000000000",
+  "2147483647", "2147483648", "99999999999", "00000000001", "12345678901234567890123456789012"];
+for (let i = 0; i < 200; i++) texts.push(String(random(2) ? random(4294967296) : random(100000)).split("").map((c) => (random(40) ? c : pick("0a:/ 9"))).join(""));
+for (const text of texts) {
+  const index = isIndex(text);
+  const units = [...Array(text.length).keys()].flatMap((i) => [text.charCodeAt(i) % 256, text.charCodeAt(i) >> 8]);
+  emit(at([3, text.length, ...units], 100), index < 0 ? 0 : 1, bytesOf({ kind: 0, payload: BigInt(Math.max(index, 0)) }).slice(1));
+}
+
+// Descriptors: { mask, flags, value, get, set }
+
+const none = { kind: 0, payload: 0n };
+const callables = [none, { kind: 8, payload: 1n }, { kind: 8, payload: 2n }];
+
+function descriptorBytes(d) {
+  return [d.mask, d.flags, ...bytesOf(d.value), ...bytesOf(d.get), ...bytesOf(d.set)];
+}
+
+function descriptor(mask) {
+  return {
+    mask,
+    flags: random(8) & mask & 7,
+    value: mask & 8 ? pick(edges) : none,
+    get: mask & 16 ? pick(callables) : none,
+    set: mask & 32 ? pick(callables) : none,
+  };
+}
+
+function descriptorJs(d) {
+  const object = {};
+  if (d.mask & 1) object.enumerable = Boolean(d.flags & 1);
+  if (d.mask & 2) object.configurable = Boolean(d.flags & 2);
+  if (d.mask & 4) object.writable = Boolean(d.flags & 4);
+  if (d.mask & 8) object.value = toJs(d.value);
+  if (d.mask & 16) object.get = toJs(d.get);
+  if (d.mask & 32) object.set = toJs(d.set);
+  return object;
+}
+
+function propertyBytes(object) {
+  const own = Object.getOwnPropertyDescriptor(object, "k");
+  if (own === undefined) return [0, ...Array(29).fill(0)];
+  const flags = (own.enumerable ? 1 : 0) + (own.configurable ? 2 : 0) + (own.writable ? 4 : 0);
+  const accessor = "get" in own;
+  const bytes = accessor
+    ? [51, flags, ...bytesOf(none), ...bytesOf(fromJs(own.get)), ...bytesOf(fromJs(own.set))]
+    : [15, flags, ...bytesOf(fromJs(own.value)), ...bytesOf(none), ...bytesOf(none)];
+  return [1, ...bytes];
+}
+
+const dataMasks = [0, 1, 2, 3, 4, 5, 6, 7, 8, 9, 10, 11, 12, 13, 14, 15];
+const accessorMasks = [16, 17, 18, 19, 32, 33, 34, 35, 48, 49, 50, 51];
+const masks = [...dataMasks, ...accessorMasks];
+
+// 4: completing
+for (const mask of masks) {
+  for (let i = 0; i < 6; i++) {
+    const d = descriptor(mask);
+    const object = {};
+    Reflect.defineProperty(object, "k", descriptorJs(d));
+    emit(4, descriptorBytes(d), propertyBytes(object).slice(1));
+  }
+}
+
+// 5: validating, over an absent or a complete current property
+for (let i = 0; i < 1500; i++) {
+  const present = random(6) > 0;
+  const current = descriptor(random(2) ? 15 : 51);
+  const d = descriptor(pick(masks));
+  // half of the time ask for what is there already
+  if (random(2) && d.mask & 8 && current.mask & 8) d.value = current.value;
+  if (random(2)) d.flags = current.flags & d.mask & 7;
+  const extensible = random(2);
+  const object = {};
+  if (present) Reflect.defineProperty(object, "k", descriptorJs(current));
+  if (!extensible) Object.preventExtensions(object);
+  const accepted = Reflect.defineProperty(object, "k", descriptorJs(d));
+  emit(5, extensible, present ? 1 : 0, descriptorBytes(d), present ? descriptorBytes(current) : Array(29).fill(0), accepted ? 1 : 0, propertyBytes(object));
+}
+
+// 6: the tests of a step, refusals 1 to 4
+
+function littleEndian(bytes) {
+  return bytes.reduceRight((n, b) => n * 256n + BigInt(b), 0n);
+}
+
+const wellFormed = (v) => {
+  const payload = littleEndian(v.slice(1));
+  if (v[0] > 8) return false;
+  if (v[0] < 2) return payload === 0n;
+  if (v[0] === 2) return payload < 2n;
+  if (v[0] === 3) return payload < 0x100000000n;
+  return true;
+};
+const allZero = (bytes) => bytes.every((b) => b === 0);
+const parts = (d) => [d.slice(2, 11), d.slice(11, 20), d.slice(20, 29)];
+
+function descriptorFormed(d) {
+  if (d[0] > 63 || d[1] & ~(d[0] & 7)) return false;
+  return parts(d).every((v, i) => (d[0] & (8 << i) ? wellFormed(v) : allZero(v)));
+}
+
+const made = (v, counts) => v[0] !== 7 || littleEndian(v.slice(1)) < BigInt(counts.objects);
+const known = (v, counts) => {
+  const n = littleEndian(v.slice(1));
+  if (v[0] === 5) return n < BigInt(counts.strings);
+  return (v[0] !== 6 && v[0] !== 8) || n < 256n;
+};
+
+function descriptorMixed(d) {
+  const callable = (v) => v[0] === 0 || v[0] === 8;
+  if (d[0] & 48 && d[0] & 12) return true;
+  return !parts(d).slice(1).every(callable);
+}
+
+function stepRefusal(step, counts, proxy) {
+  if (step.length !== 58) return 1;
+  const [code, object] = step;
+  const key = step.slice(2, 11), value = step.slice(11, 20), receiver = step.slice(20, 29), d = step.slice(29, 58);
+  const keyed = code >= 8 && code <= 13;
+  const valued = [1, 2, 5, 12].includes(code);
+  const received = code === 11 || code === 12;
+  if (code < 1 || code > 14) return 1;
+  if (code === 1 && object !== 0) return 1;
+  if (!(keyed ? wellFormed(key) : allZero(key))) return 1;
+  if (!(valued ? wellFormed(value) : allZero(value))) return 1;
+  if (!(received ? wellFormed(receiver) : allZero(receiver))) return 1;
+  if (!(code === 9 ? descriptorFormed(d) : allZero(d))) return 1;
+  if (code === 2 && value[0] === 3 && littleEndian(value.slice(1)) > 2047n) return 1;
+  const values = [key, value, receiver, ...parts(d)];
+  if (code !== 1 && object >= counts.objects) return 2;
+  if (!values.every((v) => made(v, counts))) return 2;
+  if (!values.every((v) => known(v, counts))) return 3;
+  if (keyed && key[0] !== 5 && key[0] !== 6) return 3;
+  if ((code === 1 || code === 5) && value[0] !== 1 && value[0] !== 7) return 3;
+  if (code === 2 && value[0] !== 3) return 3;
+  if (code === 3 && !proxy) return 3;
+  if (received && receiver[0] === 8) return 3;
+  return descriptorMixed(d) ? 4 : 0;
+}
+
+const someValue = () => bytesOf(random(8) ? pick(edges) : { kind: random(10), payload: BigInt(random(600)) });
+const someKey = () => bytesOf({ kind: 5 + random(2), payload: BigInt(random(8)) });
+
+function someStep() {
+  const code = 1 + random(14);
+  const keyed = code >= 8 && code <= 13;
+  const value = code === 2 ? bytesOf(integer(random(2100))) : code === 12 ? someValue() : [1, 5].includes(code) ? bytesOf(pick([{ kind: 1, payload: 0n }, { kind: 7, payload: BigInt(random(9)) }])) : Array(9).fill(0);
+  const receiver = code === 11 || code === 12 ? someValue() : Array(9).fill(0);
+  const d = code === 9 ? descriptorBytes(descriptor(random(4) ? pick(masks) : random(64))) : Array(29).fill(0);
+  return [code, code === 1 ? 0 : random(9), ...(keyed ? someKey() : Array(9).fill(0)), ...value, ...receiver, ...d];
+}
+
+function damaged(bytes) {
+  const copy = [...bytes];
+  const turns = random(3);
+  for (let i = 0; i < turns; i++) {
+    const where = random(copy.length || 1);
+    switch (random(6)) {
+      case 0: copy.splice(where, 1); break;
+      case 1: copy.splice(where, 0, random(256)); break;
+      case 2: copy[where] = 0; break;
+      case 3: copy[where] = random(10); break;
+      default: copy[where] = random(256);
+    }
+  }
+  return copy;
+}
+
+for (let i = 0; i < 1500; i++) {
+  const counts = { objects: random(10), strings: random(9) };
+  const proxy = random(2);
+  const step = damaged(someStep()).slice(0, 64);
+  emit(at([6, counts.objects, counts.strings, proxy, step.length, ...step], 80), stepRefusal(step, counts, proxy));
+}
+
+// 7: the tests of a sheet, refusals 1 to 3
+
+function sheetRefusal(sheet, counts) {
+  if (sheet.length === 0 || sheet[0] > 64) return 1;
+  const values = [];
+  let here = 1;
+  for (let i = 0; i < sheet[0]; i++) {
+    const tag = sheet[here];
+    const take = (n) => {
+      const bytes = sheet.slice(here, here + n);
+      here += n;
+      return bytes.length === n ? bytes : undefined;
+    };
+    here += 1;
+    if (tag === 1 || tag === 4) {
+      const v = take(9);
+      if (!v || !wellFormed(v)) return 1;
+      values.push(v);
+    } else if (tag === 2) {
+      const d = take(29);
+      if (!d || !descriptorFormed(d)) return 1;
+      values.push(...parts(d));
+    } else if (tag === 3) {
+      const n = take(2);
+      if (!n || n[0] + 256 * n[1] > 256) return 1;
+      for (let k = 0; k < n[0] + 256 * n[1]; k++) {
+        const v = take(9);
+        if (!v || !wellFormed(v)) return 1;
+        values.push(v);
+      }
+    } else {
+      return 1;
+    }
+  }
+  if (here !== sheet.length) return 1;
+  if (!values.every((v) => made(v, counts))) return 2;
+  return values.every((v) => known(v, counts)) ? 0 : 3;
+}
+
+function someAnswer() {
+  switch (random(4)) {
+    case 0: return [1, ...someValue()];
+    case 1: return [2, ...descriptorBytes(descriptor(random(64)))];
+    case 2: { const n = random(4); return [3, n, 0, ...Array.from({ length: n }, someKey).flat()]; }
+    default: return [4, ...someValue()];
+  }
+}
+
+for (let i = 0; i < 1500; i++) {
+  const counts = { objects: random(10), strings: random(9) };
+  const n = random(5);
+  const whole = [n, ...Array.from({ length: n }, someAnswer).flat()];
+  const sheet = damaged(whole).slice(0, 160);
+  emit(at([7, counts.objects, counts.strings, sheet.length, ...sheet], 180), sheetRefusal(sheet, counts));
+}
+
+// 8: merging: 0 merged, 6 one data and one accessor (5 is the current one's, in the tests of the entry)
+for (let i = 0; i < 300; i++) {
+  const accessor = random(2);
+  const current = descriptor(accessor ? 51 : 15);
+  current.flags |= 2; // configurable, so that the engine makes every change that merging makes
+  const d = descriptor(pick(masks));
+  const other = accessor ? d.mask & 12 : d.mask & 48;
+  const object = {};
+  Reflect.defineProperty(object, "k", descriptorJs(current));
+  Reflect.defineProperty(object, "k", descriptorJs(d));
+  emit(8, descriptorBytes(current), descriptorBytes(d), other ? 6 : 0, other ? Array(29).fill(0) : propertyBytes(object).slice(1));
+}
+
+process.stdout.write(Buffer.concat(records));
