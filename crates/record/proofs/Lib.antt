@@ -1,1 +1,4 @@
+pub mod ByteLaws
+pub mod DescriptorLaws
 pub mod RoundTrip
+pub mod StepLaws

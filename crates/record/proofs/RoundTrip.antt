@@ -322,12 +322,13 @@ module _ (bytes : List ℕ) (i : ℕ) (d : DescriptorObject) (f : FitsDescriptor
       let b = p .read in
       and-both _ _ (b .mask-small)
       (and-both _ _ (b .flags-small)
+      (and-both _ _
       (and-both _ _ (flag-formed (d .enumerable) _ _ (b .has-enumerable) (b .enumerable))
       (and-both _ _ (flag-formed (d .configurable) _ _ (b .has-configurable) (b .configurable))
-      (and-both _ _ (flag-formed (d .writable) _ _ (b .has-writable) (b .writable))
+      (flag-formed (d .writable) _ _ (b .has-writable) (b .writable))))
       (and-both _ _ (field-formed bytes (i + 2) (d .value) _ (b .has-value) (f .value) (p .value))
       (and-both _ _ (field-formed bytes (i + 11) (d .get) _ (b .has-get) (f .get) (p .get))
-      (field-formed bytes (i + 20) (d .set) _ (b .has-set) (f .set) (p .set))))))))
+      (field-formed bytes (i + 20) (d .set) _ (b .has-set) (f .set) (p .set))))))
 
 module _ (pre post : List ℕ) (d : DescriptorObject) (f : FitsDescriptor d) where
   pub descriptor-back : descriptorAt (pre ++ (descriptorBytes d ++ post)) (length pre) ≡ d

@@ -38,17 +38,20 @@ descriptorAt bytes i = record {
 abbrev pub isFlagFormed : ℕ → ℕ → ℕ → Bool
 isFlagFormed mask flags j = bit mask j || not (bit flags j)
 
+abbrev pub areFlagsFormed : ℕ → ℕ → Bool
+areFlagsFormed mask flags = isFlagFormed mask flags 0 && (isFlagFormed mask flags 1 && isFlagFormed mask flags 2)
+
+abbrev pub arePartsFormed : ℕ → List ℕ → ℕ → Bool
+arePartsFormed mask bytes i =
+    isPartAt (bit mask 3) bytes (i + 2) && (isPartAt (bit mask 4) bytes (i + 11) && isPartAt (bit mask 5) bytes (i + 20))
+
 -- refusal 1 over a descriptor
 unfoldable pub isDescriptorAt : List ℕ → ℕ → Bool
 isDescriptorAt bytes i =
     ltb (byteAt bytes i) 64
     && (ltb (byteAt bytes (i + 1)) 8
-    && (isFlagFormed (byteAt bytes i) (byteAt bytes (i + 1)) 0
-    && (isFlagFormed (byteAt bytes i) (byteAt bytes (i + 1)) 1
-    && (isFlagFormed (byteAt bytes i) (byteAt bytes (i + 1)) 2
-    && (isPartAt (bit (byteAt bytes i) 3) bytes (i + 2)
-    && (isPartAt (bit (byteAt bytes i) 4) bytes (i + 11)
-    && isPartAt (bit (byteAt bytes i) 5) bytes (i + 20)))))))
+    && (areFlagsFormed (byteAt bytes i) (byteAt bytes (i + 1))
+    && arePartsFormed (byteAt bytes i) bytes i))
 
 abbrev pub weight : Bool → ℕ → ℕ
 weight true n = n

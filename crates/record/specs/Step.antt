@@ -66,18 +66,31 @@ isMask (Function f) = true
 abbrev pub unless : Bool → Bool → Bool
 unless used test = not used || test
 
+abbrev pub isCode : ℕ → Bool
+isCode code = leb 1 code && leb code 14
+
+-- the object, the values and the descriptor, each zero where the code does not use it
+abbrev pub isObjectFormed : ℕ → ℕ → Bool
+isObjectFormed code object = usesObject code || eqb object 0
+
+abbrev pub areValuesFormed : ℕ → List ℕ → Bool
+areValuesFormed code bytes = isPartAt (usesKey code) bytes 2 && (isPartAt (usesValue code) bytes 11 && isPartAt (usesReceiver code) bytes 20)
+
+abbrev pub isDescriptorFormed : ℕ → List ℕ → Bool
+isDescriptorFormed code bytes = cond (usesDescriptor code) (isDescriptorAt bytes 29) (areZero bytes 29 descriptorSize)
+
+abbrev pub isMaskFormed : ℕ → List ℕ → Bool
+isMaskFormed code bytes = unless (usesMask code) (isMask (valueAt bytes 11))
+
 -- refusal 1 over the step
 unfoldable pub isStep : List ℕ → Bool
 isStep bytes =
-    let code = byteAt bytes 0 in
     eqb (length bytes) stepSize
-    && ((leb 1 code && leb code 14)
-    && ((usesObject code || eqb (byteAt bytes 1) 0)
-    && (isPartAt (usesKey code) bytes 2
-    && (isPartAt (usesValue code) bytes 11
-    && (isPartAt (usesReceiver code) bytes 20
-    && (cond (usesDescriptor code) (isDescriptorAt bytes 29) (areZero bytes 29 descriptorSize)
-    && unless (usesMask code) (isMask (valueAt bytes 11))))))))
+    && (isCode (byteAt bytes 0)
+    && (isObjectFormed (byteAt bytes 0) (byteAt bytes 1)
+    && (areValuesFormed (byteAt bytes 0) bytes
+    && (isDescriptorFormed (byteAt bytes 0) bytes
+    && isMaskFormed (byteAt bytes 0) bytes))))
 
 -- the values of a step pass a test
 abbrev pub stepPasses : (Value → Bool) → Step → Bool
@@ -94,15 +107,28 @@ isSome (some a) = true
 abbrev pub isNullOrObject : Value → Bool
 isNullOrObject v = eqb (kindOf v) 1 || eqb (kindOf v) 7
 
--- refusal 3 over the step: known numbers, and kinds that the step can use; `proxy` says whether its object is one
+-- the kinds that each code asks for
+abbrev pub isKeyUsable : Step → Bool
+isKeyUsable s = unless (usesKey (s .code)) (isSome (keyOf (s .key)))
+
+abbrev pub isPrototypeUsable : Step → Bool
+isPrototypeUsable s = unless (usesPrototype (s .code)) (isNullOrObject (s .value))
+
+abbrev pub isMaskUsable : Step → Bool
+isMaskUsable s = unless (usesMask (s .code)) (eqb (kindOf (s .value)) 3)
+
+-- `proxy` says whether the step's object is one
+abbrev pub isObjectUsable : Bool → Step → Bool
+isObjectUsable proxy s = unless (eqb (s .code) 3) proxy
+
+abbrev pub isReceiverUsable : Step → Bool
+isReceiverUsable s = unless (usesReceiver (s .code)) (not (eqb (kindOf (s .receiver)) 8))
+
+-- refusal 3 over the step: known numbers, and kinds that the step can use
 unfoldable pub areKindsUsable : Bool → Counts → Step → Bool
 areKindsUsable proxy n s =
     stepPasses (isKnown n) s
-    && (unless (usesKey (s .code)) (isSome (keyOf (s .key)))
-    && (unless (usesPrototype (s .code)) (isNullOrObject (s .value))
-    && (unless (usesMask (s .code)) (eqb (kindOf (s .value)) 3)
-    && (unless (eqb (s .code) 3) proxy
-    && unless (usesReceiver (s .code)) (not (eqb (kindOf (s .receiver)) 8))))))
+    && (isKeyUsable s && (isPrototypeUsable s && (isMaskUsable s && (isObjectUsable proxy s && isReceiverUsable s))))
 
 -- the 58 bytes of a step
 unfoldable pub stepBytes : Step → List ℕ

@@ -8,11 +8,13 @@ use Rattle.property.specs.declared.Field.{Field}
 use Rattle.property.specs.declared.Field.the-variants.{Absent, Present}
 use Rattle.property.specs.declared.DescriptorObject.{DescriptorObject}
 use Rattle.property.specs.Descriptor.{isUncallable, isMixed}
+use Rattle.record.specs.declared.Counts as counts
+use Rattle.record.specs.declared.Test.{Test}
+use Rattle.record.specs.declared.Test.the-variants.{Made, Known}
 
 -- how many objects and strings there are
-pub record Counts : Type 0 where
-  pub objects : ℕ
-  pub strings : ℕ
+abbrev pub Counts : Type 0
+Counts = counts.Counts
 
 -- 2: an object number was never made
 unfoldable pub isMade : Counts → Value → Bool
@@ -37,6 +39,11 @@ isKnown n (String s) = ltb s (n .strings)
 isKnown n (Symbol s) = ltb s 256
 isKnown n (Object o) = true
 isKnown n (Function f) = ltb f 256
+
+-- what refusals 2 and 3 ask of each value
+abbrev pub asks : Test → Counts → Value → Bool
+asks Made n = isMade n
+asks Known n = isKnown n
 
 abbrev pub fieldPasses : (Value → Bool) → Field → Bool
 fieldPasses test Absent = true

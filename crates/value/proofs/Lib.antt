@@ -3,6 +3,4 @@ pub mod SameValue
 pub mod SameKey
 pub mod Numbers
 pub mod Truth
-pub mod Ints
-pub mod FloatWords
 pub mod Missing

@@ -1,6 +1,5 @@
 // ECMAScript language values and property keys. Strings, symbols, objects and functions are numbers.
 mod conversions;
-mod encoding;
 mod equality;
 mod keys;
 
@@ -8,9 +7,6 @@ pub use conversions::is_callable;
 pub use conversions::is_undefined;
 pub use conversions::object_of;
 pub use conversions::to_boolean;
-pub use encoding::is_formed;
-pub use encoding::value_of;
-pub use encoding::words_of;
 pub use equality::same_number;
 pub use equality::same_value;
 pub use keys::key_of;
