@@ -1,4 +1,1 @@
-pub mod ByteLaws
-pub mod DescriptorLaws
 pub mod RoundTrip
-pub mod StepLaws

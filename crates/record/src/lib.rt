@@ -2,11 +2,6 @@
 use property::DescriptorObject;
 use value::Value;
 
-pub mod bytes; // bytes.rt: numbers and values in bytes
-pub mod descriptor; // descriptor.rt: descriptors in bytes
-pub mod tests; // tests.rt: refusals 2, 3 and 4 over a value and a descriptor
-pub mod steps; // steps.rt: steps in bytes, and refusals 1 to 3 over them
-
 pub struct Step {
     pub code: u64,
     pub object: u64,
