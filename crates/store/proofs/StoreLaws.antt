@@ -101,7 +101,7 @@ module _ (x y z : OwnProperty) where
   cond-swap false true h = refl
   cond-swap false false h = refl
 
-find-insert : (es : List Entry) (o : ℕ) (k : PropertyKey) (p : Property) (b : ℕ) (l : PropertyKey)
+pub find-insert : (es : List Entry) (o : ℕ) (k : PropertyKey) (p : Property) (b : ℕ) (l : PropertyKey)
     → find (insert es o k p) b l ≡ cond (samePlace o k b l) (Present p) (find es b l)
 unfolding find insert isAt
 find-insert [] o k p b l = refl
@@ -113,7 +113,7 @@ find-insert (e ∷ es) o k p b l = go (isAt e o k) refl (find-insert es o k p b 
     go true h ih = rw (like e o k b l h) (cond-same _ _ _ (samePlace o k b l))
     go false h ih = rw ih (cond-swap _ _ _ (isAt e b l) (samePlace o k b l) (apart e o k b l h))
 
-find-remove : (es : List Entry) (o : ℕ) (k : PropertyKey) (b : ℕ) (l : PropertyKey)
+pub find-remove : (es : List Entry) (o : ℕ) (k : PropertyKey) (b : ℕ) (l : PropertyKey)
     → find (remove es o k) b l ≡ cond (samePlace o k b l) Absent (find es b l)
 unfolding find remove
 find-remove [] o k b l = sym (both (samePlace o k b l))

@@ -71,3 +71,12 @@ withProperty σ o k p = record { objects = σ .objects; properties = insert (σ 
 
 unfoldable pub withoutProperty : Store → ℕ → PropertyKey → Store
 withoutProperty σ o k = record { objects = σ .objects; properties = remove (σ .properties) o k }
+
+-- the property of entry i is p
+unfoldable pub replaceAt : List Entry → ℕ → Property → List Entry
+replaceAt [] i p = []
+replaceAt (e ∷ es) zero p = entry (e .owner) (e .key) p ∷ es
+replaceAt (e ∷ es) (suc i) p = e ∷ replaceAt es i p
+
+unfoldable pub withChange : Store → ℕ → Property → Store
+withChange σ i p = record { objects = σ .objects; properties = replaceAt (σ .properties) i p }

@@ -1,0 +1,227 @@
+-- Laws of reading the store's words. Assumes nothing.
+use Prim.Native.Nat.{ℕ, zero, suc, _+_, _-_, _*_, _/_, _%_, _^_, _<_, _≤_}
+use native.Mathlib.Omega.{arith}
+use native.Mathlib.Numerals.{add-one}
+use mathlib.Core.Path.{_≡_, refl, sym, ap, _∙_}
+use mathlib.Core.Bool.{Bool, true, false, _&&_, false≢true}
+use mathlib.Core.Option.{none, some}
+use mathlib.Core.List.{List}
+use lib.Dec.{eqb}
+use lib.ListN.{length, getD, getElem?}
+use borrow.Author.Tests.{eqb-true, eqb-false, leb-true, eq-eqb, ne-eqb}
+use Rattle.value.specs.declared.PropertyKey.{PropertyKey}
+use Rattle.value.specs.declared.PropertyKey.the-variants.{String, Symbol}
+use Rattle.value.specs.PropertyKey.{sameKey}
+use Rattle.value.specs.Words.{pick}
+use Rattle.value.proofs.Bools.{and-true, bool-ext}
+use Rattle.property.specs.declared.OwnProperty.the-variants.{Absent, Present}
+use Rattle.text.specs.Table.{tabulate}
+use Rattle.text.proofs.TableLaws.{length-tabulate}
+use Rattle.store.specs.declared.Entry.{Entry}
+use Rattle.store_read.specs.declared.Place.the-variants.{Nothing, At}
+use Rattle.store.specs.Store.{isAt, find, own, lookup}
+use Rattle.store.specs.Words.{isStore, storeOf, objectIn, propertyIn, entryIn, keyOf, keyWord, wordAt, keyAt, flag}
+use Rattle.store_read.specs.Answers.{firstPlace, findPlace, keyWords}
+
+-- what isStore says, as numbers
+pub record Sized (words : List ℕ) : Type 0 where
+  pub size : length words ≡ 1634
+  pub objects : getD words 0 0 ≤ 32
+  pub properties : getD words 1 0 ≤ 256
+
+pub sized : (words : List ℕ) → isStore words ≡ true → Sized words
+unfolding isStore
+sized words h =
+    let (a, b) = and-true _ _ h in
+    let (p, q) = and-true _ _ b in
+    record { size = eqb-true _ _ a; objects = leb-true _ _ p; properties = leb-true _ _ q }
+
+-- Tabulated lists --------------------------------------------------------------------------
+
+pub get-tabulate : {A : Type 0} (f : ℕ → A) (i n k : ℕ) → k < n → getElem? (tabulate f i n) k ≡ some (f (i + k))
+unfolding tabulate
+get-tabulate f i zero k h = absurd (omega arith)
+get-tabulate f i (suc n) zero h = let e : i + 0 ≡ i = omega arith in rw e
+get-tabulate f i (suc n) (suc k) h =
+    let e : suc i + k ≡ i + suc k = omega arith in get-tabulate f (suc i) n k (omega arith) ∙ ap (λ m. some (f m)) e
+
+pub get-tabulate-none : {A : Type 0} (f : ℕ → A) (i n k : ℕ) → n ≤ k → getElem? (tabulate f i n) k ≡ none
+unfolding tabulate
+get-tabulate-none f i zero k h = refl
+get-tabulate-none f i (suc n) zero h = absurd (omega arith)
+get-tabulate-none f i (suc n) (suc k) h = get-tabulate-none f (suc i) n k (omega arith)
+
+-- The first that passes a test -----------------------------------------------------------------
+
+module _ {A : Type 0} (test : A → Bool) (f : ℕ → A) where
+  pub first-hit : (i n : ℕ) → i < n → test (f i) ≡ true → At i ≡ firstPlace test i (tabulate f i (n - i))
+  unfolding tabulate firstPlace
+  first-hit i n h e = let z : n - i ≡ suc (n - suc i) = omega arith in rw (z, e)
+
+  pub first-step : (i n : ℕ) → i < n → test (f i) ≡ false
+      → firstPlace test i (tabulate f i (n - i)) ≡ firstPlace test (i + 1) (tabulate f (i + 1) (n - (i + 1)))
+  unfolding tabulate firstPlace
+  first-step i n h e = let z : n - i ≡ suc (n - suc i) = omega arith in rw (z, e, add-one i)
+
+  pub first-end : (i n : ℕ) → n ≤ i → Nothing ≡ firstPlace test i (tabulate f i (n - i))
+  unfolding tabulate firstPlace
+  first-end i n h = let z : n - i ≡ 0 = omega arith in rw z
+
+  pub first-none : (i n : ℕ) → ((j : ℕ) → test (f j) ≡ false) → Nothing ≡ firstPlace test i (tabulate f i n)
+  unfolding tabulate firstPlace
+  first-none i zero h = refl
+  first-none i (suc n) h = rw (h i) (first-none (suc i) n h)
+
+-- two tests that agree find one place
+pub first-same : {A B : Type 0} (p : A → Bool) (q : B → Bool) (f : ℕ → A) (g : ℕ → B) (i n : ℕ) → ((j : ℕ) → p (f j) ≡ q (g j))
+    → firstPlace p i (tabulate f i n) ≡ firstPlace q i (tabulate g i n)
+unfolding tabulate firstPlace
+first-same p q f g i zero h = refl
+first-same p q f g i (suc n) h = rw (h i, first-same p q f g (suc i) n h)
+
+-- Key words ------------------------------------------------------------------------------------
+
+abbrev keyBy : Bool → ℕ → PropertyKey
+keyBy b n = pick b (String n) (Symbol n)
+
+-- a word is the key word of an object below 32 exactly where it decodes to them
+module _ (o w s : ℕ) (h : o < 32) where
+  word-string : (b : Bool) → eqb (w / 32 % 2) 0 ≡ b → (eqb (w % 32) o && sameKey (keyBy b (w / 64)) (String s)) ≡ eqb w (o + 64 * s)
+  unfolding sameKey
+  word-string true e =
+      let z : w / 32 % 2 ≡ 0 = eqb-true _ _ e in
+      bool-ext _ _
+      (λ t. let (p, q) = and-true (eqb (w % 32) o) _ t in eq-eqb w (o + 64 * s) (omega (arith, eqb-true (w % 32) o p, eqb-true (w / 64) s q)))
+      (λ t. let y : w ≡ o + 64 * s = eqb-true _ _ t in
+      let a : w % 32 ≡ o = omega arith in
+      let b : w / 64 ≡ s = omega arith in
+      rw (eq-eqb _ _ a, eq-eqb _ _ b))
+  word-string false e =
+      let z : w / 32 % 2 ≡ 0 → ⊥ = eqb-false _ _ e in
+      bool-ext _ _
+      (λ t. let (p, q) = and-true (eqb (w % 32) o) _ t in absurd (false≢true q))
+      (λ t. let y : w ≡ o + 64 * s = eqb-true _ _ t in absurd (omega arith))
+
+  word-symbol : (b : Bool) → eqb (w / 32 % 2) 0 ≡ b → (eqb (w % 32) o && sameKey (keyBy b (w / 64)) (Symbol s)) ≡ eqb w (o + 32 + 64 * s)
+  unfolding sameKey
+  word-symbol true e =
+      let z : w / 32 % 2 ≡ 0 = eqb-true _ _ e in
+      bool-ext _ _
+      (λ t. let (p, q) = and-true (eqb (w % 32) o) _ t in absurd (false≢true q))
+      (λ t. let y : w ≡ o + 32 + 64 * s = eqb-true _ _ t in absurd (omega arith))
+  word-symbol false e =
+      let z : w / 32 % 2 ≡ 0 → ⊥ = eqb-false _ _ e in
+      bool-ext _ _
+      (λ t. let (p, q) = and-true (eqb (w % 32) o) _ t in eq-eqb w (o + 32 + 64 * s) (omega (arith, eqb-true (w % 32) o p, eqb-true (w / 64) s q)))
+      (λ t. let y : w ≡ o + 32 + 64 * s = eqb-true _ _ t in
+      let a : w % 32 ≡ o = omega arith in
+      let b : w / 64 ≡ s = omega arith in
+      rw (eq-eqb _ _ a, eq-eqb _ _ b))
+
+module _ (words : List ℕ) (o : ℕ) where
+  is-word : (k : PropertyKey) (i : ℕ) → o < 32 → isAt (entryIn words i) o k ≡ eqb (wordAt words (keyAt i)) (keyWord o k)
+  unfolding isAt entryIn keyOf
+  is-word (String s) i h = word-string o (wordAt words (keyAt i)) s h (eqb (wordAt words (keyAt i) / 32 % 2) 0) refl
+  is-word (Symbol s) i h = word-symbol o (wordAt words (keyAt i)) s h (eqb (wordAt words (keyAt i) / 32 % 2) 0) refl
+
+  -- the place of the key word is that of the property
+  pub place-word : (k : PropertyKey) → o < 32
+      → firstPlace (λ (w : ℕ). eqb w (keyWord o k)) 0 (keyWords words) ≡ findPlace (storeOf words .properties) o k
+  unfolding findPlace storeOf
+  place-word k h = sym (first-same _ _ _ _ 0 (wordAt words 1) (λ i. is-word k i h))
+
+  -- no key word has an owner from 32 on
+  pub no-owner : (k : PropertyKey) → 32 ≤ o → Nothing ≡ findPlace (storeOf words .properties) o k
+  unfolding findPlace storeOf isAt entryIn
+  no-owner k h = first-none _ _ 0 (wordAt words 1) (λ i. let e : eqb (wordAt words (keyAt i) % 32) o ≡ false = ne-eqb _ _ (λ (z : wordAt words (keyAt i) % 32 ≡ o). omega arith) in rw e)
+
+-- nor, below 2 ^ 64, a number from 2 ^ 58 on
+no-string : (w s : ℕ) → w < 2 ^ 64 → 288230376151711744 ≤ s → (b : Bool) → sameKey (keyBy b (w / 64)) (String s) ≡ false
+unfolding sameKey
+no-string w s l h true = ne-eqb _ _ (λ (z : w / 64 ≡ s). omega arith)
+no-string w s l h false = refl
+
+no-symbol : (w s : ℕ) → w < 2 ^ 64 → 288230376151711744 ≤ s → (b : Bool) → sameKey (keyBy b (w / 64)) (Symbol s) ≡ false
+unfolding sameKey
+no-symbol w s l h true = refl
+no-symbol w s l h false = ne-eqb _ _ (λ (z : w / 64 ≡ s). omega arith)
+
+and-none : (a b : Bool) → b ≡ false → (a && b) ≡ false
+and-none true b h = h
+and-none false b h = refl
+
+module _ (words : List ℕ) (fits : (i : ℕ) → getD words i 0 < 2 ^ 64) (o s : ℕ) (h : 288230376151711744 ≤ s) where
+  pub no-string-key : Nothing ≡ findPlace (storeOf words .properties) o (String s)
+  unfolding findPlace storeOf isAt entryIn keyOf
+  no-string-key = first-none _ _ 0 (wordAt words 1) (λ i. and-none (eqb (wordAt words (keyAt i) % 32) o) _ (no-string (wordAt words (keyAt i)) s (fits _) h (eqb (wordAt words (keyAt i) / 32 % 2) 0)))
+
+  pub no-symbol-key : Nothing ≡ findPlace (storeOf words .properties) o (Symbol s)
+  unfolding findPlace storeOf isAt entryIn keyOf
+  no-symbol-key = first-none _ _ 0 (wordAt words 1) (λ i. and-none (eqb (wordAt words (keyAt i) % 32) o) _ (no-symbol (wordAt words (keyAt i)) s (fits _) h (eqb (wordAt words (keyAt i) / 32 % 2) 0)))
+
+-- What stands at the place ------------------------------------------------------------------------
+
+module _ (f : ℕ → Entry) (o : ℕ) (k : PropertyKey) where
+  found-by : (i n j : ℕ) (b : Bool) → isAt (f i) o k ≡ b → firstPlace (λ (e : Entry). isAt e o k) i (tabulate f i n) ≡ At j
+      → (j < i + n) × (find (tabulate f i n) o k ≡ Present (f j .property))
+  unfolding tabulate firstPlace find
+  found-by i zero j b e q = let z : _≡_ {A = ℕ} 0 1 = cc in absurd (omega arith)
+  found-by i (suc n) j true e q =
+      let p : At i ≡ At j = rw e at q in
+      let z : i ≡ j = cc in
+      (omega arith, rw (e, z))
+  found-by i (suc n) j false e q =
+      let p : firstPlace (λ (e : Entry). isAt e o k) (suc i) (tabulate f (suc i) n) ≡ At j = rw e at q in
+      let (l, r) = found-by (suc i) n j _ refl p in
+      (omega arith, rw e r)
+
+  missed-by : (i n : ℕ) (b : Bool) → isAt (f i) o k ≡ b → firstPlace (λ (e : Entry). isAt e o k) i (tabulate f i n) ≡ Nothing
+      → find (tabulate f i n) o k ≡ Absent
+  unfolding tabulate firstPlace find
+  missed-by i zero b e q = refl
+  missed-by i (suc n) true e q =
+      let p : At i ≡ Nothing = rw e at q in
+      let z : _≡_ {A = ℕ} 0 1 = cc in absurd (omega arith)
+  missed-by i (suc n) false e q =
+      let p : firstPlace (λ (e : Entry). isAt e o k) (suc i) (tabulate f (suc i) n) ≡ Nothing = rw e at q in
+      rw e (missed-by (suc i) n _ refl p)
+
+module _ (words : List ℕ) (o : ℕ) (k : PropertyKey) where
+  pub place-below : (j : ℕ) → findPlace (storeOf words .properties) o k ≡ At j → j < wordAt words 1
+  unfolding findPlace storeOf
+  place-below j q = let (l, r) = found-by _ o k 0 (wordAt words 1) j _ refl q in omega arith
+
+  pub own-found : (j : ℕ) → findPlace (storeOf words .properties) o k ≡ At j → own (storeOf words) o k ≡ Present (propertyIn words j)
+  unfolding findPlace storeOf own entryIn
+  own-found j q = found-by _ o k 0 (wordAt words 1) j _ refl q .1
+
+  pub own-missed : findPlace (storeOf words .properties) o k ≡ Nothing → own (storeOf words) o k ≡ Absent
+  unfolding findPlace storeOf own
+  own-missed q = missed-by _ o k 0 (wordAt words 1) _ refl q
+
+-- Objects ------------------------------------------------------------------------------------------
+
+module _ (words : List ℕ) (o : ℕ) where
+  pub lookup-made : o < wordAt words 0 → lookup (storeOf words) o ≡ some (objectIn words o)
+  unfolding lookup storeOf
+  lookup-made h = get-tabulate (objectIn words) 0 (wordAt words 0) o h ∙ let z : 0 + o ≡ o = omega arith in rw z
+
+  pub lookup-missing : wordAt words 0 ≤ o → lookup (storeOf words) o ≡ none
+  unfolding lookup storeOf
+  lookup-missing h = get-tabulate-none (objectIn words) 0 (wordAt words 0) o h
+
+pub object-length : (words : List ℕ) → length (storeOf words .objects) ≡ wordAt words 0
+unfolding storeOf
+object-length words = length-tabulate _ _ _
+
+pub property-length : (words : List ℕ) → length (storeOf words .properties) ≡ wordAt words 1
+unfolding storeOf
+property-length words = length-tabulate _ _ _
+
+-- Flags ---------------------------------------------------------------------------------------------
+
+pub odd-flag : (n : ℕ) → n % 2 ≡ 1 → flag n 0 ≡ true
+odd-flag n e = eq-eqb _ _ (let z : n / 1 % 2 ≡ 1 = omega arith in z)
+
+pub even-flag : (n : ℕ) → (n % 2 ≡ 1 → ⊥) → flag n 0 ≡ false
+even-flag n e = ne-eqb _ _ (λ (z : n / 1 % 2 ≡ 1). omega arith)

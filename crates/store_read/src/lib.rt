@@ -1,0 +1,32 @@
+// Reading the store's words, and listing an object's own keys.
+mod list;
+mod read;
+
+pub use list::key_from_word;
+pub use list::list_own_keys;
+pub use read::find;
+pub use read::is_store;
+pub use read::object_at;
+pub use read::object_count;
+pub use read::own;
+pub use read::property_at;
+pub use read::property_count;
+use store::Object;
+
+// The object of a number, if it was made.
+pub enum ObjectFound {
+    Missing,
+    Made(Object),
+}
+
+// Which of the properties it is.
+pub enum Place {
+    Nothing,
+    At(usize),
+}
+
+// An array index and its key in one word, while they are sorted.
+enum IndexWord {
+    Other,
+    Joined(u64),
+}

@@ -1,0 +1,33 @@
+use Rattle.store_write.proofs.WriteLaws.{store-empty, sized-empty, is-store}
+use borrow.Author.Tests.{eq-eqb, ne-eqb}
+use mathlib.Core.Bool.{false≢true}
+use denote.Ref.{now}
+use mathlib.Core.Path.{sym}
+use borrow.Author.Needs.{needs}
+use Rattle.store_write.proofs.write.make_empty.Statement.{statement}
+use Rattle.store_write.proofs.write.make_empty.Tie as tie
+
+slice-write-words : tie.Need-slice-write-words
+slice-write-words c = search needs
+
+slice-write-words-2 : tie.Need-slice-write-words-2
+slice-write-words-2 c = search needs
+
+same-length : tie.Need-same-length
+same-length c = search needs
+
+returns : tie.Need-returns
+returns c =
+    let w = now (c .before .args .words) in
+    let h = c .if1 .taken in
+    let e = eq-eqb _ _ h in
+    (sym e, (rw e, λ t. (store-empty w h, is-store _ (sized-empty w h))))
+
+returns-2 : tie.Need-returns-2
+returns-2 c =
+    let e = ne-eqb _ _ (c .if1 .left) in
+    (sym e, (rw e, λ t. absurd (false≢true t)))
+
+pub make-empty-spec : {M : Type 1} → statement M
+make-empty-spec =
+    tie.close (tie.spec slice-write-words slice-write-words-2 same-length returns returns-2)

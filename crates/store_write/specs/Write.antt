@@ -1,0 +1,109 @@
+-- A write to the store: what it asks of the words, and what it makes of them and of the store. Assumes nothing.
+use Prim.Native.Nat.{ℕ, zero, suc, _<_, _^_}
+use mathlib.Core.Path.{_≡_}
+use mathlib.Core.Bool.{true, cond}
+use mathlib.Core.List.{List, [], _∷_}
+use lib.Dec.{eqb}
+use lib.ListN.{length, set}
+use Rattle.value.specs.declared.Value.{Value}
+use Rattle.value.specs.declared.PropertyKey.{PropertyKey}
+use Rattle.value.specs.declared.PropertyKey.the-variants.{String, Symbol}
+use Rattle.value.specs.Words.{kindOf, payloadOf, valueOf}
+use Rattle.property.specs.declared.Property.{Property}
+use Rattle.property.specs.declared.OwnProperty.the-variants.{Absent}
+use Rattle.store.specs.declared.Object.{Object}
+use Rattle.store.specs.declared.Object.the-variants as object
+use Rattle.store.specs.declared.Entry.{Entry}
+use Rattle.store_write.specs.declared.write.Write.{Write}
+use Rattle.store_write.specs.declared.write.Write.the-variants as write
+use Rattle.store_write.specs.declared.write.ObjectWords.{ObjectWords}
+use Rattle.store_write.specs.declared.write.PropertyWords.{PropertyWords}
+use Rattle.store.specs.Store.{Store, put, add, replaceAt, withChange, own, withProperty, withoutProperty, maximumObjects, maximumProperties}
+use Rattle.store.specs.Words.{storeSize, wordAt, headOf, firstOf, secondOf, flagsOf, primary, secondary, storeOf, isStore, withObject, withNewObject, withRow, withNewRow, withoutRow}
+
+-- the value is read back from its words, as every value of a run is
+pub record Fits (v : Value) : Type 0 where
+  pub again : valueOf (kindOf v) (payloadOf v) ≡ v
+
+abbrev pub prototypeFits : Object → Type 0
+prototypeFits (object.Ordinary r) = Fits (r .prototype)
+prototypeFits (object.Proxy p) = Unit
+
+pub record FitsObject (x : Object) : Type 0 where
+  pub prototype : prototypeFits x
+
+pub record FitsProperty (p : Property) : Type 0 where
+  pub first : Fits (primary p)
+  pub second : Fits (secondary p)
+
+-- the words that the code makes of an object, and of a property
+pub record ObjectCells (x : Object) (r : ObjectWords) : Type 0 where
+  pub head : r .head ≡ headOf x
+  pub first : r .first ≡ firstOf x
+  pub second : r .second ≡ secondOf x
+  pub fits : FitsObject x
+
+pub record PropertyCells (p : Property) (r : PropertyWords) : Type 0 where
+  pub flags : r .flags ≡ flagsOf p
+  pub kind : r .kind ≡ kindOf (primary p)
+  pub payload : r .payload ≡ payloadOf (primary p)
+  pub second-kind : r .«second_kind» ≡ kindOf (secondary p)
+  pub second-payload : r .«second_payload» ≡ payloadOf (secondary p)
+  pub fits : FitsProperty p
+
+-- the number of the string or the symbol that a key is
+abbrev pub numberIn : PropertyKey → ℕ
+numberIn (String s) = s
+numberIn (Symbol s) = s
+
+-- the store after a write
+abbrev pub applied : Write → Store → Store
+applied write.Nothing σ = σ
+applied (write.Object o x) σ = put σ o x
+applied (write.NewObject x) σ = add σ x
+applied (write.Change i p) σ = withChange σ i p
+applied (write.Add o k p) σ = withProperty σ o k p
+applied (write.Remove o k) σ = withoutProperty σ o k
+
+-- the words after a write
+abbrev pub writtenTo : Write → List ℕ → List ℕ
+writtenTo write.Nothing words = words
+writtenTo (write.Object o x) words = withObject words o x
+writtenTo (write.NewObject x) words = withNewObject words x
+writtenTo (write.Change i p) words = withRow words i p
+writtenTo (write.Add o k p) words = withNewRow words o k p
+writtenTo (write.Remove o k) words = withoutRow words o k
+
+-- an owner and a key that one word can join
+pub record Joins (o : ℕ) (k : PropertyKey) : Type 0 where
+  pub owner : o < maximumObjects
+  pub number : numberIn k < 2 ^ 58
+
+-- a property that is new and has room
+pub record New (words : List ℕ) (o : ℕ) (k : PropertyKey) : Type 0 where
+  pub room : wordAt words 1 < maximumProperties
+  pub joins : Joins o k
+  pub absent : own (storeOf words) o k ≡ Absent
+
+abbrev pub within : Write → List ℕ → Type 0
+within write.Nothing words = Unit
+within (write.Object o x) words = o < wordAt words 0
+within (write.NewObject x) words = wordAt words 0 < maximumObjects
+within (write.Change i p) words = i < wordAt words 1
+within (write.Add o k p) words = New words o k
+within (write.Remove o k) words = Joins o k
+
+-- the words are a store, and the write is one that it can take
+pub record fitsIn (w : Write) (words : List ℕ) : Type 0 where
+  pub store : isStore words ≡ true
+  pub bounds : within w words
+
+-- the words are exactly these now, and the store that they hold is this one
+pub record Becomes (after expected : List ℕ) (σ : Store) : Type 0 where
+  pub words : after ≡ expected
+  pub store : storeOf after ≡ σ
+  pub kept : isStore after ≡ true
+
+-- the words of an empty store: only the two counts change
+abbrev pub emptied : List ℕ → List ℕ
+emptied words = cond (eqb (length words) storeSize) (set (set words 0 0) 1 0) words
