@@ -40,15 +40,18 @@ answerEnd bytes i =
     (pick (eqb (byteAt bytes i) 3) (i + 3 + valueSize * keyCountAt bytes i)
     (i + 1 + valueSize))
 
--- refusal 1 over the answer at i
-unfoldable pub isAnswerAt : List ℕ → ℕ → Bool
-isAnswerAt bytes i =
-    leb (answerEnd bytes i) (length bytes)
-    && pick (eqb (byteAt bytes i) 1) (isValueAt bytes (i + 1))
+-- the values and the descriptor of the answer at i are well formed
+abbrev pub isBodyAt : List ℕ → ℕ → Bool
+isBodyAt bytes i =
+    pick (eqb (byteAt bytes i) 1) (isValueAt bytes (i + 1))
     (pick (eqb (byteAt bytes i) 2) (isDescriptorAt bytes (i + 1))
     (pick (eqb (byteAt bytes i) 3) (leb (keyCountAt bytes i) 256 && areValuesAt bytes (i + 3) (keyCountAt bytes i))
     (pick (eqb (byteAt bytes i) 4) (isValueAt bytes (i + 1))
     false)))
+
+-- refusal 1 over the answer at i
+unfoldable pub isAnswerAt : List ℕ → ℕ → Bool
+isAnswerAt bytes i = leb (answerEnd bytes i) (length bytes) && isBodyAt bytes i
 
 -- n answers from i on, as far as they are there
 unfoldable pub answersAt : List ℕ → ℕ → ℕ → List Answer

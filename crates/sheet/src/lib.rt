@@ -1,0 +1,25 @@
+// Answer sheets as byte records, and refusals 1 to 3 over them.
+use property::DescriptorObject;
+use value::Value;
+
+mod answers;
+
+pub use answers::is_sheet;
+pub use answers::next_answer;
+pub use answers::sheet_made;
+pub use answers::sheet_known;
+
+// Where an answer ends, or that it would end past the sheet.
+pub enum AnswerEnd {
+    At(usize),
+    Past,
+}
+
+// The next answer of a sheet, and the place of the one after it. A key list is its first place and its count.
+pub enum NextAnswer {
+    NoAnswer,
+    Value(Value, usize),
+    Descriptor(DescriptorObject, usize),
+    Keys(usize, usize, usize),
+    Throw(Value, usize),
+}
