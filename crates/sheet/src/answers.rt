@@ -1,11 +1,11 @@
 // An answer sheet: a count, then that many answers.
 use crate::AnswerEnd;
-use record::Counts;
 use crate::NextAnswer;
-use record::Test;
 use parts::bytes;
 use parts::descriptor;
 use parts::tests;
+use record::Counts;
+use record::Test;
 ghost use mathlib.Core.Path.{_≡_};
 ghost use mathlib.Core.Bool.{_&&_};
 ghost use Prim.Native.Nat.{_+_, _*_, _<_, _≤_};

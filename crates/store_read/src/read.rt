@@ -7,13 +7,13 @@ ghost use lib.ListN.{length};
 ghost use Rattle.store.specs.Store as store;
 ghost use Rattle.store.specs.Words.{isStore, storeOf, objectOf, propertyIn};
 ghost use Rattle.store_read.specs.Answers.{objectFound, findPlace, firstPlace, keyWords};
-use store::Object;
 use crate::ObjectFound;
-use store::OrdinaryObject;
 use crate::Place;
-use store::ProxyObject;
 use property::OwnProperty;
 use property::Property;
+use store::Object;
+use store::OrdinaryObject;
+use store::ProxyObject;
 use value::PropertyKey;
 
 const STORE_SIZE: usize = 1634;

@@ -1,6 +1,6 @@
 // Writes to the store's words. Each changes the words that its definition names, and no other.
-use store::Object;
 use property::Property;
+use store::Object;
 use value::PropertyKey;
 ghost use mathlib.Core.Path.{_≡_};
 ghost use mathlib.Core.Bool.{true};
