@@ -22,11 +22,12 @@ use Rattle.internal_methods.proofs.Budget as met
 use Rattle.internal_methods.proofs.Longer.{Suffix, spent-reads-all}
 use Rattle.internal_methods.proofs.Longer as longer
 use Rattle.record.specs.Sheet.{sheetOf}
+use Rattle.record.specs.Tests.{firstFailing}
 use Rattle.lasting.specs.Operation.{asked}
 use Rattle.lasting.specs.Perform.{Result, maximumCalls, perform}
-use Rattle.lasting.specs.Response.{Ending, refused, result, typeError, thrown, Response, Effect, firstFailing}
+use Rattle.lasting.specs.Response.{Ending, refused, result, typeError, thrown, Response, Effect}
 use Rattle.lasting.specs.Step.{contextOf, recordTests, outputHolds, refusing, withStore, completed, ended, ran, tested, step}
-use Rattle.lasting.specs.Alone.{enterString, entered}
+use Rattle.lasting.specs.StringEntry.{enterString, entered}
 use Rattle.lasting.specs.Run.{Call, effect, worldFrom, worldAt}
 use Rattle.lasting.specs.Run as call
 use Rattle.lasting.specs.Refusals.{NoRoom, Refusal, malformed, spent, unreadable, exhausted, short, Accepted, by-result, by-typeError, by-throw, Unless, is-result, otherwise, LeftOf, leftIn, StepDecided, EntryRefusal, long, EntryDecided}

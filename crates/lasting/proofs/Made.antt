@@ -21,11 +21,10 @@ use Rattle.internal_methods.specs.Monad.{Answer}
 use Rattle.internal_methods.proofs.StoreClosed.{Made, MadeValue, MadeObject, Closed, closed-object, closed-after}
 use Rattle.internal_methods.proofs.Budget.{MadeAnswer, MadeAnswers, nil, cons}
 use Rattle.record.specs.declared.Step.{Step}
-use Rattle.record.specs.Tests.{Counts, isMade, descriptorPasses}
+use Rattle.record.specs.Tests.{Counts, isMade, descriptorPasses, failing, firstFailing}
 use Rattle.record.specs.Step.{stepOf, usesObject, stepPasses, areObjectsMade, unless}
 use Rattle.record.specs.Sheet.{sheetOf, answerPasses, sheetPasses}
 use Rattle.lasting.specs.Operation.{Operation, makeObject, makeProxy, revoke, getPrototypeOf, setPrototypeOf, isExtensible, preventExtensions, getOwnProperty, defineOwnProperty, hasProperty, get, set, delete, ownPropertyKeys, operationOf, asked}
-use Rattle.lasting.specs.Response.{failing, firstFailing}
 use Rattle.lasting.specs.Step.{countsOf, recordTests}
 
 -- the objects that an operation names are made

@@ -14,12 +14,13 @@ use Rattle.internal_methods.specs.Monad.{State, state, Out, failed, done}
 use Rattle.internal_methods.proofs.Ensures.{Ensures}
 use Rattle.internal_methods.proofs.Later.{Grows, grows-refl, grows-trans}
 use Rattle.record.specs.Sheet.{sheetOf}
+use Rattle.record.specs.Tests.{firstFailing}
 use Rattle.lasting.specs.Operation.{Operation, asked}
 use Rattle.lasting.specs.Perform.{Result, maximumCalls, perform}
-use Rattle.lasting.specs.Response.{Effect, Response, firstFailing}
+use Rattle.lasting.specs.Response.{Effect, Response}
 use Rattle.lasting.specs.Step.{recordTests, contextOf, outputHolds, withStore, completed, ended, ran, tested}
 use Rattle.lasting.specs.Step
-use Rattle.lasting.specs.Alone.{enterString, entered}
+use Rattle.lasting.specs.StringEntry.{enterString, entered}
 use Rattle.lasting.specs.Run.{Call, step, effect, Event, runFrom, run, worldFrom, worldAt}
 use Rattle.lasting.specs.Run
 use Rattle.lasting.specs.Lasting.{At, Tells}

@@ -9,8 +9,9 @@ use Rattle.internal_methods.specs.declared.Failure.{Failure}
 use Rattle.internal_methods.specs.declared.Failure.the-variants.{Refused, TypeError, Thrown}
 use Rattle.internal_methods.specs.Monad.{Answer, State, state, Out, failed, done}
 use Rattle.record.specs.Sheet.{sheetOf}
+use Rattle.record.specs.Tests.{firstFailing}
 use Rattle.lasting.specs.Perform.{Result}
-use Rattle.lasting.specs.Response.{Ending, refused, result, typeError, thrown, Response, Effect, firstFailing}
+use Rattle.lasting.specs.Response.{Ending, refused, result, typeError, thrown, Response, Effect}
 use Rattle.lasting.specs.Step.{recordTests, outputHolds, outputAfter, withStore, completed, ended, ran, tested, step}
 
 -- the step was run to this result, and left this world

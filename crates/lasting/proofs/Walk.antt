@@ -20,11 +20,11 @@ use Rattle.internal_methods.proofs.Ensures.{Ensures, ensures-pure, ensures-fail
 use Rattle.internal_methods.proofs.StoreClosed.{MadeValue, MadeObject}
 use Rattle.internal_methods.proofs.Chain.{Chain, value, Ends, proxies-alike, walk-enough, ends-put, ends-add, setPrototypeOf-ends, preventExtensions-ends, defineOwnProperty-ends, set-ends, delete-ends}
 use Rattle.record.specs.Sheet.{sheetOf}
+use Rattle.record.specs.Tests.{firstFailing}
 use Rattle.lasting.specs.Operation.{Operation, makeObject, makeProxy, revoke, getPrototypeOf, setPrototypeOf, isExtensible, preventExtensions, getOwnProperty, defineOwnProperty, hasProperty, get, set, delete, ownPropertyKeys, asked}
 use Rattle.lasting.specs.Perform.{Result, keys, ownResult, boolean, reading, writing, make, revoked, maximumCalls, perform}
-use Rattle.lasting.specs.Response.{firstFailing}
 use Rattle.lasting.specs.Step.{contextOf, recordTests, outputHolds, completed, ended, ran, tested, step}
-use Rattle.lasting.specs.Alone.{enterString, entered}
+use Rattle.lasting.specs.StringEntry.{enterString, entered}
 use Rattle.lasting.specs.Run.{Call, effect, worldFrom, worldAt}
 use Rattle.lasting.specs.Run as call
 use Rattle.lasting.proofs.Made.{MadeOperation, names-made}

@@ -2,7 +2,7 @@ pub mod Operation
 pub mod Perform
 pub mod Response
 pub mod Step
-pub mod Alone
+pub mod StringEntry
 pub mod Run
 pub mod Rows
 pub mod Lasting

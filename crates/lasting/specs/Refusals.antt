@@ -13,11 +13,12 @@ use Rattle.store.specs.Store.{Store, World, maximumObjects, maximumProperties}
 use Rattle.internal_methods.specs.declared.Failure.the-variants.{Refused}
 use Rattle.internal_methods.specs.Monad.{Answer, State, state, Out, failed, done}
 use Rattle.record.specs.Sheet.{sheetOf}
+use Rattle.record.specs.Tests.{firstFailing}
 use Rattle.lasting.specs.Operation.{asked}
 use Rattle.lasting.specs.Perform.{Result, maximumCalls, perform}
-use Rattle.lasting.specs.Response.{Ending, refused, result, typeError, thrown, Response, Effect, firstFailing}
+use Rattle.lasting.specs.Response.{Ending, refused, result, typeError, thrown, Response, Effect}
 use Rattle.lasting.specs.Step.{contextOf, recordTests, outputHolds, refusing, ran, step}
-use Rattle.lasting.specs.Alone.{enterString}
+use Rattle.lasting.specs.StringEntry.{enterString}
 
 -- 32 objects, or 256 properties
 pub data NoRoom (ω : World) : Type 0 where

@@ -1,8 +1,6 @@
 -- How a call of the interface ends, and the numbers that stand for it. Assumes nothing.
 use Prim.Native.Nat.{ℕ}
-use mathlib.Core.List.{List, [], _∷_}
-use mathlib.Core.Bool.{Bool, true, false}
-use mathlib.Core.Option.{Option, none, some}
+use mathlib.Core.List.{List}
 use lib.ListN.{length}
 use Rattle.value.specs.declared.Value.{Value}
 use Rattle.store.specs.Store.{World}
@@ -64,13 +62,3 @@ refusalOrMessage (outcome.Refused n) = n
 refusalOrMessage (outcome.Result c) = 0
 refusalOrMessage (outcome.TypeError n) = n
 refusalOrMessage (outcome.Thrown v) = 0
-
--- the number of a test that does not pass, or what the later tests give
-abbrev pub failing : Bool → ℕ → Option ℕ → Option ℕ
-failing false n later = some n
-failing true n later = later
-
--- the number of the first test that does not pass
-unfoldable pub firstFailing : List (ℕ × Bool) → Option ℕ
-firstFailing [] = none
-firstFailing (t ∷ ts) = failing (t .1) (t .0) (firstFailing ts)

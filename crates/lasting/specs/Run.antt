@@ -4,7 +4,7 @@ use mathlib.Core.List.{List, [], _∷_}
 use Rattle.store.specs.Store.{World, empty}
 use Rattle.lasting.specs.Response.{Response, Effect}
 use Rattle.lasting.specs.Step
-use Rattle.lasting.specs.Alone.{enterString}
+use Rattle.lasting.specs.StringEntry.{enterString}
 
 -- a step with its sheet and its output, of any content and length; or a string's code units
 pub data Call : Type 0 where

@@ -1,5 +1,7 @@
 -- Refusals 2, 3 and 4 over a value and a descriptor. Assumes nothing.
 use Prim.Native.Nat.{ℕ}
+use mathlib.Core.Option.{Option, none, some}
+use mathlib.Core.List.{List, [], _∷_}
 use mathlib.Core.Bool.{Bool, true, false, not, _&&_, _||_}
 use lib.Dec.{ltb}
 use Rattle.value.specs.declared.Value.{Value}
@@ -56,3 +58,13 @@ descriptorPasses test d = fieldPasses test (d .value) && (fieldPasses test (d .g
 -- 4: it mixes value or writable with get or set, or its get or set is neither undefined nor a function
 unfoldable pub isDescriptor : DescriptorObject → Bool
 isDescriptor d = not (isMixed d) && (not (isUncallable (d .get)) && not (isUncallable (d .set)))
+
+-- the number of a test that does not pass, or what the later tests give
+abbrev pub failing : Bool → ℕ → Option ℕ → Option ℕ
+failing false n later = some n
+failing true n later = later
+
+-- the number of the first test that does not pass
+unfoldable pub firstFailing : List (ℕ × Bool) → Option ℕ
+firstFailing [] = none
+firstFailing (t ∷ ts) = failing (t .1) (t .0) (firstFailing ts)
