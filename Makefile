@@ -1,11 +1,20 @@
-# rt is Rattle's command: it proves the crates of crates.txt.
-.PHONY: run test
+# rt is Rattle's command: it proves the crates of crates.txt and runs their programs.
+.PHONY: run test vectors messages
 
-# What can be run today: the check of the definitions, the proved rows and the theorems.
+# What can be run today: the leaves against the outside vectors.
 run:
-	rt check
+	rt check vectors
+	target/bin/vectors < crates/vectors/stdin
 
 # The gate. rt ci comes last: it starts from nothing and ends in 'N passed, 0 failed'.
 test:
 	rt fmt --check
 	rt ci
+
+# The outside vectors, made anew: the same bytes, unless tests/vectors.mjs changed.
+vectors:
+	node tests/vectors.mjs > crates/vectors/stdin
+
+# The message table against boa_engine's source, which lies in the folder BOA.
+messages:
+	python3 tests/messages.py $(BOA)
