@@ -1,10 +1,11 @@
 -- Completing, validating and merging descriptors by themselves: refusals 1 to 4 over the records, then 5, then 6. Assumes nothing.
 use Prim.Native.Nat.{ℕ}
-use mathlib.Core.Bool.{Bool, true, false, _&&_}
+use mathlib.Core.Bool.{Bool, true, false, _&&_, cond}
 use mathlib.Core.Option.{Option, none, some}
 use mathlib.Core.List.{List, [], _∷_}
 use lib.Dec.{eqb}
 use lib.ListN.{length}
+use Rattle.property.specs.declared.DescriptorObject.{DescriptorObject}
 use Rattle.property.specs.declared.PropertyDescriptor.{PropertyDescriptor}
 use Rattle.property.specs.declared.Property.{Property}
 use Rattle.property.specs.declared.OwnProperty.{OwnProperty}
@@ -19,6 +20,10 @@ use Rattle.alone.specs.declared.DescriptorAnswer.{DescriptorAnswer}
 use Rattle.alone.specs.declared.DescriptorAnswer.the-variants as answer
 use Rattle.alone.specs.declared.Verdict.{Verdict}
 use Rattle.alone.specs.declared.Verdict.the-variants as verdict
+use Rattle.alone.specs.declared.Reading.{Reading}
+use Rattle.alone.specs.declared.Reading.the-variants.{Malformed, Record}
+use Rattle.alone.specs.declared.Refusal.{Refusal}
+use Rattle.alone.specs.declared.Refusal.the-variants.{Passed, Failed}
 
 -- refusal 1 over one record, and 2 to 4
 abbrev pub isRecord : List ℕ → Bool
@@ -90,3 +95,22 @@ merged d current none = mergedOver d current
 -- merging by itself: boa's current.fill_with(desc)
 unfoldable pub mergeAlone : Counts → List ℕ → List ℕ → DescriptorAnswer
 mergeAlone n current bytes = merged (descriptorOf bytes) (propertyOf (descriptorOf current)) (twoRefusal n current bytes)
+
+-- what the code reads and tests in steps: a record, and the tests after the first
+unfoldable pub readOf : List ℕ → Reading
+readOf bytes = cond (isRecord bytes) (Record (descriptorAt bytes 0)) Malformed
+
+abbrev pub refusal : Option ℕ → Refusal
+refusal none = Passed
+refusal (some i) = Failed i
+
+unfoldable pub laterOne : Counts → DescriptorObject → Option ℕ
+laterOne n d = firstFailing ((2, descriptorPasses (isMade n) d) ∷ (3, descriptorPasses (isKnown n) d) ∷ (4, isDescriptor d) ∷ [])
+
+unfoldable pub laterTwo : Counts → DescriptorObject → DescriptorObject → Option ℕ
+laterTwo n a b =
+    firstFailing
+    ((2, descriptorPasses (isMade n) a && descriptorPasses (isMade n) b)
+    ∷ (3, descriptorPasses (isKnown n) a && descriptorPasses (isKnown n) b)
+    ∷ (4, isDescriptor a && isDescriptor b)
+    ∷ [])
