@@ -27,7 +27,7 @@ use Rattle.alone.specs.declared.Reading.{Reading}
 use Rattle.alone.specs.declared.Reading.the-variants.{Malformed, Record}
 use Rattle.alone.specs.declared.Refusal.{Refusal}
 use Rattle.alone.specs.declared.Refusal.the-variants.{Passed, Failed}
-use Rattle.alone.specs.Alone.{isRecord, readOf, refusal, laterOne, laterTwo, completed, validated, validatedAbsent, merged, mergedWith, completeAlone, validateAlone, mergeAlone}
+use Rattle.alone.specs.Alone.{isRecord, readOf, refusal, later, laterOne, laterTwo, completed, validated, validatedAbsent, merged, mergedWith, completeAlone, validateAlone, mergeAlone}
 
 pub is-failed : (o : Option ℕ) (r : Refusal) (i : ℕ) → r ≡ refusal o → r ≡ Failed i → o ≡ some i
 is-failed none r i e f = cc
@@ -92,21 +92,21 @@ Merged n c d b = merged (toPropertyDescriptor d) (propertyOf (toPropertyDescript
 
 -- the three by what is read
 complete-is : (n : Counts) (bytes : List ℕ) → completeAlone n bytes ≡ Completed n (descriptorAt bytes 0) (isRecord bytes)
-unfolding completeAlone laterOne firstFailing
+unfolding completeAlone laterOne later firstFailing
 complete-is n bytes = refl
 
 absent-is : (n : Counts) (x : Bool) (bytes current : List ℕ) → length current ≡ 0 → validateAlone n x bytes current ≡ ValidatedAbsent n x (descriptorAt bytes 0) (isRecord bytes)
-unfolding validateAlone laterOne firstFailing
+unfolding validateAlone laterOne later firstFailing
 absent-is n x bytes [] h = refl
 absent-is n x bytes (b ∷ current) h = absurd (omega arith)
 
 present-is : (n : Counts) (x : Bool) (bytes current : List ℕ) → (length current ≡ 0 → ⊥) → validateAlone n x bytes current ≡ Validated n x (descriptorAt bytes 0) (descriptorAt current 0) (isRecord bytes && isRecord current)
-unfolding validateAlone laterTwo firstFailing
+unfolding validateAlone laterTwo later firstFailing
 present-is n x bytes [] h = absurd (h refl)
 present-is n x bytes (b ∷ current) h = refl
 
 merge-is : (n : Counts) (current bytes : List ℕ) → mergeAlone n current bytes ≡ Merged n (descriptorAt current 0) (descriptorAt bytes 0) (isRecord current && isRecord bytes)
-unfolding mergeAlone laterTwo firstFailing
+unfolding mergeAlone laterTwo later firstFailing
 merge-is n current bytes = refl
 
 pub complete-malformed : (n : Counts) (bytes : List ℕ) → readOf bytes ≡ Malformed → answer.Refused 1 ≡ completeAlone n bytes

@@ -104,13 +104,15 @@ abbrev pub refusal : Option ℕ → Refusal
 refusal none = Passed
 refusal (some i) = Failed i
 
+unfoldable pub later : Bool → Bool → Bool → Option ℕ
+later made known usable = firstFailing ((2, made) ∷ (3, known) ∷ (4, usable) ∷ [])
+
 unfoldable pub laterOne : Counts → DescriptorObject → Option ℕ
-laterOne n d = firstFailing ((2, descriptorPasses (isMade n) d) ∷ (3, descriptorPasses (isKnown n) d) ∷ (4, isDescriptor d) ∷ [])
+laterOne n d = later (descriptorPasses (isMade n) d) (descriptorPasses (isKnown n) d) (isDescriptor d)
 
 unfoldable pub laterTwo : Counts → DescriptorObject → DescriptorObject → Option ℕ
 laterTwo n a b =
-    firstFailing
-    ((2, descriptorPasses (isMade n) a && descriptorPasses (isMade n) b)
-    ∷ (3, descriptorPasses (isKnown n) a && descriptorPasses (isKnown n) b)
-    ∷ (4, isDescriptor a && isDescriptor b)
-    ∷ [])
+    later
+    (descriptorPasses (isMade n) a && descriptorPasses (isMade n) b)
+    (descriptorPasses (isKnown n) a && descriptorPasses (isKnown n) b)
+    (isDescriptor a && isDescriptor b)

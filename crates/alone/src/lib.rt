@@ -13,7 +13,7 @@ ghost use mathlib.Core.Bool.{_&&_};
 ghost use Rattle.property.specs.Descriptor.{toPropertyDescriptor};
 ghost use Rattle.property.specs.Validate.{validate, propertyOf};
 ghost use Rattle.record.specs.Tests.{asks, descriptorPasses, isDescriptor};
-ghost use Rattle.alone.specs.Alone.{readOf, refusal, laterOne, laterTwo, completed, judged, validatedOver, validated, validatedAbsent, mergedOver, merged, completeAlone, validateAlone, mergeAlone};
+ghost use Rattle.alone.specs.Alone.{readOf, refusal, later, laterOne, laterTwo, completed, judged, validatedOver, validated, validatedAbsent, mergedOver, merged, completeAlone, validateAlone, mergeAlone};
 
 // A refusal by its number, or the property that the descriptors make.
 pub enum DescriptorAnswer {
@@ -52,13 +52,13 @@ fn read(bytes: &[u8]) -> Reading
     Reading::Malformed
 }
 
-// Refusals 2 to 4 over one descriptor.
-fn one_refusal(n: Counts, d: DescriptorObject) -> Refusal
-    ensures { λ r. ⌜ r ≡ refusal (laterOne n d) ⌝ }
+// Refusals 2 to 4, by whether each test passes.
+fn first_failing(made: bool, known: bool, usable: bool) -> Refusal
+    ensures { λ r. ⌜ r ≡ refusal (later made known usable) ⌝ }
 {
-    if tests::descriptor_passes(Test::Made, n, d) {
-        if tests::descriptor_passes(Test::Known, n, d) {
-            if tests::is_descriptor(d) {
+    if made {
+        if known {
+            if usable {
                 return Refusal::Passed;
             }
             return Refusal::Failed(4);
@@ -66,6 +66,15 @@ fn one_refusal(n: Counts, d: DescriptorObject) -> Refusal
         return Refusal::Failed(3);
     }
     Refusal::Failed(2)
+}
+
+fn one_refusal(n: Counts, d: DescriptorObject) -> Refusal
+    ensures { λ r. ⌜ r ≡ refusal (laterOne n d) ⌝ }
+{
+    let made = tests::descriptor_passes(Test::Made, n, d);
+    let known = tests::descriptor_passes(Test::Known, n, d);
+    let usable = tests::is_descriptor(d);
+    first_failing(made, known, usable)
 }
 
 fn both_pass(test: Test, n: Counts, a: DescriptorObject, b: DescriptorObject) -> bool
@@ -86,20 +95,14 @@ fn are_descriptors(a: DescriptorObject, b: DescriptorObject) -> bool
     false
 }
 
-// Refusals 2 to 4 over two descriptors: each number over both before the next.
+// Each number is tested over both before the next.
 fn two_refusal(n: Counts, a: DescriptorObject, b: DescriptorObject) -> Refusal
     ensures { λ r. ⌜ r ≡ refusal (laterTwo n a b) ⌝ }
 {
-    if both_pass(Test::Made, n, a, b) {
-        if both_pass(Test::Known, n, a, b) {
-            if are_descriptors(a, b) {
-                return Refusal::Passed;
-            }
-            return Refusal::Failed(4);
-        }
-        return Refusal::Failed(3);
-    }
-    Refusal::Failed(2)
+    let made = both_pass(Test::Made, n, a, b);
+    let known = both_pass(Test::Known, n, a, b);
+    let usable = are_descriptors(a, b);
+    first_failing(made, known, usable)
 }
 
 fn complete_read(n: Counts, d: DescriptorObject) -> DescriptorAnswer
