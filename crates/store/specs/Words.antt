@@ -11,11 +11,11 @@ use Rattle.value.specs.declared.PropertyKey.the-variants.{String, Symbol}
 use Rattle.value.specs.Words.{pick, kindOf, payloadOf, valueOf}
 use Rattle.property.specs.declared.Property.{Property}
 use Rattle.property.specs.declared.Property.the-variants.{Data, Accessor}
-use Rattle.text.specs.Table.{tabulate}
+use Rattle.text.specs.Table.{tabulate, stringsOf}
 use Rattle.store.specs.declared.Object.{Object}
 use Rattle.store.specs.declared.Object.the-variants.{Ordinary, Proxy}
 use Rattle.store.specs.declared.Entry.{Entry}
-use Rattle.store.specs.Store.{Store, isAt, maximumObjects, maximumProperties}
+use Rattle.store.specs.Store.{Store, World, isAt, maximumObjects, maximumProperties}
 
 abbrev pub storeSize : ℕ
 storeSize = 1634
@@ -115,6 +115,10 @@ storeOf words = record {
   objects = tabulate (objectIn words) 0 (wordAt words 0);
   properties = tabulate (entryIn words) 0 (wordAt words 1);
 }
+
+-- what the store's words and the string table's cells hold
+abbrev pub worldOf : List ℕ → List ℕ → World
+worldOf words cells = record { store = storeOf words; strings = stringsOf cells }
 
 -- the right length, and counts that a store can have
 unfoldable pub isStore : List ℕ → Bool
