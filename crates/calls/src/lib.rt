@@ -1,0 +1,67 @@
+// A call of an internal method: how it begins, what it takes of the answer sheet, and how it ends.
+use internal_methods::Failure;
+use property::DescriptorObject;
+use property::OwnProperty;
+use store::OrdinaryObject;
+use store::ProxyObject;
+use store_write::Write;
+use value::Value;
+
+mod answers;
+mod entry;
+
+pub use answers::next_boolean;
+pub use answers::next_descriptor;
+pub use answers::next_prototype;
+pub use answers::next_value;
+pub use entry::enter;
+pub use entry::has_trap;
+
+// How far a step is: the place of the next answer, how many are to come, and how many calls may still begin.
+pub struct Progress {
+    pub at: usize,
+    pub left: usize,
+    pub calls: usize,
+}
+
+// The object of a call that has begun.
+pub enum Entered {
+    Failed(Failure, Progress),
+    Ordinary(OrdinaryObject, Progress),
+    Proxy(ProxyObject, Progress),
+}
+
+// How a method ends, for each type of result.
+pub enum BooleanOut {
+    Failed(Failure, Progress),
+    Done(bool, Progress),
+}
+
+pub enum ValueOut {
+    Failed(Failure, Progress),
+    Done(Value, Progress),
+}
+
+pub enum OwnPropertyOut {
+    Failed(Failure, Progress),
+    Done(OwnProperty, Progress),
+}
+
+// A descriptor that a trap answered, or its undefined.
+pub enum DescriptorOut {
+    Failed(Failure, Progress),
+    Undefined(Progress),
+    Done(DescriptorObject, Progress),
+}
+
+// The Boolean of a method that writes, and its write.
+pub enum WriteOut {
+    Failed(Failure, Progress),
+    Done(bool, Write, Progress),
+}
+
+// What an ordinary object's method that writes answers.
+pub struct Written {
+    pub accepted: bool,
+    pub write: Write,
+}

@@ -1,0 +1,403 @@
+use Prim.Native.Nat.{ℕ, _<_}
+use borrow.Fn.Kinds.{In}
+use borrow.Fn.PlainCycle.{Measures, is, falls, and}
+use Rattle.extensibility.proofs.is_extensible.Reads as is-extensible
+use Rattle.extensibility.proofs.is_extensible.Kinds as is-extensible-kinds
+use Rattle.extensibility.proofs.+is_extensible+proxy_exotic_is_extensible.Lts-is_extensible as is-extensible-lts
+use Rattle.extensibility.proofs.proxy_exotic_is_extensible.Reads as proxy-exotic-is-extensible
+use Rattle.extensibility.proofs.proxy_exotic_is_extensible.Kinds as proxy-exotic-is-extensible-kinds
+use Rattle.extensibility.proofs.+is_extensible+proxy_exotic_is_extensible.Lts-proxy_exotic_is_extensible as proxy-exotic-is-extensible-lts
+use Rattle.calls.proofs.next_boolean.Reads as next-boolean-reads
+use Rattle.calls.proofs.enter.Reads as enter-reads
+use Rattle.calls.proofs.has_trap.Reads as has-trap-reads
+use Rattle.extensibility.proofs.ordinary_is_extensible.Reads as ordinary-is-extensible-reads
+use Rattle.extensibility.proofs.same_boolean.Reads as same-boolean-reads
+use Rattle.extensibility.proofs.+is_extensible+proxy_exotic_is_extensible.{statement}
+use Rattle.extensibility.proofs.+is_extensible+proxy_exotic_is_extensible.Tie.{close}
+
+abbrev μ-is-extensible : Measures 3 is-extensible-kinds.ps ℕ
+μ-is-extensible κs a = ?
+
+abbrev μ-proxy-exotic-is-extensible : Measures 3 proxy-exotic-is-extensible-kinds.ps ℕ
+μ-proxy-exotic-is-extensible κs a = ?
+
+abbrev is-extensible-at : ℕ → In 3 is-extensible-kinds.ps
+is-extensible-at t =
+    and 3 is-extensible-kinds.ps (is 3 is-extensible-kinds.ps μ-is-extensible t) is-extensible.Pre
+
+abbrev is-extensible-below : ℕ → In 3 is-extensible-kinds.ps
+is-extensible-below t =
+    and
+    3
+    is-extensible-kinds.ps
+    (falls 3 is-extensible-kinds.ps _<_ μ-is-extensible t)
+    is-extensible.Pre
+
+abbrev proxy-exotic-is-extensible-at : ℕ → In 3 proxy-exotic-is-extensible-kinds.ps
+proxy-exotic-is-extensible-at t =
+    and
+    3
+    proxy-exotic-is-extensible-kinds.ps
+    (is 3 proxy-exotic-is-extensible-kinds.ps μ-proxy-exotic-is-extensible t)
+    proxy-exotic-is-extensible.Pre
+
+abbrev proxy-exotic-is-extensible-below : ℕ → In 3 proxy-exotic-is-extensible-kinds.ps
+proxy-exotic-is-extensible-below t =
+    and
+    3
+    proxy-exotic-is-extensible-kinds.ps
+    (falls 3 proxy-exotic-is-extensible-kinds.ps _<_ μ-proxy-exotic-is-extensible t)
+    proxy-exotic-is-extensible.Pre
+
+-- src/lib.rt:41:11
+is-extensible-enter-requires : (t : ℕ) → is-extensible-lts.Need-enter-requires (
+  enter-reads.Asked,
+  enter-reads.Learnt,
+  ordinary-is-extensible-reads.Asked,
+  ordinary-is-extensible-reads.Learnt,
+  proxy-exotic-is-extensible-below t,
+  proxy-exotic-is-extensible.Post,
+) (is-extensible-at t) is-extensible.Post
+is-extensible-enter-requires t c κs = ?
+
+-- src/lib.rt:42:25
+is-extensible-enum-known-f : (t : ℕ) → is-extensible-lts.Need-enum-known-f (
+  enter-reads.Asked,
+  enter-reads.Learnt,
+  ordinary-is-extensible-reads.Asked,
+  ordinary-is-extensible-reads.Learnt,
+  proxy-exotic-is-extensible-below t,
+  proxy-exotic-is-extensible.Post,
+) (is-extensible-at t) is-extensible.Post
+is-extensible-enum-known-f t c = ?
+
+-- src/lib.rt:43:27
+is-extensible-enum-known-object : (t : ℕ) → is-extensible-lts.Need-enum-known-object (
+  enter-reads.Asked,
+  enter-reads.Learnt,
+  ordinary-is-extensible-reads.Asked,
+  ordinary-is-extensible-reads.Learnt,
+  proxy-exotic-is-extensible-below t,
+  proxy-exotic-is-extensible.Post,
+) (is-extensible-at t) is-extensible.Post
+is-extensible-enum-known-object t c = ?
+
+-- src/lib.rt:43:58
+is-extensible-ordinary-is-extensible-requires :
+    (t : ℕ) → is-extensible-lts.Need-ordinary-is-extensible-requires (
+      enter-reads.Asked,
+      enter-reads.Learnt,
+      ordinary-is-extensible-reads.Asked,
+      ordinary-is-extensible-reads.Learnt,
+      proxy-exotic-is-extensible-below t,
+      proxy-exotic-is-extensible.Post,
+    ) (is-extensible-at t) is-extensible.Post
+is-extensible-ordinary-is-extensible-requires t c κs = ?
+
+-- src/lib.rt:44:24
+is-extensible-enum-known-p : (t : ℕ) → is-extensible-lts.Need-enum-known-p (
+  enter-reads.Asked,
+  enter-reads.Learnt,
+  ordinary-is-extensible-reads.Asked,
+  ordinary-is-extensible-reads.Learnt,
+  proxy-exotic-is-extensible-below t,
+  proxy-exotic-is-extensible.Post,
+) (is-extensible-at t) is-extensible.Post
+is-extensible-enum-known-p t c = ?
+
+-- src/lib.rt:45:77
+is-extensible-sub-proxy-exotic-is-extensible :
+    (t : ℕ) → is-extensible-lts.Need-sub-proxy-exotic-is-extensible (
+      enter-reads.Asked,
+      enter-reads.Learnt,
+      ordinary-is-extensible-reads.Asked,
+      ordinary-is-extensible-reads.Learnt,
+      proxy-exotic-is-extensible-below t,
+      proxy-exotic-is-extensible.Post,
+    ) (is-extensible-at t) is-extensible.Post
+is-extensible-sub-proxy-exotic-is-extensible t c = ?
+
+-- src/lib.rt:45:13
+is-extensible-proxy-exotic-is-extensible-requires :
+    (t : ℕ) → is-extensible-lts.Need-proxy-exotic-is-extensible-requires (
+      enter-reads.Asked,
+      enter-reads.Learnt,
+      ordinary-is-extensible-reads.Asked,
+      ordinary-is-extensible-reads.Learnt,
+      proxy-exotic-is-extensible-below t,
+      proxy-exotic-is-extensible.Post,
+    ) (is-extensible-at t) is-extensible.Post
+is-extensible-proxy-exotic-is-extensible-requires t c κs = ?
+
+-- src/lib.rt:29:1
+is-extensible-returns : (t : ℕ) → is-extensible-lts.Need-returns (
+  enter-reads.Asked,
+  enter-reads.Learnt,
+  ordinary-is-extensible-reads.Asked,
+  ordinary-is-extensible-reads.Learnt,
+  proxy-exotic-is-extensible-below t,
+  proxy-exotic-is-extensible.Post,
+) (is-extensible-at t) is-extensible.Post
+is-extensible-returns t c = ?
+
+-- src/lib.rt:29:1
+is-extensible-returns-2 : (t : ℕ) → is-extensible-lts.Need-returns-2 (
+  enter-reads.Asked,
+  enter-reads.Learnt,
+  ordinary-is-extensible-reads.Asked,
+  ordinary-is-extensible-reads.Learnt,
+  proxy-exotic-is-extensible-below t,
+  proxy-exotic-is-extensible.Post,
+) (is-extensible-at t) is-extensible.Post
+is-extensible-returns-2 t c = ?
+
+-- src/lib.rt:29:1
+is-extensible-returns-3 : (t : ℕ) → is-extensible-lts.Need-returns-3 (
+  enter-reads.Asked,
+  enter-reads.Learnt,
+  ordinary-is-extensible-reads.Asked,
+  ordinary-is-extensible-reads.Learnt,
+  proxy-exotic-is-extensible-below t,
+  proxy-exotic-is-extensible.Post,
+) (is-extensible-at t) is-extensible.Post
+is-extensible-returns-3 t c = ?
+
+-- src/lib.rt:64:8
+proxy-exotic-is-extensible-has-trap-requires :
+    (t : ℕ) → proxy-exotic-is-extensible-lts.Need-has-trap-requires (
+      has-trap-reads.Asked,
+      has-trap-reads.Learnt,
+      next-boolean-reads.Asked,
+      next-boolean-reads.Learnt,
+      is-extensible-below t,
+      is-extensible.Post,
+      same-boolean-reads.Asked,
+      same-boolean-reads.Learnt,
+    ) (proxy-exotic-is-extensible-at t) proxy-exotic-is-extensible.Post
+proxy-exotic-is-extensible-has-trap-requires t c κs = ?
+
+-- src/lib.rt:65:15
+proxy-exotic-is-extensible-next-boolean-requires :
+    (t : ℕ) → proxy-exotic-is-extensible-lts.Need-next-boolean-requires (
+      has-trap-reads.Asked,
+      has-trap-reads.Learnt,
+      next-boolean-reads.Asked,
+      next-boolean-reads.Learnt,
+      is-extensible-below t,
+      is-extensible.Post,
+      same-boolean-reads.Asked,
+      same-boolean-reads.Learnt,
+    ) (proxy-exotic-is-extensible-at t) proxy-exotic-is-extensible.Post
+proxy-exotic-is-extensible-next-boolean-requires t c κs = ?
+
+-- src/lib.rt:66:32
+proxy-exotic-is-extensible-enum-known-f :
+    (t : ℕ) → proxy-exotic-is-extensible-lts.Need-enum-known-f (
+      has-trap-reads.Asked,
+      has-trap-reads.Learnt,
+      next-boolean-reads.Asked,
+      next-boolean-reads.Learnt,
+      is-extensible-below t,
+      is-extensible.Post,
+      same-boolean-reads.Asked,
+      same-boolean-reads.Learnt,
+    ) (proxy-exotic-is-extensible-at t) proxy-exotic-is-extensible.Post
+proxy-exotic-is-extensible-enum-known-f t c = ?
+
+-- src/lib.rt:67:30
+proxy-exotic-is-extensible-enum-known-answer :
+    (t : ℕ) → proxy-exotic-is-extensible-lts.Need-enum-known-answer (
+      has-trap-reads.Asked,
+      has-trap-reads.Learnt,
+      next-boolean-reads.Asked,
+      next-boolean-reads.Learnt,
+      is-extensible-below t,
+      is-extensible.Post,
+      same-boolean-reads.Asked,
+      same-boolean-reads.Learnt,
+    ) (proxy-exotic-is-extensible-at t) proxy-exotic-is-extensible.Post
+proxy-exotic-is-extensible-enum-known-answer t c = ?
+
+-- src/lib.rt:68:23
+proxy-exotic-is-extensible-is-extensible-requires :
+    (t : ℕ) → proxy-exotic-is-extensible-lts.Need-is-extensible-requires (
+      has-trap-reads.Asked,
+      has-trap-reads.Learnt,
+      next-boolean-reads.Asked,
+      next-boolean-reads.Learnt,
+      is-extensible-below t,
+      is-extensible.Post,
+      same-boolean-reads.Asked,
+      same-boolean-reads.Learnt,
+    ) (proxy-exotic-is-extensible-at t) proxy-exotic-is-extensible.Post
+proxy-exotic-is-extensible-is-extensible-requires t c κs = ?
+
+-- src/lib.rt:69:40
+proxy-exotic-is-extensible-enum-known-f-2 :
+    (t : ℕ) → proxy-exotic-is-extensible-lts.Need-enum-known-f-2 (
+      has-trap-reads.Asked,
+      has-trap-reads.Learnt,
+      next-boolean-reads.Asked,
+      next-boolean-reads.Learnt,
+      is-extensible-below t,
+      is-extensible.Post,
+      same-boolean-reads.Asked,
+      same-boolean-reads.Learnt,
+    ) (proxy-exotic-is-extensible-at t) proxy-exotic-is-extensible.Post
+proxy-exotic-is-extensible-enum-known-f-2 t c = ?
+
+-- src/lib.rt:70:38
+proxy-exotic-is-extensible-enum-known-extensible :
+    (t : ℕ) → proxy-exotic-is-extensible-lts.Need-enum-known-extensible (
+      has-trap-reads.Asked,
+      has-trap-reads.Learnt,
+      next-boolean-reads.Asked,
+      next-boolean-reads.Learnt,
+      is-extensible-below t,
+      is-extensible.Post,
+      same-boolean-reads.Asked,
+      same-boolean-reads.Learnt,
+    ) (proxy-exotic-is-extensible-at t) proxy-exotic-is-extensible.Post
+proxy-exotic-is-extensible-enum-known-extensible t c = ?
+
+-- src/lib.rt:71:28
+proxy-exotic-is-extensible-same-boolean-requires :
+    (t : ℕ) → proxy-exotic-is-extensible-lts.Need-same-boolean-requires (
+      has-trap-reads.Asked,
+      has-trap-reads.Learnt,
+      next-boolean-reads.Asked,
+      next-boolean-reads.Learnt,
+      is-extensible-below t,
+      is-extensible.Post,
+      same-boolean-reads.Asked,
+      same-boolean-reads.Learnt,
+    ) (proxy-exotic-is-extensible-at t) proxy-exotic-is-extensible.Post
+proxy-exotic-is-extensible-same-boolean-requires t c κs = ?
+
+-- src/lib.rt:81:9
+proxy-exotic-is-extensible-is-extensible-requires-2 :
+    (t : ℕ) → proxy-exotic-is-extensible-lts.Need-is-extensible-requires-2 (
+      has-trap-reads.Asked,
+      has-trap-reads.Learnt,
+      next-boolean-reads.Asked,
+      next-boolean-reads.Learnt,
+      is-extensible-below t,
+      is-extensible.Post,
+      same-boolean-reads.Asked,
+      same-boolean-reads.Learnt,
+    ) (proxy-exotic-is-extensible-at t) proxy-exotic-is-extensible.Post
+proxy-exotic-is-extensible-is-extensible-requires-2 t c κs = ?
+
+-- src/lib.rt:51:1
+proxy-exotic-is-extensible-returns : (t : ℕ) → proxy-exotic-is-extensible-lts.Need-returns (
+  has-trap-reads.Asked,
+  has-trap-reads.Learnt,
+  next-boolean-reads.Asked,
+  next-boolean-reads.Learnt,
+  is-extensible-below t,
+  is-extensible.Post,
+  same-boolean-reads.Asked,
+  same-boolean-reads.Learnt,
+) (proxy-exotic-is-extensible-at t) proxy-exotic-is-extensible.Post
+proxy-exotic-is-extensible-returns t c = ?
+
+-- src/lib.rt:51:1
+proxy-exotic-is-extensible-returns-2 : (t : ℕ) → proxy-exotic-is-extensible-lts.Need-returns-2 (
+  has-trap-reads.Asked,
+  has-trap-reads.Learnt,
+  next-boolean-reads.Asked,
+  next-boolean-reads.Learnt,
+  is-extensible-below t,
+  is-extensible.Post,
+  same-boolean-reads.Asked,
+  same-boolean-reads.Learnt,
+) (proxy-exotic-is-extensible-at t) proxy-exotic-is-extensible.Post
+proxy-exotic-is-extensible-returns-2 t c = ?
+
+-- src/lib.rt:51:1
+proxy-exotic-is-extensible-returns-3 : (t : ℕ) → proxy-exotic-is-extensible-lts.Need-returns-3 (
+  has-trap-reads.Asked,
+  has-trap-reads.Learnt,
+  next-boolean-reads.Asked,
+  next-boolean-reads.Learnt,
+  is-extensible-below t,
+  is-extensible.Post,
+  same-boolean-reads.Asked,
+  same-boolean-reads.Learnt,
+) (proxy-exotic-is-extensible-at t) proxy-exotic-is-extensible.Post
+proxy-exotic-is-extensible-returns-3 t c = ?
+
+-- src/lib.rt:51:1
+proxy-exotic-is-extensible-returns-4 : (t : ℕ) → proxy-exotic-is-extensible-lts.Need-returns-4 (
+  has-trap-reads.Asked,
+  has-trap-reads.Learnt,
+  next-boolean-reads.Asked,
+  next-boolean-reads.Learnt,
+  is-extensible-below t,
+  is-extensible.Post,
+  same-boolean-reads.Asked,
+  same-boolean-reads.Learnt,
+) (proxy-exotic-is-extensible-at t) proxy-exotic-is-extensible.Post
+proxy-exotic-is-extensible-returns-4 t c = ?
+
+-- src/lib.rt:51:1
+proxy-exotic-is-extensible-returns-5 : (t : ℕ) → proxy-exotic-is-extensible-lts.Need-returns-5 (
+  has-trap-reads.Asked,
+  has-trap-reads.Learnt,
+  next-boolean-reads.Asked,
+  next-boolean-reads.Learnt,
+  is-extensible-below t,
+  is-extensible.Post,
+  same-boolean-reads.Asked,
+  same-boolean-reads.Learnt,
+) (proxy-exotic-is-extensible-at t) proxy-exotic-is-extensible.Post
+proxy-exotic-is-extensible-returns-5 t c = ?
+
+pub +is-extensible+proxy-exotic-is-extensible-spec : {M : Type 1} → statement M
++is-extensible+proxy-exotic-is-extensible-spec =
+    close μ-is-extensible μ-proxy-exotic-is-extensible (λ t. is-extensible-lts.spec (
+      enter-reads.Asked,
+      enter-reads.Learnt,
+      ordinary-is-extensible-reads.Asked,
+      ordinary-is-extensible-reads.Learnt,
+      proxy-exotic-is-extensible-below t,
+      proxy-exotic-is-extensible.Post,
+    )
+    (is-extensible-at t)
+    is-extensible.Post
+    (is-extensible-enter-requires t)
+    (is-extensible-enum-known-f t)
+    (is-extensible-enum-known-object t)
+    (is-extensible-ordinary-is-extensible-requires t)
+    (is-extensible-enum-known-p t)
+    (is-extensible-sub-proxy-exotic-is-extensible t)
+    (is-extensible-proxy-exotic-is-extensible-requires t)
+    (is-extensible-returns t)
+    (is-extensible-returns-2 t)
+    (is-extensible-returns-3 t))
+    λ t. proxy-exotic-is-extensible-lts.spec (
+      has-trap-reads.Asked,
+      has-trap-reads.Learnt,
+      next-boolean-reads.Asked,
+      next-boolean-reads.Learnt,
+      is-extensible-below t,
+      is-extensible.Post,
+      same-boolean-reads.Asked,
+      same-boolean-reads.Learnt,
+    )
+    (proxy-exotic-is-extensible-at t)
+    proxy-exotic-is-extensible.Post
+    (proxy-exotic-is-extensible-has-trap-requires t)
+    (proxy-exotic-is-extensible-next-boolean-requires t)
+    (proxy-exotic-is-extensible-enum-known-f t)
+    (proxy-exotic-is-extensible-enum-known-answer t)
+    (proxy-exotic-is-extensible-is-extensible-requires t)
+    (proxy-exotic-is-extensible-enum-known-f-2 t)
+    (proxy-exotic-is-extensible-enum-known-extensible t)
+    (proxy-exotic-is-extensible-same-boolean-requires t)
+    (proxy-exotic-is-extensible-is-extensible-requires-2 t)
+    (proxy-exotic-is-extensible-returns t)
+    (proxy-exotic-is-extensible-returns-2 t)
+    (proxy-exotic-is-extensible-returns-3 t)
+    (proxy-exotic-is-extensible-returns-4 t)
+    (proxy-exotic-is-extensible-returns-5 t)
