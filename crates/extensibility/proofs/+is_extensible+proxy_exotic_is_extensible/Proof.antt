@@ -1,3 +1,10 @@
+use mathlib.Core.Path.{sym, _∙_}
+use native.Mathlib.Omega.{arith}
+use Prim.Native.Nat.{_+_, _*_}
+use borrow.Author.Needs.{needs}
+use Rattle.internal_methods.specs.Monad.{pure, fails, next, _>>=_, throwIf, if_then_else_}
+use Rattle.internal_methods.specs.Proxy.{hasTrap, proxyIsExtensible}
+use Rattle.calls.proofs.EnterLaws.{is-extensible-goes-on, proxy-deep}
 use Prim.Native.Nat.{ℕ, _<_}
 use borrow.Fn.Kinds.{In}
 use borrow.Fn.PlainCycle.{Measures, is, falls, and}
@@ -16,10 +23,10 @@ use Rattle.extensibility.proofs.+is_extensible+proxy_exotic_is_extensib
 use Rattle.extensibility.proofs.+is_extensible+proxy_exotic_is_extensible.Tie.{close}
 
 abbrev μ-is-extensible : Measures 3 is-extensible-kinds.ps ℕ
-μ-is-extensible κs a = ?
+μ-is-extensible κs a = 2 * a .1 .1 .1 .1 .1 .0
 
 abbrev μ-proxy-exotic-is-extensible : Measures 3 proxy-exotic-is-extensible-kinds.ps ℕ
-μ-proxy-exotic-is-extensible κs a = ?
+μ-proxy-exotic-is-extensible κs a = 2 * a .1 .1 .1 .1 .1 .0 + 1
 
 abbrev is-extensible-at : ℕ → In 3 is-extensible-kinds.ps
 is-extensible-at t =
@@ -58,7 +65,7 @@ is-extensible-enter-requires : (t : ℕ) → is-extensible-lts.Need-enter-requir
   proxy-exotic-is-extensible-below t,
   proxy-exotic-is-extensible.Post,
 ) (is-extensible-at t) is-extensible.Post
-is-extensible-enter-requires t c κs = ?
+is-extensible-enter-requires t c κs = c .before .before .before .pre .1 .store
 
 -- src/lib.rt:42:25
 is-extensible-enum-known-f : (t : ℕ) → is-extensible-lts.Need-enum-known-f (
@@ -69,7 +76,7 @@ is-extensible-enum-known-f : (t : ℕ) → is-extensible-lts.Need-enum-known-f (
   proxy-exotic-is-extensible-below t,
   proxy-exotic-is-extensible.Post,
 ) (is-extensible-at t) is-extensible.Post
-is-extensible-enum-known-f t c = ?
+is-extensible-enum-known-f t c = search needs
 
 -- src/lib.rt:43:27
 is-extensible-enum-known-object : (t : ℕ) → is-extensible-lts.Need-enum-known-object (
@@ -80,7 +87,7 @@ is-extensible-enum-known-object : (t : ℕ) → is-extensible-lts.Need-enum-know
   proxy-exotic-is-extensible-below t,
   proxy-exotic-is-extensible.Post,
 ) (is-extensible-at t) is-extensible.Post
-is-extensible-enum-known-object t c = ?
+is-extensible-enum-known-object t c = search needs
 
 -- src/lib.rt:43:58
 is-extensible-ordinary-is-extensible-requires :
@@ -92,7 +99,7 @@ is-extensible-ordinary-is-extensible-requires :
       proxy-exotic-is-extensible-below t,
       proxy-exotic-is-extensible.Post,
     ) (is-extensible-at t) is-extensible.Post
-is-extensible-ordinary-is-extensible-requires t c κs = ?
+is-extensible-ordinary-is-extensible-requires t c κs = search needs
 
 -- src/lib.rt:44:24
 is-extensible-enum-known-p : (t : ℕ) → is-extensible-lts.Need-enum-known-p (
@@ -103,7 +110,7 @@ is-extensible-enum-known-p : (t : ℕ) → is-extensible-lts.Need-enum-known-p (
   proxy-exotic-is-extensible-below t,
   proxy-exotic-is-extensible.Post,
 ) (is-extensible-at t) is-extensible.Post
-is-extensible-enum-known-p t c = ?
+is-extensible-enum-known-p t c = search needs
 
 -- src/lib.rt:45:77
 is-extensible-sub-proxy-exotic-is-extensible :
@@ -115,7 +122,7 @@ is-extensible-sub-proxy-exotic-is-extensible :
       proxy-exotic-is-extensible-below t,
       proxy-exotic-is-extensible.Post,
     ) (is-extensible-at t) is-extensible.Post
-is-extensible-sub-proxy-exotic-is-extensible t c = ?
+is-extensible-sub-proxy-exotic-is-extensible t c = omega (arith, proxy-deep _ _ _ _ _ (sym (c .before .before .before .enter .ensures) ∙ c .before .p .given .1))
 
 -- src/lib.rt:45:13
 is-extensible-proxy-exotic-is-extensible-requires :
@@ -127,7 +134,7 @@ is-extensible-proxy-exotic-is-extensible-requires :
       proxy-exotic-is-extensible-below t,
       proxy-exotic-is-extensible.Post,
     ) (is-extensible-at t) is-extensible.Post
-is-extensible-proxy-exotic-is-extensible-requires t c κs = ?
+is-extensible-proxy-exotic-is-extensible-requires t c κs = (omega (arith, c .before .before .before .before .before .before .before .pre .0, proxy-deep _ _ _ _ _ (sym (c .before .before .before .enter .ensures) ∙ c .before .p .given .1)), c .before .before .before .before .before .before .before .pre .1)
 
 -- src/lib.rt:29:1
 is-extensible-returns : (t : ℕ) → is-extensible-lts.Need-returns (
@@ -138,7 +145,8 @@ is-extensible-returns : (t : ℕ) → is-extensible-lts.Need-returns (
   proxy-exotic-is-extensible-below t,
   proxy-exotic-is-extensible.Post,
 ) (is-extensible-at t) is-extensible.Post
-is-extensible-returns t c = ?
+unfolding pure fails next _>>=_ throwIf if_then_else_ hasTrap proxyIsExtensible
+is-extensible-returns t c = rw (is-extensible-goes-on _ _ _ _ _, sym (c .before .before .before .enter .ensures) ∙ c .before .f .given .1)
 
 -- src/lib.rt:29:1
 is-extensible-returns-2 : (t : ℕ) → is-extensible-lts.Need-returns-2 (
@@ -149,7 +157,8 @@ is-extensible-returns-2 : (t : ℕ) → is-extensible-lts.Need-returns-2 (
   proxy-exotic-is-extensible-below t,
   proxy-exotic-is-extensible.Post,
 ) (is-extensible-at t) is-extensible.Post
-is-extensible-returns-2 t c = ?
+unfolding pure fails next _>>=_ throwIf if_then_else_ hasTrap proxyIsExtensible
+is-extensible-returns-2 t c = rw (is-extensible-goes-on _ _ _ _ _, sym (c .before .before .before .before .enter .ensures) ∙ c .before .before .object .given .1, c .ordinary-is-extensible .ensures)
 
 -- src/lib.rt:29:1
 is-extensible-returns-3 : (t : ℕ) → is-extensible-lts.Need-returns-3 (
@@ -160,7 +169,8 @@ is-extensible-returns-3 : (t : ℕ) → is-extensible-lts.Need-returns-3 (
   proxy-exotic-is-extensible-below t,
   proxy-exotic-is-extensible.Post,
 ) (is-extensible-at t) is-extensible.Post
-is-extensible-returns-3 t c = ?
+unfolding pure fails next _>>=_ throwIf if_then_else_ hasTrap proxyIsExtensible
+is-extensible-returns-3 t c = rw (is-extensible-goes-on _ _ _ _ _, sym (c .before .before .before .before .enter .ensures) ∙ c .before .before .p .given .1) (c .proxy-exotic-is-extensible .ensures)
 
 -- src/lib.rt:64:8
 proxy-exotic-is-extensible-has-trap-requires :
@@ -174,7 +184,7 @@ proxy-exotic-is-extensible-has-trap-requires :
       same-boolean-reads.Asked,
       same-boolean-reads.Learnt,
     ) (proxy-exotic-is-extensible-at t) proxy-exotic-is-extensible.Post
-proxy-exotic-is-extensible-has-trap-requires t c κs = ?
+proxy-exotic-is-extensible-has-trap-requires t c κs = search needs
 
 -- src/lib.rt:65:15
 proxy-exotic-is-extensible-next-boolean-requires :
@@ -188,7 +198,7 @@ proxy-exotic-is-extensible-next-boolean-requires :
       same-boolean-reads.Asked,
       same-boolean-reads.Learnt,
     ) (proxy-exotic-is-extensible-at t) proxy-exotic-is-extensible.Post
-proxy-exotic-is-extensible-next-boolean-requires t c κs = ?
+proxy-exotic-is-extensible-next-boolean-requires t c κs = c .before .before .before .before .before .pre .1 .table
 
 -- src/lib.rt:66:32
 proxy-exotic-is-extensible-enum-known-f :
@@ -202,7 +212,7 @@ proxy-exotic-is-extensible-enum-known-f :
       same-boolean-reads.Asked,
       same-boolean-reads.Learnt,
     ) (proxy-exotic-is-extensible-at t) proxy-exotic-is-extensible.Post
-proxy-exotic-is-extensible-enum-known-f t c = ?
+proxy-exotic-is-extensible-enum-known-f t c = search needs
 
 -- src/lib.rt:67:30
 proxy-exotic-is-extensible-enum-known-answer :
@@ -216,7 +226,7 @@ proxy-exotic-is-extensible-enum-known-answer :
       same-boolean-reads.Asked,
       same-boolean-reads.Learnt,
     ) (proxy-exotic-is-extensible-at t) proxy-exotic-is-extensible.Post
-proxy-exotic-is-extensible-enum-known-answer t c = ?
+proxy-exotic-is-extensible-enum-known-answer t c = search needs
 
 -- src/lib.rt:68:23
 proxy-exotic-is-extensible-is-extensible-requires :
@@ -230,7 +240,7 @@ proxy-exotic-is-extensible-is-extensible-requires :
       same-boolean-reads.Asked,
       same-boolean-reads.Learnt,
     ) (proxy-exotic-is-extensible-at t) proxy-exotic-is-extensible.Post
-proxy-exotic-is-extensible-is-extensible-requires t c κs = ?
+proxy-exotic-is-extensible-is-extensible-requires t c κs = (omega (arith, c .before .before .before .before .before .before .before .before .before .pre .0), c .before .before .before .before .before .before .before .before .before .pre .1)
 
 -- src/lib.rt:69:40
 proxy-exotic-is-extensible-enum-known-f-2 :
@@ -244,7 +254,7 @@ proxy-exotic-is-extensible-enum-known-f-2 :
       same-boolean-reads.Asked,
       same-boolean-reads.Learnt,
     ) (proxy-exotic-is-extensible-at t) proxy-exotic-is-extensible.Post
-proxy-exotic-is-extensible-enum-known-f-2 t c = ?
+proxy-exotic-is-extensible-enum-known-f-2 t c = search needs
 
 -- src/lib.rt:70:38
 proxy-exotic-is-extensible-enum-known-extensible :
@@ -258,7 +268,7 @@ proxy-exotic-is-extensible-enum-known-extensible :
       same-boolean-reads.Asked,
       same-boolean-reads.Learnt,
     ) (proxy-exotic-is-extensible-at t) proxy-exotic-is-extensible.Post
-proxy-exotic-is-extensible-enum-known-extensible t c = ?
+proxy-exotic-is-extensible-enum-known-extensible t c = search needs
 
 -- src/lib.rt:71:28
 proxy-exotic-is-extensible-same-boolean-requires :
@@ -272,7 +282,7 @@ proxy-exotic-is-extensible-same-boolean-requires :
       same-boolean-reads.Asked,
       same-boolean-reads.Learnt,
     ) (proxy-exotic-is-extensible-at t) proxy-exotic-is-extensible.Post
-proxy-exotic-is-extensible-same-boolean-requires t c κs = ?
+proxy-exotic-is-extensible-same-boolean-requires t c κs = search needs
 
 -- src/lib.rt:81:9
 proxy-exotic-is-extensible-is-extensible-requires-2 :
@@ -286,7 +296,7 @@ proxy-exotic-is-extensible-is-extensible-requires-2 :
       same-boolean-reads.Asked,
       same-boolean-reads.Learnt,
     ) (proxy-exotic-is-extensible-at t) proxy-exotic-is-extensible.Post
-proxy-exotic-is-extensible-is-extensible-requires-2 t c κs = ?
+proxy-exotic-is-extensible-is-extensible-requires-2 t c κs = (omega (arith, c .before .before .before .before .before .pre .0), c .before .before .before .before .before .pre .1)
 
 -- src/lib.rt:51:1
 proxy-exotic-is-extensible-returns : (t : ℕ) → proxy-exotic-is-extensible-lts.Need-returns (
@@ -299,7 +309,8 @@ proxy-exotic-is-extensible-returns : (t : ℕ) → proxy-exotic-is-extensible-lt
   same-boolean-reads.Asked,
   same-boolean-reads.Learnt,
 ) (proxy-exotic-is-extensible-at t) proxy-exotic-is-extensible.Post
-proxy-exotic-is-extensible-returns t c = ?
+unfolding pure fails next _>>=_ throwIf if_then_else_ hasTrap proxyIsExtensible
+proxy-exotic-is-extensible-returns t c = rw (sym (c .before .before .before .before .before .has-trap .ensures) ∙ c .before .before .before .before .if1 .taken, sym (c .before .before .before .next-boolean .ensures), c .before .f .given .1)
 
 -- src/lib.rt:51:1
 proxy-exotic-is-extensible-returns-2 : (t : ℕ) → proxy-exotic-is-extensible-lts.Need-returns-2 (
@@ -312,7 +323,8 @@ proxy-exotic-is-extensible-returns-2 : (t : ℕ) → proxy-exotic-is-extensible-
   same-boolean-reads.Asked,
   same-boolean-reads.Learnt,
 ) (proxy-exotic-is-extensible-at t) proxy-exotic-is-extensible.Post
-proxy-exotic-is-extensible-returns-2 t c = ?
+unfolding pure fails next _>>=_ throwIf if_then_else_ hasTrap proxyIsExtensible
+proxy-exotic-is-extensible-returns-2 t c = rw (sym (c .before .before .before .before .before .before .before .before .before .has-trap .ensures) ∙ c .before .before .before .before .before .before .before .before .if1 .taken, sym (c .before .before .before .before .before .before .before .next-boolean .ensures), c .before .before .before .before .before .answer .given .1, sym (c .before .before .before .is-extensible .ensures), c .before .f2 .given .1)
 
 -- src/lib.rt:51:1
 proxy-exotic-is-extensible-returns-3 : (t : ℕ) → proxy-exotic-is-extensible-lts.Need-returns-3 (
@@ -325,7 +337,8 @@ proxy-exotic-is-extensible-returns-3 : (t : ℕ) → proxy-exotic-is-extensible-
   same-boolean-reads.Asked,
   same-boolean-reads.Learnt,
 ) (proxy-exotic-is-extensible-at t) proxy-exotic-is-extensible.Post
-proxy-exotic-is-extensible-returns-3 t c = ?
+unfolding pure fails next _>>=_ throwIf if_then_else_ hasTrap proxyIsExtensible
+proxy-exotic-is-extensible-returns-3 t c = rw (sym (c .before .before .before .before .before .before .before .before .before .before .before .has-trap .ensures) ∙ c .before .before .before .before .before .before .before .before .before .before .if1 .taken, sym (c .before .before .before .before .before .before .before .before .before .next-boolean .ensures), c .before .before .before .before .before .before .before .answer .given .1, sym (c .before .before .before .before .before .is-extensible .ensures), c .before .before .before .extensible .given .1, sym (c .before .same-boolean .ensures) ∙ c .if2 .taken)
 
 -- src/lib.rt:51:1
 proxy-exotic-is-extensible-returns-4 : (t : ℕ) → proxy-exotic-is-extensible-lts.Need-returns-4 (
@@ -338,7 +351,8 @@ proxy-exotic-is-extensible-returns-4 : (t : ℕ) → proxy-exotic-is-extensible-
   same-boolean-reads.Asked,
   same-boolean-reads.Learnt,
 ) (proxy-exotic-is-extensible-at t) proxy-exotic-is-extensible.Post
-proxy-exotic-is-extensible-returns-4 t c = ?
+unfolding pure fails next _>>=_ throwIf if_then_else_ hasTrap proxyIsExtensible
+proxy-exotic-is-extensible-returns-4 t c = rw (sym (c .before .before .before .before .before .before .before .before .before .before .before .has-trap .ensures) ∙ c .before .before .before .before .before .before .before .before .before .before .if1 .taken, sym (c .before .before .before .before .before .before .before .before .before .next-boolean .ensures), c .before .before .before .before .before .before .before .answer .given .1, sym (c .before .before .before .before .before .is-extensible .ensures), c .before .before .before .extensible .given .1, sym (c .before .same-boolean .ensures) ∙ c .if2 .left)
 
 -- src/lib.rt:51:1
 proxy-exotic-is-extensible-returns-5 : (t : ℕ) → proxy-exotic-is-extensible-lts.Need-returns-5 (
@@ -351,7 +365,8 @@ proxy-exotic-is-extensible-returns-5 : (t : ℕ) → proxy-exotic-is-extensible-
   same-boolean-reads.Asked,
   same-boolean-reads.Learnt,
 ) (proxy-exotic-is-extensible-at t) proxy-exotic-is-extensible.Post
-proxy-exotic-is-extensible-returns-5 t c = ?
+unfolding pure fails next _>>=_ throwIf if_then_else_ hasTrap proxyIsExtensible
+proxy-exotic-is-extensible-returns-5 t c = rw (sym (c .before .before .has-trap .ensures) ∙ c .before .if1 .left) (c .is-extensible2 .ensures)
 
 pub +is-extensible+proxy-exotic-is-extensible-spec : {M : Type 1} → statement M
 +is-extensible+proxy-exotic-is-extensible-spec =
