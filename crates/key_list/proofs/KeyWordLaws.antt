@@ -1,14 +1,14 @@
 -- Laws of key lists in words. Assumes nothing.
-use Prim.Native.Nat.{ℕ, zero, suc, _+_, _*_, _/_, _%_, _<_, _≤_}
+use Prim.Native.Nat.{ℕ, suc, _+_, _/_, _%_, _<_, _≤_}
 use native.Mathlib.Omega.{arith}
 use native.Mathlib.Numerals.{add-one}
 use mathlib.Core.Path.{_≡_, refl, sym, ap, _∙_}
-use mathlib.Core.Bool.{Bool, true, false, not, _&&_, _||_, cond, false≢true, true≢false}
+use mathlib.Core.Bool.{Bool, true, false, _&&_, _||_, cond, false≢true}
 use mathlib.Core.Option.{Option, none, some}
 use mathlib.Core.List.{List, [], _∷_, _++_, map}
 use lib.Dec.{eqb, ltb}
 use lib.ListN.{length, getD, take, drop, set, drop-of-length-le}
-use lib.Seq.{length-take-le, take-suc, drop-cons, take-take, getD-take, take-set-lt, drop-drop}
+use lib.Seq.{length-take-le, take-suc, drop-cons, getD-take, take-set-lt}
 use borrow.Author.Tests.{eqb-true, eqb-false, eq-eqb, ne-eqb, ltb-true, lt-ltb, le-ltb}
 use Rattle.value.specs.declared.PropertyKey.{PropertyKey}
 use Rattle.value.specs.declared.PropertyKey.the-variants.{String, Symbol}
@@ -16,7 +16,7 @@ use Rattle.value.specs.PropertyKey.{sameKey}
 use Rattle.value.specs.Words.{pick}
 use Rattle.value.proofs.Bools.{bool-ext, or-swap}
 use Rattle.store_read.specs.Answers.{keyFromWord}
-use Rattle.internal_methods.specs.KeyList.{hasKey, withoutKey, isEmpty, duplicate, duplicateMessage, checkedOff, Sorted, remaining, required, rejected}
+use Rattle.internal_methods.specs.KeyList.{hasKey, withoutKey, isEmpty, duplicate, duplicateMessage, checkedOff, Sorted, required, rejected}
 use Rattle.internal_methods.specs.Proxy.{sortedBy}
 use Rattle.key_list.specs.KeyWords.{messageNumber, sortedFrom, markedKeys, placeOfWord, checkedMark, unchecked, unlessMissing}
 
@@ -59,24 +59,26 @@ ltb-suc a b = bool-ext _ _ (λ h. lt-ltb (suc a) (suc b) (omega (arith, ltb-true
 
 -- Where a word stands -----------------------------------------------------------------------
 
+next-word : (ws : List ℕ) (n i : ℕ) → n ≤ length ws → i < n → drop i (take n ws) ≡ getD ws i 0 ∷ drop (i + 1) (take n ws)
+next-word ws n i h l =
+    let s : i < length (take n ws) = omega (arith, length-take-le n ws h) in
+    rw (drop-cons (take n ws) i 0 s, getD-take n ws i 0 l, add-one i)
+
+no-more : (ws : List ℕ) (n i : ℕ) → n ≤ length ws → n ≤ i → drop i (take n ws) ≡ []
+no-more ws n i h l = drop-of-length-le (take n ws) {i = i} (omega (arith, length-take-le n ws h))
+
 module _ (word : ℕ) (ws : List ℕ) (i n : ℕ) (h : n ≤ length ws) where
   pub place-hit : i < n → getD ws i 0 ≡ word → i ≡ i + placeOfWord word (drop i (take n ws))
   unfolding placeOfWord
-  place-hit l e =
-      let z : getD (take n ws) i 0 ≡ word = getD-take n ws i 0 l ∙ e in
-      let s : i < length (take n ws) = omega (arith, length-take-le n ws h) in
-      rw (drop-cons (take n ws) i 0 s, eq-eqb _ _ z) (omega arith)
+  place-hit l e = rw (next-word ws n i h l, eq-eqb _ _ e) (omega arith)
 
   pub place-step : i < n → (getD ws i 0 ≡ word → ⊥) → i + placeOfWord word (drop i (take n ws)) ≡ i + 1 + placeOfWord word (drop (i + 1) (take n ws))
   unfolding placeOfWord
-  place-step l e =
-      let z : eqb (getD (take n ws) i 0) word ≡ false = ne-eqb _ _ (λ q. e (sym (getD-take n ws i 0 l) ∙ q)) in
-      let s : i < length (take n ws) = omega (arith, length-take-le n ws h) in
-      rw (drop-cons (take n ws) i 0 s, z, add-one i) (omega arith)
+  place-step l e = rw (next-word ws n i h l, ne-eqb _ _ e) (omega arith)
 
-  pub place-end : i ≤ n → n ≤ i → i ≡ i + placeOfWord word (drop i (take n ws))
+  pub place-end : n ≤ i → i ≡ i + placeOfWord word (drop i (take n ws))
   unfolding placeOfWord
-  place-end l g = rw (drop-of-length-le (take n ws) {i = i} (omega (arith, length-take-le n ws h))) (omega arith)
+  place-end l = rw (no-more ws n i h l) (omega arith)
 
 -- Step 9 --------------------------------------------------------------------------------------
 
@@ -107,24 +109,19 @@ map-append : (ws vs : List ℕ) → map keyFromWord (ws ++ vs) ≡ map keyFromWo
 map-append [] vs = refl
 map-append (w ∷ ws) vs = ap (λ (l : List PropertyKey). keyFromWord w ∷ l) (map-append ws vs)
 
--- the keys from i on, of the first n
+-- of the words from i on, with those before it
 abbrev pub duplicateFrom : List ℕ → ℕ → ℕ → Option ℕ
 duplicateFrom ws n i = duplicate (map keyFromWord (take i ws)) (map keyFromWord (drop i (take n ws)))
 
 module _ (ws : List ℕ) (n i : ℕ) (h : n ≤ length ws) (l : i < n) where
-  next-word : drop i (take n ws) ≡ getD ws i 0 ∷ drop (i + 1) (take n ws)
-  next-word =
-      let s : i < length (take n ws) = omega (arith, length-take-le n ws h) in
-      rw (drop-cons (take n ws) i 0 s, getD-take n ws i 0 l, add-one i)
-
   place-before : hasKey (keyFromWord (getD ws i 0)) (map keyFromWord (take i ws)) ≡ ltb (placeOfWord (getD ws i 0) (take i ws)) i
   place-before = place-has (getD ws i 0) (take i ws) ∙ ap (ltb (placeOfWord (getD ws i 0) (take i ws))) (length-take-le i ws (omega arith))
 
   pub duplicate-hit : placeOfWord (getD ws i 0) (take i ws) < i → 22 + getD ws i 0 % 2 ≡ messageNumber (duplicateFrom ws n i)
   unfolding duplicate
-  duplicate-hit g = rw (next-word, place-before, lt-ltb _ _ g) (sym (message-word (getD ws i 0)))
+  duplicate-hit g = rw (next-word ws n i h l, place-before, lt-ltb _ _ g) (sym (message-word (getD ws i 0)))
 
-  -- the word joins those before it
+  -- a new word joins those before it
   grown : duplicate (keyFromWord (getD ws i 0) ∷ map keyFromWord (take i ws)) (map keyFromWord (drop (i + 1) (take n ws))) ≡ duplicateFrom ws n (i + 1)
   grown =
       duplicate-same _ _ _ (λ k. sym (snoc-has k (keyFromWord (getD ws i 0)) (map keyFromWord (take i ws))))
@@ -133,11 +130,11 @@ module _ (ws : List ℕ) (n i : ℕ) (h : n ≤ length ws) (l : i < n) where
 
   pub duplicate-step : i ≤ placeOfWord (getD ws i 0) (take i ws) → duplicateFrom ws n i ≡ duplicateFrom ws n (i + 1)
   unfolding duplicate
-  duplicate-step g = rw (next-word, place-before, le-ltb _ _ g) grown
+  duplicate-step g = rw (next-word ws n i h l, place-before, le-ltb _ _ g) grown
 
 pub duplicate-end : (ws : List ℕ) (n i : ℕ) → n ≤ length ws → n ≤ i → duplicateFrom ws n i ≡ none
 unfolding duplicate
-duplicate-end ws n i h g = rw (drop-of-length-le (take n ws) {i = i} (omega (arith, length-take-le n ws h)))
+duplicate-end ws n i h g = rw (no-more ws n i h g)
 
 -- Steps 19.b and 21.b: one key is checked off -----------------------------------------------------
 
@@ -223,7 +220,7 @@ module _ (mark : ℕ) (ts : List ℕ) (m i : ℕ) (h : m ≤ length ts) where
 
   pub marked-done : m ≤ i → (us : List PropertyKey) → some us ≡ checkedOff (markedFrom mark ts m i) us
   unfolding markedKeys checkedOff
-  marked-done l us = rw (drop-of-length-le (take m ts) {i = i} (omega (arith, length-take-le m ts h)))
+  marked-done l us = rw (no-more ts m i h l)
 
 sorted-keys : (ts : List ℕ) → (sortedFrom ts .configurable ≡ markedKeys 1 ts) × (sortedFrom ts .nonconfigurable ≡ markedKeys 0 ts)
 unfolding sortedFrom markedKeys
@@ -254,7 +251,7 @@ module _ (ws : List ℕ) (n i : ℕ) (h : n ≤ length ws) where
 
   pub left-end : n ≤ i → noneLeft ws n i ≡ true
   unfolding unchecked
-  left-end l = rw (drop-of-length-le (take n ws) {i = i} (omega (arith, length-take-le n ws h)))
+  left-end l = rw (no-more ws n i h l)
 
 -- Steps 17 to 22 -------------------------------------------------------------------------------------
 
@@ -283,7 +280,7 @@ module _ (x : Bool) (ts : List ℕ) (m : ℕ) (ws : List ℕ) (n : ℕ) (h : n �
   rejected-words : answer ≡ required x (markedKeys 1 (take m ts)) (checkedOff (markedKeys 0 (take m ts)) (unchecked (take n ws)))
   rejected-words =
       let a : unchecked (take n ws) ≡ map keyFromWord (take n ws)
-          = all-unchecked (take n ws) (λ i l. let z : i < n = omega (arith, length-take-le n ws h) in rw (getD-take n ws i 0 z) (small i z)) in
+      = all-unchecked (take n ws) (λ i l. let z : i < n = omega (arith, length-take-le n ws h) in rw (getD-take n ws i 0 z) (small i z)) in
       let (p, q) = sorted-keys (take m ts) in
       rejected-required x (sortedFrom (take m ts)) (map keyFromWord (take n ws)) ∙ rw (p, q, a)
 

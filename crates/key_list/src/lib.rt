@@ -92,7 +92,13 @@ fn any_left(list: &[u64], n: usize) -> bool
 }
 
 // Steps 17 to 22: the message with which the list is rejected, or 0. The list's words are overwritten.
-pub fn rejected_message(extensible: bool, target: &[u64], m: usize, list: &mut [u64], n: usize) -> u64
+pub fn rejected_message(
+    extensible: bool,
+    target: &[u64],
+    m: usize,
+    list: &mut [u64],
+    n: usize,
+) -> u64
     requires { ⌜ (m ≤ length (now target)) × (n ≤ length (now list)) × ((i : ℕ) → i < n → getD (now list) i 0 < 512) ⌝ }
     ensures { λ r. ⌜ r ≡ messageNumber (rejected extensible (sortedFrom (take m (now (target .entry)))) (map keyFromWord (take n (now (list .entry))))) ⌝ }
 {

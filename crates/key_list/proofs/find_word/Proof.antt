@@ -25,7 +25,7 @@ loop-again : tie.Need-loop-again Inv-loop μ-loop
 loop-again c = (omega arith, c .before .before .before .loop .inv .1 ∙ place-step _ _ _ _ (c .before .before .before .before .pre) (c .before .before .loop-test .taken) (c .if1 .left))
 
 returns-2 : tie.Need-returns-2 Inv-loop μ-loop
-returns-2 c = place-end _ _ _ _ (c .before .before .pre) (c .before .loop .inv .0) (c .loop-test .left) ∙ sym (c .before .loop .inv .1)
+returns-2 c = place-end _ _ _ _ (c .before .before .pre) (c .loop-test .left) ∙ sym (c .before .loop .inv .1)
 
 pub find-word-spec : {M : Type 1} → statement M
 find-word-spec =
