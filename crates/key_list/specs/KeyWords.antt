@@ -29,7 +29,7 @@ unfoldable pub placeOfWord : ℕ → List ℕ → ℕ
 placeOfWord word [] = 0
 placeOfWord word (w ∷ ws) = cond (eqb w word) 0 (suc (placeOfWord word ws))
 
--- stands for a key that was checked off; half a word is less
+-- stands for a key that was checked off: half of a word of the target is always less
 abbrev pub checkedMark : ℕ
 checkedMark = 18446744073709551615
 
