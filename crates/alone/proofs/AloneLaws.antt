@@ -25,17 +25,7 @@ use Rattle.alone.specs.declared.Verdict.{Verdict}
 use Rattle.alone.specs.declared.Verdict.the-variants as verdict
 use Rattle.alone.specs.declared.Reading.{Reading}
 use Rattle.alone.specs.declared.Reading.the-variants.{Malformed, Record}
-use Rattle.alone.specs.declared.Refusal.{Refusal}
-use Rattle.alone.specs.declared.Refusal.the-variants.{Passed, Failed}
-use Rattle.alone.specs.Alone.{isRecord, readOf, refusal, later, laterOne, laterTwo, completed, validated, validatedAbsent, merged, mergedWith, completeAlone, validateAlone, mergeAlone}
-
-pub is-failed : (o : Option ℕ) (r : Refusal) (i : ℕ) → r ≡ refusal o → r ≡ Failed i → o ≡ some i
-is-failed none r i e f = cc
-is-failed (some j) r i e f = cc
-
-pub is-passed : (o : Option ℕ) (r : Refusal) → r ≡ refusal o → r ≡ Passed → o ≡ none
-is-passed none r e f = refl
-is-passed (some j) r e f = cc
+use Rattle.alone.specs.Alone.{isRecord, readOf, later, laterOne, laterTwo, completed, validated, validatedAbsent, merged, mergedWith, completeAlone, validateAlone, mergeAlone}
 
 pub is-absent : (o : Option Property) (r : OwnProperty) → r ≡ ownProperty o → r ≡ Absent → o ≡ none
 is-absent none r e f = refl

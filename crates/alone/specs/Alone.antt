@@ -22,8 +22,6 @@ use Rattle.alone.specs.declared.Verdict.{Verdict}
 use Rattle.alone.specs.declared.Verdict.the-variants as verdict
 use Rattle.alone.specs.declared.Reading.{Reading}
 use Rattle.alone.specs.declared.Reading.the-variants.{Malformed, Record}
-use Rattle.alone.specs.declared.Refusal.{Refusal}
-use Rattle.alone.specs.declared.Refusal.the-variants.{Passed, Failed}
 
 -- refusal 1 over one record, and 2 to 4
 abbrev pub isRecord : List ℕ → Bool
@@ -99,10 +97,6 @@ mergeAlone n current bytes = merged (descriptorOf bytes) (propertyOf (descriptor
 -- what the code reads and tests in steps: a record, and the tests after the first
 unfoldable pub readOf : List ℕ → Reading
 readOf bytes = cond (isRecord bytes) (Record (descriptorAt bytes 0)) Malformed
-
-abbrev pub refusal : Option ℕ → Refusal
-refusal none = Passed
-refusal (some i) = Failed i
 
 unfoldable pub later : Bool → Bool → Bool → Option ℕ
 later made known usable = firstFailing ((2, made) ∷ (3, known) ∷ (4, usable) ∷ [])

@@ -7,13 +7,14 @@ use property::OwnProperty;
 use property::Property;
 use property::PropertyDescriptor;
 use record::Counts;
+use record::Refusal;
 use record::Test;
 ghost use mathlib.Core.Path.{_≡_};
 ghost use mathlib.Core.Bool.{_&&_};
 ghost use Rattle.property.specs.Descriptor.{toPropertyDescriptor};
 ghost use Rattle.property.specs.Validate.{validate, propertyOf};
-ghost use Rattle.record.specs.Tests.{asks, descriptorPasses, isDescriptor};
-ghost use Rattle.alone.specs.Alone.{readOf, refusal, later, laterOne, laterTwo, completed, judged, validatedOver, validated, validatedAbsent, mergedOver, merged, completeAlone, validateAlone, mergeAlone};
+ghost use Rattle.record.specs.Tests.{asks, descriptorPasses, isDescriptor, refusal};
+ghost use Rattle.alone.specs.Alone.{readOf, later, laterOne, laterTwo, completed, judged, validatedOver, validated, validatedAbsent, mergedOver, merged, completeAlone, validateAlone, mergeAlone};
 
 // A refusal by its number, or the property that the descriptors make.
 pub enum DescriptorAnswer {
@@ -31,12 +32,6 @@ pub enum Verdict {
 pub enum Reading {
     Malformed,
     Record(DescriptorObject),
-}
-
-// The number of the first test that does not pass, if there is one.
-pub enum Refusal {
-    Passed,
-    Failed(u64),
 }
 
 // Refusal 1 over one record, else its descriptor.

@@ -13,6 +13,8 @@ use Rattle.property.specs.Descriptor.{isUncallable, isMixed}
 use Rattle.record.specs.declared.Counts as counts
 use Rattle.record.specs.declared.Test.{Test}
 use Rattle.record.specs.declared.Test.the-variants.{Made, Known}
+use Rattle.record.specs.declared.Refusal.{Refusal}
+use Rattle.record.specs.declared.Refusal.the-variants.{Passed, Failed}
 
 -- how many objects and strings there are
 abbrev pub Counts : Type 0
@@ -68,3 +70,7 @@ failing true n later = later
 unfoldable pub firstFailing : List (ℕ × Bool) → Option ℕ
 firstFailing [] = none
 firstFailing (t ∷ ts) = failing (t .1) (t .0) (firstFailing ts)
+
+abbrev pub refusal : Option ℕ → Refusal
+refusal none = Passed
+refusal (some i) = Failed i

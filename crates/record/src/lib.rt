@@ -17,6 +17,12 @@ pub struct Counts {
     pub strings: u64,
 }
 
+// The number of the first test that does not pass, if there is one.
+pub enum Refusal {
+    Passed,
+    Failed(u64),
+}
+
 // Refusals 2 and 3: what is asked of each value.
 pub enum Test {
     Made,

@@ -1,5 +1,5 @@
 use borrow.Author.Needs.{needs}
-use Rattle.alone.proofs.AloneLaws.{is-failed, is-passed}
+use Rattle.record.proofs.RefusalLaws.{is-failed, is-passed}
 use Rattle.alone.specs.Alone.{laterOne}
 use Rattle.alone.proofs.complete_read.Statement.{statement}
 use Rattle.alone.proofs.complete_read.Tie as tie

@@ -1,6 +1,6 @@
 use borrow.Author.Needs.{needs}
 use mathlib.Core.Path.{sym, _∙_}
-use Rattle.alone.proofs.AloneLaws.{is-failed, is-passed}
+use Rattle.record.proofs.RefusalLaws.{is-failed, is-passed}
 use Rattle.alone.specs.Alone.{laterOne}
 use Rattle.alone.proofs.validate_absent.Statement.{statement}
 use Rattle.alone.proofs.validate_absent.Tie as tie
