@@ -1,0 +1,2 @@
+-- Laws of the exported functions. Assumes nothing.
+use Prim.Native.Nat.{ℕ}
