@@ -39,7 +39,7 @@ key-words [] = refl
 key-words (w ∷ ws) = rw (key-word w, key-words ws)
 
 module _ (words cells : List ℕ) (o : ℕ) (before after : List ℕ) (n : ℕ)
-         (h : Listed before after n (ordinaryOwnPropertyKeys (stringsOf cells) (storeOf words) o)) where
+    (h : Listed before after n (ordinaryOwnPropertyKeys (stringsOf cells) (storeOf words) o)) where
   first-words : take n after ≡ keyWordsOf words cells o
   first-words = sym (key-words (take n after)) ∙ ap (map keyToWord) (h .listed)
 
@@ -98,7 +98,7 @@ addable words o key h =
     record { store = a; new = record { room = ltb-true _ _ p; joins = joined o key s; absent = is-absent _ t } }
 
 module _ (words row after : List ℕ) (o key : ℕ) (k : PropertyKey) (p : Property) (t : isAddable words o key ≡ true)
-         (a : k ≡ keyFromWord key) (b : p ≡ rowProperty row) (e : after ≡ withNewRow words o k p) where
+    (a : k ≡ keyFromWord key) (b : p ≡ rowProperty row) (e : after ≡ withNewRow words o k p) where
   pub add-words : after ≡ added words o key row
   unfolding added
   add-words = rw (t, ← a, ← b) e
@@ -116,7 +116,7 @@ unfolding isRemovable
 removable words o key h = let (a, b) = and-true _ _ h in record { store = a; joins = joined o key b }
 
 module _ (words after : List ℕ) (o key : ℕ) (k : PropertyKey) (t : isRemovable words o key ≡ true)
-         (a : k ≡ keyFromWord key) (e : after ≡ withoutRow words o k) where
+    (a : k ≡ keyFromWord key) (e : after ≡ withoutRow words o k) where
   pub remove-words : after ≡ removed words o key
   unfolding removed
   remove-words = rw (t, ← a) e
