@@ -1,5 +1,5 @@
 # rt is Rattle's command: it proves the crates of crates.txt and runs their programs.
-.PHONY: run test vectors messages
+.PHONY: run test bench vectors messages
 
 # What can be run today: the leaves against the outside vectors.
 run:
@@ -10,6 +10,12 @@ run:
 test:
 	rt fmt --check
 	rt ci
+
+# The store beside a Vec of structs in Rust, in ns: docs/BENCHMARKS.md. It needs rustc.
+bench:
+	rt staticlib store_export
+	rustc --edition 2021 -O -C target-cpu=x86-64 -L target/staticlib -o target/bench bench/bench.rs
+	target/bench
 
 # The outside vectors, made anew: the same bytes, unless tests/vectors.mjs changed.
 vectors:
