@@ -1,5 +1,6 @@
 -- What the code of an operation answers, and what it stands for in the definitions. Assumes nothing.
 use Prim.Native.Nat.{ℕ}
+use mathlib.Core.Path.{_≡_}
 use mathlib.Core.Bool.{Bool, true, false, cond}
 use mathlib.Core.Option.{Option, none, some}
 use mathlib.Core.List.{List, []}
@@ -36,10 +37,17 @@ abbrev pub toldPerformed : List ℕ → Store → Performed → Out (Result × S
 toldPerformed sheet σ (Failed f s) = failed f (stateOf sheet s)
 toldPerformed sheet σ (Done c w s) = done (resultOf c, applied w σ) (stateOf sheet s)
 
--- a write that is done is one that the words can take
+-- a completion that is no key list
+abbrev pub isPlain : Completion → Bool
+isPlain (completion.Value v) = true
+isPlain (completion.Descriptor p) = true
+isPlain completion.Absent = true
+isPlain (completion.Keys n) = false
+
+-- a write that is done is one that the words can take, and a completion tells all of its result
 abbrev pub Taken : List ℕ → Performed → Type 0
 Taken words (Failed f s) = Unit {0}
-Taken words (Done c w s) = fitsIn w words
+Taken words (Done c w s) = fitsIn w words × (isPlain c ≡ true)
 
 unfoldable pub makeOut : Store → Object → Progress → Performed
 makeOut σ x s = cond (ltb (length (σ .objects)) maximumObjects) (Done (completion.Value (value.Object (length (σ .objects)))) (write.NewObject x) s) (Failed (Refused 7) s)

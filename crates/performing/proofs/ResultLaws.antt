@@ -51,16 +51,17 @@ module _ (sheet : List ℕ) (σ : Store) (s : State) where
 module _ (words : List ℕ) where
   pub value-taken : isStore words ≡ true → (out : ValueOut) → Taken words (valueResult out)
   value-taken h (value.Failed f t) = tt
-  value-taken h (value.Done v t) = record { store = h; bounds = tt }
+  value-taken h (value.Done v t) = (record { store = h; bounds = tt }, refl)
 
   pub boolean-taken : isStore words ≡ true → (out : BooleanOut) → Taken words (booleanResult out)
   boolean-taken h (boolean.Failed f t) = tt
-  boolean-taken h (boolean.Done b t) = record { store = h; bounds = tt }
+  boolean-taken h (boolean.Done b t) = (record { store = h; bounds = tt }, refl)
 
   pub own-taken : isStore words ≡ true → (out : OwnPropertyOut) → Taken words (ownPropertyResult out)
   own-taken h (own.Failed f t) = tt
-  own-taken h (own.Done p t) = record { store = h; bounds = tt }
+  own-taken h (own.Done Absent t) = (record { store = h; bounds = tt }, refl)
+  own-taken h (own.Done (Present p) t) = (record { store = h; bounds = tt }, refl)
 
   pub write-taken : (out : WriteOut) → Fitting words out → Taken words (writeResult out)
   write-taken (write.Failed f t) h = tt
-  write-taken (write.Done b w t) h = h
+  write-taken (write.Done b w t) h = (h, refl)

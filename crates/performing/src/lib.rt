@@ -65,9 +65,7 @@ fn write_result(out: WriteOut) -> Performed
 {
     match out {
         WriteOut::Failed(f, s) => Performed::Failed(f, s),
-        WriteOut::Done(b, w, s) => {
-            Performed::Done(Completion::Value(Value::Boolean(b)), w, s)
-        }
+        WriteOut::Done(b, w, s) => { Performed::Done(Completion::Value(Value::Boolean(b)), w, s) }
     }
 }
 
@@ -96,7 +94,14 @@ fn is_reading(code: u64) -> bool
 }
 
 // Codes 1 to 3
-fn perform_making(words: &[u64], strings: &[u16], allowance: usize, sheet: &[u8], step: Step, s: Progress) -> Performed
+fn perform_making(
+    words: &[u64],
+    strings: &[u16],
+    allowance: usize,
+    sheet: &[u8],
+    step: Step,
+    s: Progress,
+) -> Performed
     requires { ⌜ Performable (now words) (now strings) allowance step × ((1 ≤ step .code) × (step .code < 4)) ⌝ }
     ensures { λ r. ⌜ toldPerformed (now (sheet .entry)) (storeOf (now (words .entry))) r ≡ perform maximumCalls (context (now (words .entry)) (now (strings .entry)) allowance) (operationOf step) .run (stateOf (now (sheet .entry)) s) ⌝ }
     ensures { λ r. ⌜ Taken (now (words .entry)) r ⌝ }
@@ -112,7 +117,14 @@ fn perform_making(words: &[u64], strings: &[u16], allowance: usize, sheet: &[u8]
 }
 
 // Codes 4, 6, 8, 10 and 11
-fn perform_reading(words: &[u64], strings: &[u16], allowance: usize, sheet: &[u8], step: Step, s: Progress) -> Performed
+fn perform_reading(
+    words: &[u64],
+    strings: &[u16],
+    allowance: usize,
+    sheet: &[u8],
+    step: Step,
+    s: Progress,
+) -> Performed
     requires { ⌜ Performable (now words) (now strings) allowance step × (isReading (step .code) ≡ true) ⌝ }
     ensures { λ r. ⌜ toldPerformed (now (sheet .entry)) (storeOf (now (words .entry))) r ≡ perform maximumCalls (context (now (words .entry)) (now (strings .entry)) allowance) (operationOf step) .run (stateOf (now (sheet .entry)) s) ⌝ }
     ensures { λ r. ⌜ Taken (now (words .entry)) r ⌝ }
@@ -123,30 +135,81 @@ fn perform_reading(words: &[u64], strings: &[u16], allowance: usize, sheet: &[u8
     let receiver = step.receiver;
     match code {
         4 => {
-            let out = prototypes::get_prototype_of(words, strings, allowance, sheet, o, MAXIMUM_CALLS, s);
+            let out = prototypes::get_prototype_of(
+                words,
+                strings,
+                allowance,
+                sheet,
+                o,
+                MAXIMUM_CALLS,
+                s,
+            );
             value_result(out)
         }
         6 => {
-            let out = extensibility::is_extensible(words, strings, allowance, sheet, o, MAXIMUM_CALLS, s);
+            let out = extensibility::is_extensible(
+                words,
+                strings,
+                allowance,
+                sheet,
+                o,
+                MAXIMUM_CALLS,
+                s,
+            );
             boolean_result(out)
         }
         8 => {
-            let out = own_property::get_own_property(words, strings, allowance, sheet, o, key, MAXIMUM_CALLS, s);
+            let out = own_property::get_own_property(
+                words,
+                strings,
+                allowance,
+                sheet,
+                o,
+                key,
+                MAXIMUM_CALLS,
+                s,
+            );
             own_property_result(out)
         }
         10 => {
-            let out = has_property::has_property(words, strings, allowance, sheet, o, key, MAXIMUM_CALLS, s);
+            let out = has_property::has_property(
+                words,
+                strings,
+                allowance,
+                sheet,
+                o,
+                key,
+                MAXIMUM_CALLS,
+                s,
+            );
             boolean_result(out)
         }
         _ => {
-            let out = getting::get(words, strings, allowance, sheet, o, key, receiver, MAXIMUM_CALLS, s);
+            let out = getting::get(
+                words,
+                strings,
+                allowance,
+                sheet,
+                o,
+                key,
+                receiver,
+                MAXIMUM_CALLS,
+                s,
+            );
             value_result(out)
         }
     }
 }
 
 // Codes 5, 7, 9, 12 and 13
-fn perform_writing(words: &[u64], strings: &[u16], allowance: usize, sheet: &[u8], step: Step, s: Progress) -> Performed
+fn perform_writing(
+    words: &[u64],
+    strings: &[u16],
+    allowance: usize,
+    sheet: &[u8],
+    step: Step,
+    s: Progress,
+) -> Performed
     requires { ⌜ Performable (now words) (now strings) allowance step × ((isReading (step .code) ≡ false) × ((4 ≤ step .code) × (step .code < 14))) ⌝ }
     ensures { λ r. ⌜ toldPerformed (now (sheet .entry)) (storeOf (now (words .entry))) r ≡ perform maximumCalls (context (now (words .entry)) (now (strings .entry)) allowance) (operationOf step) .run (stateOf (now (sheet .entry)) s) ⌝ }
     ensures { λ r. ⌜ Taken (now (words .entry)) r ⌝ }
@@ -159,20 +222,58 @@ fn perform_writing(words: &[u64], strings: &[u16], allowance: usize, sheet: &[u8
     let descriptor = step.descriptor;
     match code {
         5 => {
-            let out = prototype_setting::set_prototype_of(words, strings, allowance, sheet, o, v, MAXIMUM_CALLS, s);
+            let out = prototype_setting::set_prototype_of(
+                words,
+                strings,
+                allowance,
+                sheet,
+                o,
+                v,
+                MAXIMUM_CALLS,
+                s,
+            );
             write_result(out)
         }
         7 => {
-            let out = prevention::prevent_extensions(words, strings, allowance, sheet, o, MAXIMUM_CALLS, s);
+            let out = prevention::prevent_extensions(
+                words,
+                strings,
+                allowance,
+                sheet,
+                o,
+                MAXIMUM_CALLS,
+                s,
+            );
             write_result(out)
         }
         9 => {
             let d = property::to_property_descriptor(descriptor);
-            let out = definition::define_own_property(words, strings, allowance, sheet, o, key, d, MAXIMUM_CALLS, s);
+            let out = definition::define_own_property(
+                words,
+                strings,
+                allowance,
+                sheet,
+                o,
+                key,
+                d,
+                MAXIMUM_CALLS,
+                s,
+            );
             write_result(out)
         }
         12 => {
-            let out = setting::set(words, strings, allowance, sheet, o, key, v, receiver, MAXIMUM_CALLS, s);
+            let out = setting::set(
+                words,
+                strings,
+                allowance,
+                sheet,
+                o,
+                key,
+                v,
+                receiver,
+                MAXIMUM_CALLS,
+                s,
+            );
             write_result(out)
         }
         _ => {
@@ -183,7 +284,14 @@ fn perform_writing(words: &[u64], strings: &[u16], allowance: usize, sheet: &[u8
 }
 
 // Codes 1 to 13
-pub fn perform(words: &[u64], strings: &[u16], allowance: usize, sheet: &[u8], step: Step, s: Progress) -> Performed
+pub fn perform(
+    words: &[u64],
+    strings: &[u16],
+    allowance: usize,
+    sheet: &[u8],
+    step: Step,
+    s: Progress,
+) -> Performed
     requires { ⌜ Performable (now words) (now strings) allowance step × ((1 ≤ step .code) × (step .code < 14)) ⌝ }
     ensures { λ r. ⌜ toldPerformed (now (sheet .entry)) (storeOf (now (words .entry))) r ≡ perform maximumCalls (context (now (words .entry)) (now (strings .entry)) allowance) (operationOf step) .run (stateOf (now (sheet .entry)) s) ⌝ }
     ensures { λ r. ⌜ Taken (now (words .entry)) r ⌝ }

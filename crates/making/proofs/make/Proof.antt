@@ -1,7 +1,7 @@
 use native.Mathlib.Omega.{arith}
 use Rattle.store_read.proofs.ReadLaws.{object-length}
 use denote.Ref.{now}
-use mathlib.Core.Path.{sym, _∙_}
+use mathlib.Core.Path.{refl, sym, _∙_}
 use borrow.Author.Tests.{lt-ltb, le-ltb}
 use Rattle.store.specs.Store.{lookup}
 use Rattle.store.specs.Words.{storeOf}
@@ -21,7 +21,7 @@ object-count-requires c κs = search needs
 -- src/lib.rt:33:9
 returns : tie.Need-returns
 unfolding makeOut
-returns c = (rw (sym (c .before .object-count .ensures .0), lt-ltb _ _ (c .if1 .taken)), record { store = c .before .before .before .pre; bounds = omega (arith, object-length (now (c .before .before .before .args .words)), c .before .object-count .ensures .0, c .if1 .taken) })
+returns c = (rw (sym (c .before .object-count .ensures .0), lt-ltb _ _ (c .if1 .taken)), (record { store = c .before .before .before .pre; bounds = omega (arith, object-length (now (c .before .before .before .args .words)), c .before .object-count .ensures .0, c .if1 .taken) }, refl))
 
 -- src/lib.rt:25:1
 returns-2 : tie.Need-returns-2

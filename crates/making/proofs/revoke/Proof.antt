@@ -1,6 +1,6 @@
 use Rattle.making.proofs.MakingLaws.{revocation-fits}
 use denote.Ref.{now}
-use mathlib.Core.Path.{sym, _∙_}
+use mathlib.Core.Path.{refl, sym, _∙_}
 use borrow.Author.Tests.{lt-ltb, le-ltb}
 use Rattle.store.specs.Store.{lookup}
 use Rattle.store.specs.Words.{storeOf}
@@ -32,11 +32,11 @@ revocation-requires c κs = search needs
 
 -- src/lib.rt:102:1
 returns : tie.Need-returns
-returns c = (rw (objectless (lookup (storeOf (now (c .before .before .before .before .args .words))) (c .before .before .before .before .args .o)) (sym (c .before .before .object-at .ensures) ∙ c .enum-told .given .1)), record { store = c .before .before .before .before .pre; bounds = tt })
+returns c = (rw (objectless (lookup (storeOf (now (c .before .before .before .before .args .words))) (c .before .before .before .before .args .o)) (sym (c .before .before .object-at .ensures) ∙ c .enum-told .given .1)), (record { store = c .before .before .before .before .pre; bounds = tt }, refl))
 
 -- src/lib.rt:102:1
 returns-2 : tie.Need-returns-2
-returns-2 c = let found = objectful (lookup (storeOf (now (c .before .before .before .before .before .before .args .words))) (c .before .before .before .before .before .before .args .o)) _ (sym (c .before .before .before .before .object-at .ensures) ∙ c .before .before .x .given .1) in (rw (found, c .revocation .ensures), rw (c .revocation .ensures) (revocation-fits (now (c .before .before .before .before .before .before .args .words)) (c .before .before .before .before .before .before .args .o) _ (c .before .before .before .before .before .before .pre) found))
+returns-2 c = let found = objectful (lookup (storeOf (now (c .before .before .before .before .before .before .args .words))) (c .before .before .before .before .before .before .args .o)) _ (sym (c .before .before .before .before .object-at .ensures) ∙ c .before .before .x .given .1) in (rw (found, c .revocation .ensures), (rw (c .revocation .ensures) (revocation-fits (now (c .before .before .before .before .before .before .args .words)) (c .before .before .before .before .before .before .args .o) _ (c .before .before .before .before .before .before .pre) found), refl))
 
 pub revoke-spec : {M : Type 1} → statement M
 revoke-spec =

@@ -1,0 +1,117 @@
+// What a step reports once its run has ended, and the commit of its write.
+use calls::Progress;
+use internal_methods::Failure;
+use lasting::Completion;
+use lasting::Outcome;
+use lasting::Report;
+use making::Performed;
+ghost use mathlib.Core.Path.{_≡_};
+ghost use mathlib.Core.Bool.{true};
+ghost use Prim.Native.Nat.{_<_, _-_};
+ghost use lib.ListN.{length};
+ghost use Rattle.store.specs.Words.{isStore};
+ghost use Rattle.record.specs.Sheet.{sheetOf, answersAt};
+ghost use Rattle.calls.specs.Told.{stateOf};
+ghost use Rattle.lasting.specs.Perform.{maximumCalls};
+ghost use Rattle.lasting.specs.Response.{reportOf, refusal};
+ghost use Rattle.making.specs.Performed.{Taken};
+ghost use Rattle.reporting.specs.Reports.{start, failureResponse, completionReport, performedReport, Finished};
+
+const MAXIMUM_CALLS: usize = 2048;
+
+fn wide(b: u8) -> usize
+    ensures { λ r. ⌜ r ≡ b ⌝ }
+{
+    b as usize
+}
+
+// Where a step begins: at the first answer, with all its calls.
+pub fn start(sheet: &[u8]) -> Progress
+    requires { ⌜ 0 < length (now sheet) ⌝ }
+    ensures { λ r. ⌜ r ≡ start (now (sheet .entry)) ⌝ }
+{
+    Progress {
+        at: 1,
+        left: wide(sheet[0]),
+        calls: MAXIMUM_CALLS,
+    }
+}
+
+// The answers used so far.
+fn answers_used(sheet: &[u8], s: Progress) -> u64
+    requires { ⌜ 0 < length (now sheet) ⌝ }
+    ensures { λ r. ⌜ r ≡ length (sheetOf (now (sheet .entry))) - length (answersAt (now (sheet .entry)) (s .at) (s .left)) ⌝ }
+{
+    let all = unread::unread(sheet, 1, wide(sheet[0]));
+    let rest = unread::unread(sheet, s.at, s.left);
+    if rest < all {
+        return (all - rest) as u64;
+    }
+    0
+}
+
+// The calls made so far.
+fn calls_made(s: Progress) -> u64
+    ensures { λ r. ⌜ r ≡ maximumCalls - s .calls ⌝ }
+{
+    if s.calls < MAXIMUM_CALLS {
+        return (MAXIMUM_CALLS - s.calls) as u64;
+    }
+    0
+}
+
+// A refusal reports zeros.
+pub fn refused(n: u64) -> Report
+    ensures { λ r. ⌜ r ≡ reportOf (refusal n) ⌝ }
+{
+    Report {
+        outcome: Outcome::Refused(n),
+        answers: 0,
+        calls: 0,
+    }
+}
+
+pub fn failed(sheet: &[u8], f: Failure, s: Progress) -> Report
+    requires { ⌜ 0 < length (now sheet) ⌝ }
+    ensures { λ r. ⌜ r ≡ reportOf (failureResponse (sheetOf (now (sheet .entry))) f (stateOf (now (sheet .entry)) s)) ⌝ }
+{
+    match f {
+        Failure::Refused(n) => refused(n),
+        Failure::TypeError(n) => Report {
+            outcome: Outcome::TypeError(n),
+            answers: answers_used(sheet, s),
+            calls: calls_made(s),
+        },
+        Failure::Thrown(v) => Report {
+            outcome: Outcome::Thrown(v),
+            answers: answers_used(sheet, s),
+            calls: calls_made(s),
+        },
+    }
+}
+
+pub fn completed(sheet: &[u8], c: Completion, s: Progress) -> Report
+    requires { ⌜ 0 < length (now sheet) ⌝ }
+    ensures { λ r. ⌜ r ≡ completionReport (sheetOf (now (sheet .entry))) c (stateOf (now (sheet .entry)) s) ⌝ }
+{
+    Report {
+        outcome: Outcome::Result(c),
+        answers: answers_used(sheet, s),
+        calls: calls_made(s),
+    }
+}
+
+// The one write is made here, once the result stands.
+pub fn finish(words: &mut [u64], sheet: &[u8], p: Performed) -> Report
+    requires { ⌜ (0 < length (now sheet)) × ((isStore (now words) ≡ true) × Taken (now words) p) ⌝ }
+    ensures { λ r. ⌜ r ≡ performedReport (now (sheet .entry)) p ⌝ }
+    ensures { λ _. ⌜ Finished (now (words .entry)) (now (words .exit)) p ⌝ }
+{
+    match p {
+        Performed::Failed(f, s) => failed(sheet, f, s),
+        Performed::Done(c, w, s) => {
+            store_write::commit(words, w);
+            completed(sheet, c, s)
+        }
+    }
+}

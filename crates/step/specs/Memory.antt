@@ -1,0 +1,50 @@
+-- The calls of the interface over lent memory: the store's words, the string table's cells, and the output. Assumes nothing.
+use Prim.Native.Nat.{ℕ}
+use mathlib.Core.Path.{_≡_}
+use mathlib.Core.Bool.{Bool, true, false, _&&_, cond}
+use mathlib.Core.List.{List, []}
+use Rattle.text.specs.Table.{isTable}
+use Rattle.store.specs.Store.{World}
+use Rattle.store.specs.Words.{isStore, worldOf}
+use Rattle.store_write.specs.declared.write.Write.{Write}
+use Rattle.store_write.specs.Write.{writtenTo}
+use Rattle.lasting.specs.declared.Outcome.{Outcome}
+use Rattle.lasting.specs.declared.Outcome.the-variants.{Refused, Result, TypeError, Thrown}
+use Rattle.lasting.specs.declared.Report.{Report}
+use Rattle.lasting.specs.Response.{Effect, reportOf}
+use Rattle.lasting.specs.Step.{step, refusing}
+use Rattle.lasting.specs.StringEntry.{enterString}
+
+-- what a call shows: its report, and what the memory holds after it
+pub record Shown : Type 0 where
+  pub report : Report
+  pub world : World
+  pub output : List ℕ
+
+abbrev pub shown : Report → List ℕ → List ℕ → List ℕ → Shown
+shown r words cells output = record { report = r; world = worldOf words cells; output = output }
+
+abbrev pub shownBy : Effect → Shown
+shownBy e = record { report = reportOf (e .response); world = e .world; output = e .output }
+
+-- words that are no store and cells that are no table are records of a wrong length or count: refusal 1
+unfoldable pub isMemory : List ℕ → List ℕ → Bool
+isMemory words cells = isStore words && isTable cells
+
+unfoldable pub stepOver : List ℕ → List ℕ → List ℕ → List ℕ → List ℕ → Effect
+stepOver words cells bytes sheet output = cond (isMemory words cells) (step (worldOf words cells) bytes sheet output) (refusing 1 (worldOf words cells) output)
+
+unfoldable pub enterOver : List ℕ → List ℕ → List ℕ → Effect
+enterOver words cells units = cond (isMemory words cells) (enterString (worldOf words cells) units) (refusing 1 (worldOf words cells) [])
+
+-- one write: the words that it names have changed, and no others
+pub record Committed (before after : List ℕ) : Type 0 where
+  pub write : Write
+  pub words : after ≡ writtenTo write before
+
+-- the words themselves: only a result may change them, by one write
+abbrev pub WordsAfter : Outcome → List ℕ → List ℕ → Type 0
+WordsAfter (Refused n) before after = after ≡ before
+WordsAfter (Result c) before after = Committed before after
+WordsAfter (TypeError n) before after = after ≡ before
+WordsAfter (Thrown v) before after = after ≡ before
