@@ -1,0 +1,59 @@
+-- The end of a run over lent memory is the definitions' end. Assumes nothing.
+use Prim.Native.Nat.{ℕ}
+use mathlib.Core.Path.{_≡_, refl, sym, ap, _∙_}
+use mathlib.Core.Bool.{Bool, true, false}
+use mathlib.Core.List.{List}
+use Rattle.value.specs.declared.Value.{Value}
+use Rattle.store.specs.Store.{Store, World}
+use Rattle.store.specs.Words.{storeOf, worldOf}
+use Rattle.store_write.specs.declared.write.Write.{Write}
+use Rattle.store_write.specs.Write.{applied, writtenTo, Becomes}
+use Rattle.internal_methods.specs.declared.Failure.{Failure}
+use Rattle.internal_methods.specs.declared.Failure.the-variants.{Refused, TypeError, Thrown}
+use Rattle.internal_methods.specs.Monad.{Answer, State, failed, done}
+use Rattle.record.specs.Sheet.{sheetOf}
+use Rattle.calls.specs.declared.Progress.{Progress}
+use Rattle.calls.specs.Told.{stateOf}
+use Rattle.lasting.specs.declared.Completion.{Completion}
+use Rattle.lasting.specs.declared.Completion.the-variants as completion
+use Rattle.lasting.specs.declared.Outcome.the-variants as outcome
+use Rattle.lasting.specs.declared.Report.{Report}
+use Rattle.lasting.specs.Response.{Effect, reportOf, refusal}
+use Rattle.lasting.specs.Step.{ended, refusing}
+use Rattle.making.specs.declared.Performed.{Performed}
+use Rattle.making.specs.declared.Performed.the-variants.{Failed, Done}
+use Rattle.making.specs.Performed.{Taken, toldPerformed, isPlain, resultOf}
+use Rattle.reporting.specs.Reports.{failureResponse, completionReport, performedReport, Finished}
+use Rattle.reporting.specs.Memory.{Shown, shown, shownBy, WordsAfter, Committed}
+
+module _ (words cells sheet output : List ℕ) where
+  abbrev endedAs : Performed → Shown
+  endedAs p = shownBy (ended (worldOf words cells) (sheetOf sheet) output (toldPerformed sheet (storeOf words) p))
+
+  failing : (f : Failure) (s : State) → shownBy (ended (worldOf words cells) (sheetOf sheet) output (failed f s))
+      ≡ shown (reportOf (failureResponse (sheetOf sheet) f s)) words cells output
+  failing (Refused n) s = refl
+  failing (TypeError n) s = refl
+  failing (Thrown v) s = refl
+
+  doing : (after : List ℕ) (c : Completion) (w : Write) (s : Progress) → isPlain c ≡ true → storeOf after ≡ applied w (storeOf words)
+      → shown (completionReport (sheetOf sheet) c (stateOf sheet s)) after cells output ≡ endedAs (Done c w s)
+  doing after (completion.Value v) w s h e = rw (sym e)
+  doing after (completion.Descriptor p) w s h e = rw (sym e)
+  doing after completion.Absent w s h e = rw (sym e)
+  doing after (completion.Keys n) w s h e = cc
+
+  -- what `finish` reports and leaves
+  pub finished : (after : List ℕ) (p : Performed) → Taken words p → Finished words after p → shown (performedReport sheet p) after cells output ≡ endedAs p
+  finished after (Failed f s) t e = rw e (sym (failing f (stateOf sheet s)))
+  finished after (Done c w s) t e = doing after c w s (t .1) (e .store)
+
+module _ (words : List ℕ) (sheet : List ℕ) where
+  failing-words : (f : Failure) (s : State) (after : List ℕ) → after ≡ words → WordsAfter (reportOf (failureResponse (sheetOf sheet) f s) .outcome) words after
+  failing-words (Refused n) s after e = e
+  failing-words (TypeError n) s after e = e
+  failing-words (Thrown v) s after e = e
+
+  pub finished-words : (after : List ℕ) (p : Performed) → Finished words after p → WordsAfter (performedReport sheet p .outcome) words after
+  finished-words after (Failed f s) e = failing-words f (stateOf sheet s) after e
+  finished-words after (Done c w s) e = record { write = w; words = e .words }
