@@ -1,0 +1,79 @@
+-- What holds of a step and its sheet once none of the tests over them fails. Assumes nothing.
+use Prim.Native.Nat.{ℕ, _+_, _<_, _≤_, _^_}
+use native.Mathlib.Omega.{arith}
+use mathlib.Core.Path.{_≡_, refl, sym, ap, _∙_}
+use mathlib.Core.Bool.{Bool, true, false, _&&_}
+use mathlib.Core.Option.{Option, none, some}
+use mathlib.Core.List.{List, [], _∷_}
+use lib.Dec.{eqb, leb, ltb}
+use lib.ListN.{length}
+use borrow.Author.Tests.{ltb-true, leb-true, eqb-true}
+use Rattle.value.proofs.Bools.{and-true}
+use Rattle.value.specs.declared.Value.{Value}
+use Rattle.value.specs.declared.Value.the-variants.{Undefined, Null, Boolean, Integer32, Float64, String, Symbol, Object, Function}
+use Rattle.value.specs.PropertyKey.{keyOf}
+use Rattle.store.specs.Store.{World, lookup}
+use Rattle.store_write.specs.Write.{numberIn}
+use Rattle.record.specs.Bytes.{byteAt}
+use Rattle.record.specs.Tests.{Counts, isKnown, failing, firstFailing, isDescriptor}
+use Rattle.record.specs.Step.{stepOf, isStep, isCode, areKindsUsable}
+use Rattle.record.specs.Sheet.{sheetOf, isSheet, sheetPasses}
+use Rattle.lasting.specs.Operation.{keyOrFirst}
+use Rattle.lasting.specs.Step.{countsOf, isProxy, recordTests}
+
+passed : (n : ℕ) (b : Bool) (ts : List (ℕ × Bool)) → firstFailing ((n, b) ∷ ts) ≡ none → b ≡ true
+unfolding firstFailing
+passed n true ts e = refl
+passed n false ts e = let z : _≡_ {A = ℕ} 0 1 = cc in absurd (omega arith)
+
+later : (n : ℕ) (b : Bool) (ts : List (ℕ × Bool)) → firstFailing ((n, b) ∷ ts) ≡ none → firstFailing ts ≡ none
+unfolding firstFailing
+later n true ts e = e
+later n false ts e = let z : _≡_ {A = ℕ} 0 1 = cc in absurd (omega arith)
+
+-- a known value is no key, or one of a number that a key word can join
+known-key : (n : Counts) (v : Value) → n .strings ≤ 256 → isKnown n v ≡ true → numberIn (keyOrFirst (keyOf v)) < 2 ^ 58
+unfolding isKnown
+known-key n Undefined h e = omega arith
+known-key n Null h e = omega arith
+known-key n (Boolean b) h e = omega arith
+known-key n (Integer32 i) h e = omega arith
+known-key n (Float64 x) h e = omega arith
+known-key n (String s) h e = omega (arith, ltb-true s (n .strings) e)
+known-key n (Symbol s) h e = omega (arith, ltb-true s 256 e)
+known-key n (Object o) h e = omega arith
+known-key n (Function f) h e = omega arith
+
+module _ (ω : World) (bytes sheet : List ℕ) (h : firstFailing (recordTests ω bytes sheet) ≡ none) where
+  pub step-formed : isStep bytes ≡ true
+  step-formed = passed _ _ _ h
+
+  pub sheet-formed : isSheet sheet ≡ true
+  sheet-formed = passed _ _ _ (later _ _ _ (later _ _ _ (later _ _ _ (later _ _ _ h))))
+
+  pub sheet-known : sheetPasses (isKnown (countsOf ω)) (sheetOf sheet) ≡ true
+  sheet-known = passed _ _ _ (later _ _ _ (later _ _ _ (later _ _ _ (later _ _ _ (later _ _ _ (later _ _ _ h))))))
+
+  pub step-length : length bytes ≡ 58
+  unfolding isStep
+  step-length = eqb-true _ _ (and-true _ _ step-formed .0)
+
+  code-formed : isCode (byteAt bytes 0) ≡ true
+  unfolding isStep
+  code-formed = and-true (isCode (byteAt bytes 0)) _ (and-true (eqb (length bytes) 58) _ step-formed .1) .0
+
+  pub code-low : 1 ≤ stepOf bytes .code
+  unfolding stepOf
+  code-low = leb-true _ _ (and-true _ _ code-formed .0)
+
+  pub code-high : stepOf bytes .code ≤ 14
+  unfolding stepOf
+  code-high = leb-true _ _ (and-true _ _ code-formed .1)
+
+  pub sheet-there : 0 < length sheet
+  unfolding isSheet
+  sheet-there = ltb-true _ _ (and-true _ _ sheet-formed .0)
+
+  pub key-fits : length (ω .strings) ≤ 256 → numberIn (keyOrFirst (keyOf (stepOf bytes .key))) < 2 ^ 58
+  unfolding areKindsUsable
+  key-fits q = known-key (countsOf ω) _ q (and-true _ _ (and-true _ _ (passed _ _ _ (later _ _ _ (later _ _ _ h))) .0) .0)
