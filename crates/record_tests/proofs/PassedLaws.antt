@@ -64,11 +64,11 @@ module _ (ω : World) (bytes sheet : List ℕ) (h : firstFailing (recordTests ω
 
   pub code-low : 1 ≤ stepOf bytes .code
   unfolding stepOf
-  code-low = leb-true _ _ (and-true _ _ code-formed .0)
+  code-low = leb-true _ _ (and-true _ (leb (byteAt bytes 0) 14) code-formed .0)
 
   pub code-high : stepOf bytes .code ≤ 14
   unfolding stepOf
-  code-high = leb-true _ _ (and-true _ _ code-formed .1)
+  code-high = leb-true _ _ (and-true (leb 1 (byteAt bytes 0)) _ code-formed .1)
 
   pub sheet-there : 0 < length sheet
   unfolding isSheet
