@@ -3,8 +3,8 @@ use Prim.Native.Nat.{ℕ}
 use mathlib.Core.Path.{_≡_}
 use mathlib.Core.Bool.{Bool, true, false, _&&_, cond}
 use mathlib.Core.List.{List, []}
-use Rattle.text.specs.Table.{isTable}
-use Rattle.store.specs.Store.{World}
+use Rattle.text.specs.Table.{isTable, stringsOf}
+use Rattle.store.specs.Store.{Store, World}
 use Rattle.store.specs.Words.{isStore, worldOf}
 use Rattle.store_write.specs.declared.write.Write.{Write}
 use Rattle.store_write.specs.Write.{writtenTo}
@@ -34,8 +34,15 @@ isMemory words cells = isStore words && isTable cells
 unfoldable pub stepOver : List ℕ → List ℕ → List ℕ → List ℕ → List ℕ → Effect
 stepOver words cells bytes sheet output = cond (isMemory words cells) (step (worldOf words cells) bytes sheet output) (refusing 1 (worldOf words cells) output)
 
-unfoldable pub enterOver : List ℕ → List ℕ → List ℕ → Effect
-enterOver words cells units = cond (isMemory words cells) (enterString (worldOf words cells) units) (refusing 1 (worldOf words cells) [])
+-- entering a string reads no store, so any store may stand beside the cells
+abbrev pub shownEntry : Report → Store → List ℕ → Shown
+shownEntry r σ cells = record { report = r; world = record { store = σ; strings = stringsOf cells }; output = [] }
+
+unfoldable pub enterOver : Store → List ℕ → List ℕ → Effect
+enterOver σ cells units =
+    cond (isTable cells)
+    (enterString (record { store = σ; strings = stringsOf cells }) units)
+    (refusing 1 (record { store = σ; strings = stringsOf cells }) [])
 
 -- one write: the words that it names have changed, and no others
 pub record Committed (before after : List ℕ) : Type 0 where
