@@ -5,10 +5,6 @@ use Rattle.internal_methods.specs.Proxy.{proxyHasProperty}
 use borrow.Author.Needs.{needs}
 use Rattle.has_property.proofs.has_property_trap.Statement.{statement}
 use Rattle.has_property.proofs.has_property_trap.Tie as tie
-use Rattle.calls.proofs.next_boolean.Reads as next-boolean-reads
-use Rattle.extensibility.proofs.is_extensible.Reads as is-extensible-reads
-use Rattle.own_property.proofs.get_own_property.Reads as get-own-property-reads
-use Rattle.property.proofs.is_configurable.Reads as is-configurable-reads
 
 next-boolean-requires : tie.Need-next-boolean-requires
 next-boolean-requires c κs = c .before .before .before .pre .0 .table
