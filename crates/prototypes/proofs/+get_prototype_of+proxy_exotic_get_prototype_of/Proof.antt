@@ -1,3 +1,4 @@
+-- [[GetPrototypeOf]] is what its definition says; the body of a proxy is one step before the call of its target. Assumes nothing.
 use mathlib.Core.Path.{sym, _∙_}
 use native.Mathlib.Omega.{arith}
 use Prim.Native.Nat.{_+_, _*_}
@@ -61,433 +62,8 @@ proxy-exotic-get-prototype-of-below t =
     (falls 3 proxy-exotic-get-prototype-of-kinds.ps _<_ μ-proxy-exotic-get-prototype-of t)
     proxy-exotic-get-prototype-of.Pre
 
--- src/lib.rt:36:11
-get-prototype-of-enter-requires : (t : ℕ) → get-prototype-of-lts.Need-enter-requires (
-  enter-reads.Asked,
-  enter-reads.Learnt,
-  ordinary-get-prototype-of-reads.Asked,
-  ordinary-get-prototype-of-reads.Learnt,
-  proxy-exotic-get-prototype-of-below t,
-  proxy-exotic-get-prototype-of.Post,
-) (get-prototype-of-at t) get-prototype-of.Post
-get-prototype-of-enter-requires t c κs = c .before .before .before .pre .1 .store
-
--- src/lib.rt:37:25
-get-prototype-of-enum-known-f : (t : ℕ) → get-prototype-of-lts.Need-enum-known-f (
-  enter-reads.Asked,
-  enter-reads.Learnt,
-  ordinary-get-prototype-of-reads.Asked,
-  ordinary-get-prototype-of-reads.Learnt,
-  proxy-exotic-get-prototype-of-below t,
-  proxy-exotic-get-prototype-of.Post,
-) (get-prototype-of-at t) get-prototype-of.Post
-get-prototype-of-enum-known-f t c = search needs
-
--- src/lib.rt:38:27
-get-prototype-of-enum-known-object : (t : ℕ) → get-prototype-of-lts.Need-enum-known-object (
-  enter-reads.Asked,
-  enter-reads.Learnt,
-  ordinary-get-prototype-of-reads.Asked,
-  ordinary-get-prototype-of-reads.Learnt,
-  proxy-exotic-get-prototype-of-below t,
-  proxy-exotic-get-prototype-of.Post,
-) (get-prototype-of-at t) get-prototype-of.Post
-get-prototype-of-enum-known-object t c = search needs
-
--- src/lib.rt:38:56
-get-prototype-of-ordinary-get-prototype-of-requires :
-    (t : ℕ) → get-prototype-of-lts.Need-ordinary-get-prototype-of-requires (
-      enter-reads.Asked,
-      enter-reads.Learnt,
-      ordinary-get-prototype-of-reads.Asked,
-      ordinary-get-prototype-of-reads.Learnt,
-      proxy-exotic-get-prototype-of-below t,
-      proxy-exotic-get-prototype-of.Post,
-    ) (get-prototype-of-at t) get-prototype-of.Post
-get-prototype-of-ordinary-get-prototype-of-requires t c κs = search needs
-
--- src/lib.rt:39:24
-get-prototype-of-enum-known-p : (t : ℕ) → get-prototype-of-lts.Need-enum-known-p (
-  enter-reads.Asked,
-  enter-reads.Learnt,
-  ordinary-get-prototype-of-reads.Asked,
-  ordinary-get-prototype-of-reads.Learnt,
-  proxy-exotic-get-prototype-of-below t,
-  proxy-exotic-get-prototype-of.Post,
-) (get-prototype-of-at t) get-prototype-of.Post
-get-prototype-of-enum-known-p t c = search needs
-
--- src/lib.rt:40:80
-get-prototype-of-sub-proxy-exotic-get-prototype-of :
-    (t : ℕ) → get-prototype-of-lts.Need-sub-proxy-exotic-get-prototype-of (
-      enter-reads.Asked,
-      enter-reads.Learnt,
-      ordinary-get-prototype-of-reads.Asked,
-      ordinary-get-prototype-of-reads.Learnt,
-      proxy-exotic-get-prototype-of-below t,
-      proxy-exotic-get-prototype-of.Post,
-    ) (get-prototype-of-at t) get-prototype-of.Post
-get-prototype-of-sub-proxy-exotic-get-prototype-of t c = omega (arith, proxy-deep _ _ _ _ _ (sym (c .before .before .before .enter .ensures) ∙ c .before .p .given .1))
-
--- src/lib.rt:40:13
-get-prototype-of-proxy-exotic-get-prototype-of-requires :
-    (t : ℕ) → get-prototype-of-lts.Need-proxy-exotic-get-prototype-of-requires (
-      enter-reads.Asked,
-      enter-reads.Learnt,
-      ordinary-get-prototype-of-reads.Asked,
-      ordinary-get-prototype-of-reads.Learnt,
-      proxy-exotic-get-prototype-of-below t,
-      proxy-exotic-get-prototype-of.Post,
-    ) (get-prototype-of-at t) get-prototype-of.Post
-get-prototype-of-proxy-exotic-get-prototype-of-requires t c κs = (omega (arith, c .before .before .before .before .before .before .before .pre .0, proxy-deep _ _ _ _ _ (sym (c .before .before .before .enter .ensures) ∙ c .before .p .given .1)), c .before .before .before .before .before .before .before .pre .1)
-
--- src/lib.rt:24:1
-get-prototype-of-returns : (t : ℕ) → get-prototype-of-lts.Need-returns (
-  enter-reads.Asked,
-  enter-reads.Learnt,
-  ordinary-get-prototype-of-reads.Asked,
-  ordinary-get-prototype-of-reads.Learnt,
-  proxy-exotic-get-prototype-of-below t,
-  proxy-exotic-get-prototype-of.Post,
-) (get-prototype-of-at t) get-prototype-of.Post
-unfolding pure fails next _>>=_ throwIf if_then_else_ hasTrap proxyGetPrototypeOf
-get-prototype-of-returns t c = rw (get-prototype-of-goes-on _ _ _ _ _, sym (c .before .before .before .enter .ensures) ∙ c .before .f .given .1)
-
--- src/lib.rt:24:1
-get-prototype-of-returns-2 : (t : ℕ) → get-prototype-of-lts.Need-returns-2 (
-  enter-reads.Asked,
-  enter-reads.Learnt,
-  ordinary-get-prototype-of-reads.Asked,
-  ordinary-get-prototype-of-reads.Learnt,
-  proxy-exotic-get-prototype-of-below t,
-  proxy-exotic-get-prototype-of.Post,
-) (get-prototype-of-at t) get-prototype-of.Post
-unfolding pure fails next _>>=_ throwIf if_then_else_ hasTrap proxyGetPrototypeOf
-get-prototype-of-returns-2 t c = rw (get-prototype-of-goes-on _ _ _ _ _, sym (c .before .before .before .before .enter .ensures) ∙ c .before .before .object .given .1, c .ordinary-get-prototype-of .ensures)
-
--- src/lib.rt:24:1
-get-prototype-of-returns-3 : (t : ℕ) → get-prototype-of-lts.Need-returns-3 (
-  enter-reads.Asked,
-  enter-reads.Learnt,
-  ordinary-get-prototype-of-reads.Asked,
-  ordinary-get-prototype-of-reads.Learnt,
-  proxy-exotic-get-prototype-of-below t,
-  proxy-exotic-get-prototype-of.Post,
-) (get-prototype-of-at t) get-prototype-of.Post
-unfolding pure fails next _>>=_ throwIf if_then_else_ hasTrap proxyGetPrototypeOf
-get-prototype-of-returns-3 t c = rw (get-prototype-of-goes-on _ _ _ _ _, sym (c .before .before .before .before .enter .ensures) ∙ c .before .before .p .given .1) (c .proxy-exotic-get-prototype-of .ensures)
-
--- src/lib.rt:59:8
-proxy-exotic-get-prototype-of-has-trap-requires :
-    (t : ℕ) → proxy-exotic-get-prototype-of-lts.Need-has-trap-requires (
-      has-trap-reads.Asked,
-      has-trap-reads.Learnt,
-      next-prototype-reads.Asked,
-      next-prototype-reads.Learnt,
-      is-extensible-reads.Asked,
-      is-extensible-reads.Learnt,
-      get-prototype-of-below t,
-      get-prototype-of.Post,
-      same-value-reads.Asked,
-      same-value-reads.Learnt,
-    ) (proxy-exotic-get-prototype-of-at t) proxy-exotic-get-prototype-of.Post
-proxy-exotic-get-prototype-of-has-trap-requires t c κs = search needs
-
--- src/lib.rt:60:15
-proxy-exotic-get-prototype-of-next-prototype-requires :
-    (t : ℕ) → proxy-exotic-get-prototype-of-lts.Need-next-prototype-requires (
-      has-trap-reads.Asked,
-      has-trap-reads.Learnt,
-      next-prototype-reads.Asked,
-      next-prototype-reads.Learnt,
-      is-extensible-reads.Asked,
-      is-extensible-reads.Learnt,
-      get-prototype-of-below t,
-      get-prototype-of.Post,
-      same-value-reads.Asked,
-      same-value-reads.Learnt,
-    ) (proxy-exotic-get-prototype-of-at t) proxy-exotic-get-prototype-of.Post
-proxy-exotic-get-prototype-of-next-prototype-requires t c κs = search needs
-
--- src/lib.rt:61:30
-proxy-exotic-get-prototype-of-enum-known-f :
-    (t : ℕ) → proxy-exotic-get-prototype-of-lts.Need-enum-known-f (
-      has-trap-reads.Asked,
-      has-trap-reads.Learnt,
-      next-prototype-reads.Asked,
-      next-prototype-reads.Learnt,
-      is-extensible-reads.Asked,
-      is-extensible-reads.Learnt,
-      get-prototype-of-below t,
-      get-prototype-of.Post,
-      same-value-reads.Asked,
-      same-value-reads.Learnt,
-    ) (proxy-exotic-get-prototype-of-at t) proxy-exotic-get-prototype-of.Post
-proxy-exotic-get-prototype-of-enum-known-f t c = search needs
-
--- src/lib.rt:62:28
-proxy-exotic-get-prototype-of-enum-known-answer :
-    (t : ℕ) → proxy-exotic-get-prototype-of-lts.Need-enum-known-answer (
-      has-trap-reads.Asked,
-      has-trap-reads.Learnt,
-      next-prototype-reads.Asked,
-      next-prototype-reads.Learnt,
-      is-extensible-reads.Asked,
-      is-extensible-reads.Learnt,
-      get-prototype-of-below t,
-      get-prototype-of.Post,
-      same-value-reads.Asked,
-      same-value-reads.Learnt,
-    ) (proxy-exotic-get-prototype-of-at t) proxy-exotic-get-prototype-of.Post
-proxy-exotic-get-prototype-of-enum-known-answer t c = search needs
-
--- src/lib.rt:63:23
-proxy-exotic-get-prototype-of-is-extensible-requires :
-    (t : ℕ) → proxy-exotic-get-prototype-of-lts.Need-is-extensible-requires (
-      has-trap-reads.Asked,
-      has-trap-reads.Learnt,
-      next-prototype-reads.Asked,
-      next-prototype-reads.Learnt,
-      is-extensible-reads.Asked,
-      is-extensible-reads.Learnt,
-      get-prototype-of-below t,
-      get-prototype-of.Post,
-      same-value-reads.Asked,
-      same-value-reads.Learnt,
-    ) (proxy-exotic-get-prototype-of-at t) proxy-exotic-get-prototype-of.Post
-proxy-exotic-get-prototype-of-is-extensible-requires t c κs = c .before .before .before .before .before .before .before .before .before .pre .1
-
--- src/lib.rt:64:40
-proxy-exotic-get-prototype-of-enum-known-f-2 :
-    (t : ℕ) → proxy-exotic-get-prototype-of-lts.Need-enum-known-f-2 (
-      has-trap-reads.Asked,
-      has-trap-reads.Learnt,
-      next-prototype-reads.Asked,
-      next-prototype-reads.Learnt,
-      is-extensible-reads.Asked,
-      is-extensible-reads.Learnt,
-      get-prototype-of-below t,
-      get-prototype-of.Post,
-      same-value-reads.Asked,
-      same-value-reads.Learnt,
-    ) (proxy-exotic-get-prototype-of-at t) proxy-exotic-get-prototype-of.Post
-proxy-exotic-get-prototype-of-enum-known-f-2 t c = search needs
-
--- src/lib.rt:65:38
-proxy-exotic-get-prototype-of-enum-known-extensible :
-    (t : ℕ) → proxy-exotic-get-prototype-of-lts.Need-enum-known-extensible (
-      has-trap-reads.Asked,
-      has-trap-reads.Learnt,
-      next-prototype-reads.Asked,
-      next-prototype-reads.Learnt,
-      is-extensible-reads.Asked,
-      is-extensible-reads.Learnt,
-      get-prototype-of-below t,
-      get-prototype-of.Post,
-      same-value-reads.Asked,
-      same-value-reads.Learnt,
-    ) (proxy-exotic-get-prototype-of-at t) proxy-exotic-get-prototype-of.Post
-proxy-exotic-get-prototype-of-enum-known-extensible t c = search needs
-
--- src/lib.rt:67:29
-proxy-exotic-get-prototype-of-returns : (t : ℕ) → proxy-exotic-get-prototype-of-lts.Need-returns (
-  has-trap-reads.Asked,
-  has-trap-reads.Learnt,
-  next-prototype-reads.Asked,
-  next-prototype-reads.Learnt,
-  is-extensible-reads.Asked,
-  is-extensible-reads.Learnt,
-  get-prototype-of-below t,
-  get-prototype-of.Post,
-  same-value-reads.Asked,
-  same-value-reads.Learnt,
-) (proxy-exotic-get-prototype-of-at t) proxy-exotic-get-prototype-of.Post
-unfolding pure fails next _>>=_ throwIf if_then_else_ hasTrap proxyGetPrototypeOf
-proxy-exotic-get-prototype-of-returns t c = rw (sym (c .before .before .before .before .before .before .before .before .before .before .has-trap .ensures) ∙ c .before .before .before .before .before .before .before .before .before .if1 .taken, sym (c .before .before .before .before .before .before .before .before .next-prototype .ensures), c .before .before .before .before .before .before .answer .given .1, sym (c .before .before .before .before .is-extensible .ensures), c .before .before .extensible .given .1, c .if2 .taken)
-
--- src/lib.rt:69:31
-proxy-exotic-get-prototype-of-get-prototype-of-requires :
-    (t : ℕ) → proxy-exotic-get-prototype-of-lts.Need-get-prototype-of-requires (
-      has-trap-reads.Asked,
-      has-trap-reads.Learnt,
-      next-prototype-reads.Asked,
-      next-prototype-reads.Learnt,
-      is-extensible-reads.Asked,
-      is-extensible-reads.Learnt,
-      get-prototype-of-below t,
-      get-prototype-of.Post,
-      same-value-reads.Asked,
-      same-value-reads.Learnt,
-    ) (proxy-exotic-get-prototype-of-at t) proxy-exotic-get-prototype-of.Post
-proxy-exotic-get-prototype-of-get-prototype-of-requires t c κs = (omega (arith, c .before .before .before .before .before .before .before .before .before .before .before .before .before .before .pre .0), c .before .before .before .before .before .before .before .before .before .before .before .before .before .before .pre .1)
-
--- src/lib.rt:70:46
-proxy-exotic-get-prototype-of-enum-known-f-3 :
-    (t : ℕ) → proxy-exotic-get-prototype-of-lts.Need-enum-known-f-3 (
-      has-trap-reads.Asked,
-      has-trap-reads.Learnt,
-      next-prototype-reads.Asked,
-      next-prototype-reads.Learnt,
-      is-extensible-reads.Asked,
-      is-extensible-reads.Learnt,
-      get-prototype-of-below t,
-      get-prototype-of.Post,
-      same-value-reads.Asked,
-      same-value-reads.Learnt,
-    ) (proxy-exotic-get-prototype-of-at t) proxy-exotic-get-prototype-of.Post
-proxy-exotic-get-prototype-of-enum-known-f-3 t c = search needs
-
--- src/lib.rt:71:44
-proxy-exotic-get-prototype-of-enum-known-prototype :
-    (t : ℕ) → proxy-exotic-get-prototype-of-lts.Need-enum-known-prototype (
-      has-trap-reads.Asked,
-      has-trap-reads.Learnt,
-      next-prototype-reads.Asked,
-      next-prototype-reads.Learnt,
-      is-extensible-reads.Asked,
-      is-extensible-reads.Learnt,
-      get-prototype-of-below t,
-      get-prototype-of.Post,
-      same-value-reads.Asked,
-      same-value-reads.Learnt,
-    ) (proxy-exotic-get-prototype-of-at t) proxy-exotic-get-prototype-of.Post
-proxy-exotic-get-prototype-of-enum-known-prototype t c = search needs
-
--- src/lib.rt:72:36
-proxy-exotic-get-prototype-of-same-value-requires :
-    (t : ℕ) → proxy-exotic-get-prototype-of-lts.Need-same-value-requires (
-      has-trap-reads.Asked,
-      has-trap-reads.Learnt,
-      next-prototype-reads.Asked,
-      next-prototype-reads.Learnt,
-      is-extensible-reads.Asked,
-      is-extensible-reads.Learnt,
-      get-prototype-of-below t,
-      get-prototype-of.Post,
-      same-value-reads.Asked,
-      same-value-reads.Learnt,
-    ) (proxy-exotic-get-prototype-of-at t) proxy-exotic-get-prototype-of.Post
-proxy-exotic-get-prototype-of-same-value-requires t c κs = search needs
-
--- src/lib.rt:84:9
-proxy-exotic-get-prototype-of-get-prototype-of-requires-2 :
-    (t : ℕ) → proxy-exotic-get-prototype-of-lts.Need-get-prototype-of-requires-2 (
-      has-trap-reads.Asked,
-      has-trap-reads.Learnt,
-      next-prototype-reads.Asked,
-      next-prototype-reads.Learnt,
-      is-extensible-reads.Asked,
-      is-extensible-reads.Learnt,
-      get-prototype-of-below t,
-      get-prototype-of.Post,
-      same-value-reads.Asked,
-      same-value-reads.Learnt,
-    ) (proxy-exotic-get-prototype-of-at t) proxy-exotic-get-prototype-of.Post
-proxy-exotic-get-prototype-of-get-prototype-of-requires-2 t c κs = (omega (arith, c .before .before .before .before .before .pre .0), c .before .before .before .before .before .pre .1)
-
--- src/lib.rt:46:1
-proxy-exotic-get-prototype-of-returns-2 :
-    (t : ℕ) → proxy-exotic-get-prototype-of-lts.Need-returns-2 (
-      has-trap-reads.Asked,
-      has-trap-reads.Learnt,
-      next-prototype-reads.Asked,
-      next-prototype-reads.Learnt,
-      is-extensible-reads.Asked,
-      is-extensible-reads.Learnt,
-      get-prototype-of-below t,
-      get-prototype-of.Post,
-      same-value-reads.Asked,
-      same-value-reads.Learnt,
-    ) (proxy-exotic-get-prototype-of-at t) proxy-exotic-get-prototype-of.Post
-unfolding pure fails next _>>=_ throwIf if_then_else_ hasTrap proxyGetPrototypeOf
-proxy-exotic-get-prototype-of-returns-2 t c = rw (sym (c .before .before .before .before .before .has-trap .ensures) ∙ c .before .before .before .before .if1 .taken, sym (c .before .before .before .next-prototype .ensures), c .before .f .given .1)
-
--- src/lib.rt:46:1
-proxy-exotic-get-prototype-of-returns-3 :
-    (t : ℕ) → proxy-exotic-get-prototype-of-lts.Need-returns-3 (
-      has-trap-reads.Asked,
-      has-trap-reads.Learnt,
-      next-prototype-reads.Asked,
-      next-prototype-reads.Learnt,
-      is-extensible-reads.Asked,
-      is-extensible-reads.Learnt,
-      get-prototype-of-below t,
-      get-prototype-of.Post,
-      same-value-reads.Asked,
-      same-value-reads.Learnt,
-    ) (proxy-exotic-get-prototype-of-at t) proxy-exotic-get-prototype-of.Post
-unfolding pure fails next _>>=_ throwIf if_then_else_ hasTrap proxyGetPrototypeOf
-proxy-exotic-get-prototype-of-returns-3 t c = rw (sym (c .before .before .before .before .before .before .before .before .before .has-trap .ensures) ∙ c .before .before .before .before .before .before .before .before .if1 .taken, sym (c .before .before .before .before .before .before .before .next-prototype .ensures), c .before .before .before .before .before .answer .given .1, sym (c .before .before .before .is-extensible .ensures), c .before .f2 .given .1)
-
--- src/lib.rt:46:1
-proxy-exotic-get-prototype-of-returns-4 :
-    (t : ℕ) → proxy-exotic-get-prototype-of-lts.Need-returns-4 (
-      has-trap-reads.Asked,
-      has-trap-reads.Learnt,
-      next-prototype-reads.Asked,
-      next-prototype-reads.Learnt,
-      is-extensible-reads.Asked,
-      is-extensible-reads.Learnt,
-      get-prototype-of-below t,
-      get-prototype-of.Post,
-      same-value-reads.Asked,
-      same-value-reads.Learnt,
-    ) (proxy-exotic-get-prototype-of-at t) proxy-exotic-get-prototype-of.Post
-unfolding pure fails next _>>=_ throwIf if_then_else_ hasTrap proxyGetPrototypeOf
-proxy-exotic-get-prototype-of-returns-4 t c = rw (sym (c .before .before .before .before .before .before .before .before .before .before .before .before .before .before .has-trap .ensures) ∙ c .before .before .before .before .before .before .before .before .before .before .before .before .before .if1 .taken, sym (c .before .before .before .before .before .before .before .before .before .before .before .before .next-prototype .ensures), c .before .before .before .before .before .before .before .before .before .before .answer .given .1, sym (c .before .before .before .before .before .before .before .before .is-extensible .ensures), c .before .before .before .before .before .before .extensible .given .1, c .before .before .before .before .if2 .left, sym (c .before .before .before .get-prototype-of .ensures), c .before .f3 .given .1)
-
--- src/lib.rt:46:1
-proxy-exotic-get-prototype-of-returns-5 :
-    (t : ℕ) → proxy-exotic-get-prototype-of-lts.Need-returns-5 (
-      has-trap-reads.Asked,
-      has-trap-reads.Learnt,
-      next-prototype-reads.Asked,
-      next-prototype-reads.Learnt,
-      is-extensible-reads.Asked,
-      is-extensible-reads.Learnt,
-      get-prototype-of-below t,
-      get-prototype-of.Post,
-      same-value-reads.Asked,
-      same-value-reads.Learnt,
-    ) (proxy-exotic-get-prototype-of-at t) proxy-exotic-get-prototype-of.Post
-unfolding pure fails next _>>=_ throwIf if_then_else_ hasTrap proxyGetPrototypeOf
-proxy-exotic-get-prototype-of-returns-5 t c = rw (sym (c .before .before .before .before .before .before .before .before .before .before .before .before .before .before .before .before .has-trap .ensures) ∙ c .before .before .before .before .before .before .before .before .before .before .before .before .before .before .before .if1 .taken, sym (c .before .before .before .before .before .before .before .before .before .before .before .before .before .before .next-prototype .ensures), c .before .before .before .before .before .before .before .before .before .before .before .before .answer .given .1, sym (c .before .before .before .before .before .before .before .before .before .before .is-extensible .ensures), c .before .before .before .before .before .before .before .before .extensible .given .1, c .before .before .before .before .before .before .if2 .left, sym (c .before .before .before .before .before .get-prototype-of .ensures), c .before .before .before .prototype .given .1, sym (c .before .same-value .ensures) ∙ c .if3 .taken)
-
--- src/lib.rt:46:1
-proxy-exotic-get-prototype-of-returns-6 :
-    (t : ℕ) → proxy-exotic-get-prototype-of-lts.Need-returns-6 (
-      has-trap-reads.Asked,
-      has-trap-reads.Learnt,
-      next-prototype-reads.Asked,
-      next-prototype-reads.Learnt,
-      is-extensible-reads.Asked,
-      is-extensible-reads.Learnt,
-      get-prototype-of-below t,
-      get-prototype-of.Post,
-      same-value-reads.Asked,
-      same-value-reads.Learnt,
-    ) (proxy-exotic-get-prototype-of-at t) proxy-exotic-get-prototype-of.Post
-unfolding pure fails next _>>=_ throwIf if_then_else_ hasTrap proxyGetPrototypeOf
-proxy-exotic-get-prototype-of-returns-6 t c = rw (sym (c .before .before .before .before .before .before .before .before .before .before .before .before .before .before .before .before .has-trap .ensures) ∙ c .before .before .before .before .before .before .before .before .before .before .before .before .before .before .before .if1 .taken, sym (c .before .before .before .before .before .before .before .before .before .before .before .before .before .before .next-prototype .ensures), c .before .before .before .before .before .before .before .before .before .before .before .before .answer .given .1, sym (c .before .before .before .before .before .before .before .before .before .before .is-extensible .ensures), c .before .before .before .before .before .before .before .before .extensible .given .1, c .before .before .before .before .before .before .if2 .left, sym (c .before .before .before .before .before .get-prototype-of .ensures), c .before .before .before .prototype .given .1, sym (c .before .same-value .ensures) ∙ c .if3 .left)
-
--- src/lib.rt:46:1
-proxy-exotic-get-prototype-of-returns-7 :
-    (t : ℕ) → proxy-exotic-get-prototype-of-lts.Need-returns-7 (
-      has-trap-reads.Asked,
-      has-trap-reads.Learnt,
-      next-prototype-reads.Asked,
-      next-prototype-reads.Learnt,
-      is-extensible-reads.Asked,
-      is-extensible-reads.Learnt,
-      get-prototype-of-below t,
-      get-prototype-of.Post,
-      same-value-reads.Asked,
-      same-value-reads.Learnt,
-    ) (proxy-exotic-get-prototype-of-at t) proxy-exotic-get-prototype-of.Post
-unfolding pure fails next _>>=_ throwIf if_then_else_ hasTrap proxyGetPrototypeOf
-proxy-exotic-get-prototype-of-returns-7 t c = rw (sym (c .before .before .has-trap .ensures) ∙ c .before .if1 .left) (c .get-prototype-of2 .ensures)
-
 pub +get-prototype-of+proxy-exotic-get-prototype-of-spec : {M : Type 1} → statement M
+unfolding _>>=_ fails hasTrap if_then_else_ next proxyGetPrototypeOf pure throwIf
 +get-prototype-of+proxy-exotic-get-prototype-of-spec =
     close μ-get-prototype-of μ-proxy-exotic-get-prototype-of (λ t. get-prototype-of-lts.spec (
       enter-reads.Asked,
@@ -499,16 +75,16 @@ pub +get-prototype-of+proxy-exotic-get-prototype-of-spec : {M : Type 1} → stat
     )
     (get-prototype-of-at t)
     get-prototype-of.Post
-    (get-prototype-of-enter-requires t)
-    (get-prototype-of-enum-known-f t)
-    (get-prototype-of-enum-known-object t)
-    (get-prototype-of-ordinary-get-prototype-of-requires t)
-    (get-prototype-of-enum-known-p t)
-    (get-prototype-of-sub-proxy-exotic-get-prototype-of t)
-    (get-prototype-of-proxy-exotic-get-prototype-of-requires t)
-    (get-prototype-of-returns t)
-    (get-prototype-of-returns-2 t)
-    (get-prototype-of-returns-3 t))
+    (λ c κs. c .before .before .before .pre .1 .store)
+    (λ c. search needs)
+    (λ c. search needs)
+    (λ c κs. search needs)
+    (λ c. search needs)
+    (λ c. omega (arith, proxy-deep _ _ _ _ _ (sym (c .before .before .before .enter .ensures) ∙ c .before .p .given .1)))
+    (λ c κs. (omega (arith, c .before .before .before .before .before .before .before .pre .0, proxy-deep _ _ _ _ _ (sym (c .before .before .before .enter .ensures) ∙ c .before .p .given .1)), c .before .before .before .before .before .before .before .pre .1))
+    (λ c. rw (get-prototype-of-goes-on _ _ _ _ _, sym (c .before .before .before .enter .ensures) ∙ c .before .f .given .1))
+    (λ c. rw (get-prototype-of-goes-on _ _ _ _ _, sym (c .before .before .before .before .enter .ensures) ∙ c .before .before .object .given .1, c .ordinary-get-prototype-of .ensures))
+    (λ c. rw (get-prototype-of-goes-on _ _ _ _ _, sym (c .before .before .before .before .enter .ensures) ∙ c .before .before .p .given .1) (c .proxy-exotic-get-prototype-of .ensures)))
     λ t. proxy-exotic-get-prototype-of-lts.spec (
       has-trap-reads.Asked,
       has-trap-reads.Learnt,
@@ -523,22 +99,22 @@ pub +get-prototype-of+proxy-exotic-get-prototype-of-spec : {M : Type 1} → stat
     )
     (proxy-exotic-get-prototype-of-at t)
     proxy-exotic-get-prototype-of.Post
-    (proxy-exotic-get-prototype-of-has-trap-requires t)
-    (proxy-exotic-get-prototype-of-next-prototype-requires t)
-    (proxy-exotic-get-prototype-of-enum-known-f t)
-    (proxy-exotic-get-prototype-of-enum-known-answer t)
-    (proxy-exotic-get-prototype-of-is-extensible-requires t)
-    (proxy-exotic-get-prototype-of-enum-known-f-2 t)
-    (proxy-exotic-get-prototype-of-enum-known-extensible t)
-    (proxy-exotic-get-prototype-of-returns t)
-    (proxy-exotic-get-prototype-of-get-prototype-of-requires t)
-    (proxy-exotic-get-prototype-of-enum-known-f-3 t)
-    (proxy-exotic-get-prototype-of-enum-known-prototype t)
-    (proxy-exotic-get-prototype-of-same-value-requires t)
-    (proxy-exotic-get-prototype-of-get-prototype-of-requires-2 t)
-    (proxy-exotic-get-prototype-of-returns-2 t)
-    (proxy-exotic-get-prototype-of-returns-3 t)
-    (proxy-exotic-get-prototype-of-returns-4 t)
-    (proxy-exotic-get-prototype-of-returns-5 t)
-    (proxy-exotic-get-prototype-of-returns-6 t)
-    (proxy-exotic-get-prototype-of-returns-7 t)
+    (λ c κs. search needs)
+    (λ c κs. search needs)
+    (λ c. search needs)
+    (λ c. search needs)
+    (λ c κs. c .before .before .before .before .before .before .before .before .before .pre .1)
+    (λ c. search needs)
+    (λ c. search needs)
+    (λ c. rw (sym (c .before .before .before .before .before .before .before .before .before .before .has-trap .ensures) ∙ c .before .before .before .before .before .before .before .before .before .if1 .taken, sym (c .before .before .before .before .before .before .before .before .next-prototype .ensures), c .before .before .before .before .before .before .answer .given .1, sym (c .before .before .before .before .is-extensible .ensures), c .before .before .extensible .given .1, c .if2 .taken))
+    (λ c κs. (omega (arith, c .before .before .before .before .before .before .before .before .before .before .before .before .before .before .pre .0), c .before .before .before .before .before .before .before .before .before .before .before .before .before .before .pre .1))
+    (λ c. search needs)
+    (λ c. search needs)
+    (λ c κs. search needs)
+    (λ c κs. (omega (arith, c .before .before .before .before .before .pre .0), c .before .before .before .before .before .pre .1))
+    (λ c. rw (sym (c .before .before .before .before .before .has-trap .ensures) ∙ c .before .before .before .before .if1 .taken, sym (c .before .before .before .next-prototype .ensures), c .before .f .given .1))
+    (λ c. rw (sym (c .before .before .before .before .before .before .before .before .before .has-trap .ensures) ∙ c .before .before .before .before .before .before .before .before .if1 .taken, sym (c .before .before .before .before .before .before .before .next-prototype .ensures), c .before .before .before .before .before .answer .given .1, sym (c .before .before .before .is-extensible .ensures), c .before .f2 .given .1))
+    (λ c. rw (sym (c .before .before .before .before .before .before .before .before .before .before .before .before .before .before .has-trap .ensures) ∙ c .before .before .before .before .before .before .before .before .before .before .before .before .before .if1 .taken, sym (c .before .before .before .before .before .before .before .before .before .before .before .before .next-prototype .ensures), c .before .before .before .before .before .before .before .before .before .before .answer .given .1, sym (c .before .before .before .before .before .before .before .before .is-extensible .ensures), c .before .before .before .before .before .before .extensible .given .1, c .before .before .before .before .if2 .left, sym (c .before .before .before .get-prototype-of .ensures), c .before .f3 .given .1))
+    (λ c. rw (sym (c .before .before .before .before .before .before .before .before .before .before .before .before .before .before .before .before .has-trap .ensures) ∙ c .before .before .before .before .before .before .before .before .before .before .before .before .before .before .before .if1 .taken, sym (c .before .before .before .before .before .before .before .before .before .before .before .before .before .before .next-prototype .ensures), c .before .before .before .before .before .before .before .before .before .before .before .before .answer .given .1, sym (c .before .before .before .before .before .before .before .before .before .before .is-extensible .ensures), c .before .before .before .before .before .before .before .before .extensible .given .1, c .before .before .before .before .before .before .if2 .left, sym (c .before .before .before .before .before .get-prototype-of .ensures), c .before .before .before .prototype .given .1, sym (c .before .same-value .ensures) ∙ c .if3 .taken))
+    (λ c. rw (sym (c .before .before .before .before .before .before .before .before .before .before .before .before .before .before .before .before .has-trap .ensures) ∙ c .before .before .before .before .before .before .before .before .before .before .before .before .before .before .before .if1 .taken, sym (c .before .before .before .before .before .before .before .before .before .before .before .before .before .before .next-prototype .ensures), c .before .before .before .before .before .before .before .before .before .before .before .before .answer .given .1, sym (c .before .before .before .before .before .before .before .before .before .before .is-extensible .ensures), c .before .before .before .before .before .before .before .before .extensible .given .1, c .before .before .before .before .before .before .if2 .left, sym (c .before .before .before .before .before .get-prototype-of .ensures), c .before .before .before .prototype .given .1, sym (c .before .same-value .ensures) ∙ c .if3 .left))
+    (λ c. rw (sym (c .before .before .has-trap .ensures) ∙ c .before .if1 .left) (c .get-prototype-of2 .ensures))

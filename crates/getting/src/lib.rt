@@ -1,0 +1,209 @@
+// 10.1.8 and 10.5.8 [[Get]].
+use calls::Entered;
+use calls::OwnPropertyOut;
+use calls::Progress;
+use calls::ValueOut;
+use internal_methods::Failure;
+use property::OwnProperty;
+use property::Property;
+use store::ProxyObject;
+use value::ObjectResult;
+use value::PropertyKey;
+use value::Value;
+ghost use mathlib.Core.Path.{_≡_};
+ghost use mathlib.Core.Bool.{true};
+ghost use Rattle.internal_methods.specs.Ordinary.{ordinaryGet};
+ghost use Rattle.internal_methods.specs.Proxy.{hasTrap, proxyGet};
+ghost use Rattle.internal_methods.specs.Internal.{methods};
+ghost use Rattle.calls.specs.Told.{Readable, context, stateOf, toldValue};
+
+// 10.5.8 from step 7 on, where the trap is there.
+fn get_trap(
+    words: &[u64],
+    strings: &[u16],
+    allowance: usize,
+    sheet: &[u8],
+    p: ProxyObject,
+    key: PropertyKey,
+    receiver: Value,
+    depth: usize,
+    s: Progress,
+) -> ValueOut
+    requires { ⌜ Readable (now words) (now strings) ⌝ }
+    requires { ⌜ hasTrap p 7 ≡ true ⌝ }
+    ensures { λ r. ⌜ toldValue (now (sheet .entry)) r ≡ proxyGet (methods depth (context (now (words .entry)) (now (strings .entry)) allowance)) p key receiver .run (stateOf (now (sheet .entry)) s) ⌝ }
+{
+    let target = p.target;
+    match calls::next_value(sheet, s) {
+        ValueOut::Failed(f, t) => ValueOut::Failed(f, t), // 7
+        ValueOut::Done(answer, t) => {
+            match own_property::get_own_property(
+                words,
+                strings,
+                allowance,
+                sheet,
+                target,
+                key,
+                depth,
+                t,
+            ) {
+                OwnPropertyOut::Failed(f, u) => ValueOut::Failed(f, u), // 8
+                OwnPropertyOut::Done(own, u) => {
+                    if target_checks::fixes_other(own, answer) {
+                        return ValueOut::Failed(Failure::TypeError(17), u); // 9.a
+                    }
+                    if target_checks::lacks_getter(own, answer) {
+                        return ValueOut::Failed(Failure::TypeError(18), u); // 9.b
+                    }
+                    ValueOut::Done(answer, u) // 10
+                }
+            }
+        }
+    }
+}
+
+// O.[[Get]](P, Receiver)
+pub fn get(
+    words: &[u64],
+    strings: &[u16],
+    allowance: usize,
+    sheet: &[u8],
+    o: u64,
+    key: PropertyKey,
+    receiver: Value,
+    depth: usize,
+    s: Progress,
+) -> ValueOut
+    requires { ⌜ Readable (now words) (now strings) ⌝ }
+    ensures { λ r. ⌜ toldValue (now (sheet .entry)) r ≡ methods depth (context (now (words .entry)) (now (strings .entry)) allowance) .get o key receiver .run (stateOf (now (sheet .entry)) s) ⌝ }
+{
+    match calls::enter(words, o, depth, s) {
+        Entered::Failed(f, t) => ValueOut::Failed(f, t),
+        Entered::Ordinary(_, t) => {
+            ordinary_get(
+                words,
+                strings,
+                allowance,
+                sheet,
+                o,
+                key,
+                receiver,
+                depth - 1,
+                t,
+            )
+        }
+        Entered::Proxy(p, t) => {
+            proxy_exotic_get(
+                words,
+                strings,
+                allowance,
+                sheet,
+                p,
+                key,
+                receiver,
+                depth - 1,
+                t,
+            )
+        }
+    }
+}
+
+// 10.1.8.1 OrdinaryGet ( O, P, Receiver )
+fn ordinary_get(
+    words: &[u64],
+    strings: &[u16],
+    allowance: usize,
+    sheet: &[u8],
+    o: u64,
+    key: PropertyKey,
+    receiver: Value,
+    depth: usize,
+    s: Progress,
+) -> ValueOut
+    requires { ⌜ Readable (now words) (now strings) ⌝ }
+    ensures { λ r. ⌜ toldValue (now (sheet .entry)) r ≡ ordinaryGet (methods depth (context (now (words .entry)) (now (strings .entry)) allowance)) o key receiver .run (stateOf (now (sheet .entry)) s) ⌝ }
+{
+    match own_property::get_own_property(words, strings, allowance, sheet, o, key, depth, s) {
+        OwnPropertyOut::Failed(f, t) => ValueOut::Failed(f, t), // 1
+        OwnPropertyOut::Done(own, t) => {
+            match own {
+                OwnProperty::Absent => {
+                    match prototypes::get_prototype_of(
+                        words,
+                        strings,
+                        allowance,
+                        sheet,
+                        o,
+                        depth,
+                        t,
+                    ) {
+                        ValueOut::Failed(f, u) => ValueOut::Failed(f, u), // 2.a
+                        ValueOut::Done(parent, u) => {
+                            match value::object_of(parent) {
+                                ObjectResult::NotObject => ValueOut::Done(Value::Undefined, u), // 2.b
+                                ObjectResult::Object(q) => {
+                                    get(
+                                        words,
+                                        strings,
+                                        allowance,
+                                        sheet,
+                                        q,
+                                        key,
+                                        receiver,
+                                        depth,
+                                        u,
+                                    ) // 2.c
+                                }
+                            }
+                        }
+                    }
+                }
+                OwnProperty::Present(desc) => {
+                    match desc {
+                        Property::Data(v, _, _, _) => ValueOut::Done(v, t), // 3
+                        Property::Accessor(getter, _, _, _) => {
+                            if value::is_undefined(getter) {
+                                ValueOut::Done(Value::Undefined, t) // 6
+                            } else {
+                                calls::next_value(sheet, t) // 7
+                            }
+                        }
+                    }
+                }
+            }
+        }
+    }
+}
+
+// 10.5.8 [[Get]] ( P, Receiver )
+fn proxy_exotic_get(
+    words: &[u64],
+    strings: &[u16],
+    allowance: usize,
+    sheet: &[u8],
+    p: ProxyObject,
+    key: PropertyKey,
+    receiver: Value,
+    depth: usize,
+    s: Progress,
+) -> ValueOut
+    requires { ⌜ Readable (now words) (now strings) ⌝ }
+    ensures { λ r. ⌜ toldValue (now (sheet .entry)) r ≡ proxyGet (methods depth (context (now (words .entry)) (now (strings .entry)) allowance)) p key receiver .run (stateOf (now (sheet .entry)) s) ⌝ }
+{
+    let target = p.target;
+    if calls::has_trap(p, 128) {
+        get_trap(words, strings, allowance, sheet, p, key, receiver, depth, s)
+    } else {
+        get(
+            words,
+            strings,
+            allowance,
+            sheet,
+            target,
+            key,
+            receiver,
+            depth,
+            s,
+        ) // 6
+    }
+}
