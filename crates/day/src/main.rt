@@ -168,27 +168,34 @@ fn short(head: &[u8; 8], at: usize) -> usize
     wide(head[at]) + 256 * wide(head[at + 1])
 }
 
-fn run_step(words: &mut [u64], strings: &[u16], n: u64, record: &[u8], sheet: &[u8], output: &mut [u8]) {
-    let report = step::step(words, strings, record, sheet, output);
+fn run_step(
+    words: &mut [u64],
+    strings: &[u16],
+    n: u64,
+    call: &[u8],
+    sheet: &[u8],
+    output: &mut [u8],
+) {
+    let report = step::step(words, strings, call, sheet, output);
     print_report(n, report, output);
 }
 
 // Two bytes for each code unit.
-fn unit(record: &[u8], at: usize) -> u16
-    requires { ⌜ at + 2 ≤ length (now record) ⌝ }
+fn unit(call: &[u8], at: usize) -> u16
+    requires { ⌜ at + 2 ≤ length (now call) ⌝ }
 {
-    (bytes::short_at(record, at) % 65536) as u16
+    (bytes::short_at(call, at) % 65536) as u16
 }
 
-fn run_entry(strings: &mut [u16], n: u64, record: &[u8]) {
+fn run_entry(strings: &mut [u16], n: u64, call: &[u8]) {
     let mut units = [0u16; 64];
     let mut i: usize = 0;
-    while i < 64 && 2 * i + 2 <= record.len() {
-        units[i] = unit(record, 2 * i);
+    while i < 64 && 2 * i + 2 <= call.len() {
+        units[i] = unit(call, 2 * i);
         i += 1;
     }
     let report = step::enter_string(strings, &units[..i]);
-    print_report(n, report, record);
+    print_report(n, report, call);
 }
 
 // One call, if there is another.
@@ -214,7 +221,14 @@ fn turn(words: &mut [u64; 1634], strings: &mut [u16; 8449], n: u64) -> bool {
     if head[0] == 2 {
         run_entry(strings, n, &body[..record]);
     } else {
-        run_step(words, strings, n, &body[..record], &body[record..end], &mut output[..room]);
+        run_step(
+            words,
+            strings,
+            n,
+            &body[..record],
+            &body[record..end],
+            &mut output[..room],
+        );
     }
     true
 }

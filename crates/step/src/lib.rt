@@ -45,7 +45,13 @@ fn run(words: &mut [u64], strings: &[u16], bytes: &[u8], sheet: &[u8], output: &
 }
 
 // One step. Words that are no store, and cells that are no table, are refused as 1.
-pub fn step(words: &mut [u64], strings: &[u16], bytes: &[u8], sheet: &[u8], output: &mut [u8]) -> Report
+pub fn step(
+    words: &mut [u64],
+    strings: &[u16],
+    bytes: &[u8],
+    sheet: &[u8],
+    output: &mut [u8],
+) -> Report
     ensures { λ r. ⌜ shown r (now (words .exit)) (now (strings .entry)) (now (output .exit)) ≡ shownBy (stepOver (now (words .entry)) (now (strings .entry)) (now (bytes .entry)) (now (sheet .entry)) (now (output .entry))) ⌝ }
     ensures { λ r. ⌜ WordsAfter (r .outcome) (now (words .entry)) (now (words .exit)) ⌝ }
 {

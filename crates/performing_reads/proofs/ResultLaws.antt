@@ -24,7 +24,7 @@ use Rattle.calls.specs.Told.{toldValue, toldBoolean, toldOwnProperty, toldWrite
 use Rattle.lasting.specs.Perform.{reading, writing, ownResult}
 use Rattle.lasting.specs.Perform as result
 use Rattle.making.specs.Performed.{Taken, toldPerformed}
-use Rattle.performing.specs.Results.{isReading, valueResult, booleanResult, ownPropertyResult, writeResult}
+use Rattle.performing_reads.specs.Results.{isReading, valueResult, booleanResult, ownPropertyResult, writeResult}
 
 module _ (sheet : List ℕ) (σ : Store) (s : State) where
   pub value-told : (m : M Value) (out : ValueOut) → toldValue sheet out ≡ m .run s → toldPerformed sheet σ (valueResult out) ≡ reading σ result.value m .run s
