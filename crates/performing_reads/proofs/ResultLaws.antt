@@ -5,6 +5,14 @@ use mathlib.Core.Path.{_≡_, refl, sym, ap, _∙_}
 use mathlib.Core.Bool.{Bool, true, false, _||_}
 use mathlib.Core.List.{List}
 use lib.Dec.{eqb}
+use mathlib.Core.Option.{Option, none, some}
+use borrow.Author.Tests.{eqb-true, ne-eqb}
+use Rattle.value.specs.declared.PropertyKey.{PropertyKey}
+use Rattle.value.specs.declared.PropertyKey.the-variants.{String}
+use Rattle.value.specs.declared.KeyResult.{KeyResult}
+use Rattle.value.specs.declared.KeyResult.the-variants.{Key, NotKey}
+use Rattle.value.specs.Answers.{keyResult}
+use Rattle.lasting.specs.Operation.{keyOrFirst}
 use Rattle.value.specs.declared.Value.{Value}
 use Rattle.property.specs.declared.OwnProperty.{OwnProperty}
 use Rattle.property.specs.declared.OwnProperty.the-variants.{Absent, Present}
@@ -65,3 +73,17 @@ module _ (words : List ℕ) where
   pub write-taken : (out : WriteOut) → Fitting words out → Taken words (writeResult out)
   write-taken (write.Failed f t) h = tt
   write-taken (write.Done b w t) h = (h, refl)
+
+-- the key of a step, or the first
+pub key-there : (o : Option PropertyKey) (r : KeyResult) (k : PropertyKey) → r ≡ keyResult o → r ≡ Key k → k ≡ keyOrFirst o
+key-there none r k e f = let z : _≡_ {A = ℕ} 0 1 = cc in absurd (omega arith)
+key-there (some j) r k e f = cc
+
+pub key-missing : (o : Option PropertyKey) (r : KeyResult) → r ≡ keyResult o → r ≡ NotKey → String 0 ≡ keyOrFirst o
+key-missing none r e f = refl
+key-missing (some j) r e f = let z : _≡_ {A = ℕ} 0 1 = cc in absurd (omega arith)
+
+-- the last of the codes that read
+pub last-reading : (code : ℕ) → isReading code ≡ true → (code ≡ 4 → ⊥) → (code ≡ 6 → ⊥) → (code ≡ 8 → ⊥) → (code ≡ 10 → ⊥) → code ≡ 11
+unfolding isReading
+last-reading code e a b c d = eqb-true code 11 (simp (ne-eqb code 4 a, ne-eqb code 6 b, ne-eqb code 8 c, ne-eqb code 10 d) at e)

@@ -97,7 +97,8 @@ pub fn perform_reading(
 {
     let code = step.code;
     let o = step.object;
-    let key = key_or_first(step.key);
+    let named = step.key;
+    let key = key_or_first(named);
     let receiver = step.receiver;
     match code {
         4 => {

@@ -41,7 +41,8 @@ pub fn perform_writing(
 {
     let code = step.code;
     let o = step.object;
-    let key = performing_reads::key_or_first(step.key);
+    let named = step.key;
+    let key = performing_reads::key_or_first(named);
     let v = step.value;
     let receiver = step.receiver;
     let descriptor = step.descriptor;
