@@ -1,0 +1,176 @@
+// 10.1.7 and 10.5.7 [[HasProperty]].
+use calls::BooleanOut;
+use calls::Entered;
+use calls::OwnPropertyOut;
+use calls::Progress;
+use calls::ValueOut;
+use internal_methods::Failure;
+use property::OwnProperty;
+use store::ProxyObject;
+use value::ObjectResult;
+use value::PropertyKey;
+ghost use mathlib.Core.Path.{_≡_};
+ghost use mathlib.Core.Bool.{true};
+ghost use Rattle.internal_methods.specs.Ordinary.{ordinaryHasProperty};
+ghost use Rattle.internal_methods.specs.Proxy.{hasTrap, proxyHasProperty};
+ghost use Rattle.internal_methods.specs.Internal.{methods};
+ghost use Rattle.calls.specs.Told.{Readable, context, stateOf, toldBoolean};
+
+// 10.5.7 from step 7 on, where the trap is there.
+fn has_property_trap(
+    words: &[u64],
+    strings: &[u16],
+    allowance: usize,
+    sheet: &[u8],
+    p: ProxyObject,
+    key: PropertyKey,
+    depth: usize,
+    s: Progress,
+) -> BooleanOut
+    requires { ⌜ Readable (now words) (now strings) ⌝ }
+    requires { ⌜ hasTrap p 6 ≡ true ⌝ }
+    ensures { λ r. ⌜ toldBoolean (now (sheet .entry)) r ≡ proxyHasProperty (context (now (words .entry)) (now (strings .entry)) allowance) (methods depth (context (now (words .entry)) (now (strings .entry)) allowance)) p key .run (stateOf (now (sheet .entry)) s) ⌝ }
+{
+    let target = p.target;
+    match calls::next_boolean(strings, sheet, s) {
+        BooleanOut::Failed(f, t) => BooleanOut::Failed(f, t), // 7
+        BooleanOut::Done(answer, t) => {
+            if answer {
+                return BooleanOut::Done(true, t);
+            }
+            match own_property::get_own_property(
+                words,
+                strings,
+                allowance,
+                sheet,
+                target,
+                key,
+                depth,
+                t,
+            ) {
+                OwnPropertyOut::Failed(f, u) => BooleanOut::Failed(f, u), // 8.a
+                OwnPropertyOut::Done(own, u) => {
+                    match own {
+                        OwnProperty::Absent => BooleanOut::Done(false, u),
+                        OwnProperty::Present(current) => {
+                            if property::is_configurable(current) {
+                                match extensibility::is_extensible(
+                                    words,
+                                    strings,
+                                    allowance,
+                                    sheet,
+                                    target,
+                                    depth,
+                                    u,
+                                ) {
+                                    BooleanOut::Failed(f, w) => BooleanOut::Failed(f, w), // 8.b.ii
+                                    BooleanOut::Done(extensible, w) => {
+                                        if extensible {
+                                            BooleanOut::Done(false, w) // 9
+                                        } else {
+                                            BooleanOut::Failed(Failure::TypeError(10), w) // 8.b.iii
+                                        }
+                                    }
+                                }
+                            } else {
+                                BooleanOut::Failed(Failure::TypeError(10), u) // 8.b.i
+                            }
+                        }
+                    }
+                }
+            }
+        }
+    }
+}
+
+// O.[[HasProperty]](P)
+pub fn has_property(
+    words: &[u64],
+    strings: &[u16],
+    allowance: usize,
+    sheet: &[u8],
+    o: u64,
+    key: PropertyKey,
+    depth: usize,
+    s: Progress,
+) -> BooleanOut
+    requires { ⌜ Readable (now words) (now strings) ⌝ }
+    ensures { λ r. ⌜ toldBoolean (now (sheet .entry)) r ≡ methods depth (context (now (words .entry)) (now (strings .entry)) allowance) .hasProperty o key .run (stateOf (now (sheet .entry)) s) ⌝ }
+{
+    match calls::enter(words, o, depth, s) {
+        Entered::Failed(f, t) => BooleanOut::Failed(f, t),
+        Entered::Ordinary(_, t) => {
+            ordinary_has_property(words, strings, allowance, sheet, o, key, depth - 1, t)
+        }
+        Entered::Proxy(p, t) => {
+            proxy_exotic_has_property(words, strings, allowance, sheet, p, key, depth - 1, t)
+        }
+    }
+}
+
+// 10.1.7.1 OrdinaryHasProperty ( O, P )
+fn ordinary_has_property(
+    words: &[u64],
+    strings: &[u16],
+    allowance: usize,
+    sheet: &[u8],
+    o: u64,
+    key: PropertyKey,
+    depth: usize,
+    s: Progress,
+) -> BooleanOut
+    requires { ⌜ Readable (now words) (now strings) ⌝ }
+    ensures { λ r. ⌜ toldBoolean (now (sheet .entry)) r ≡ ordinaryHasProperty (methods depth (context (now (words .entry)) (now (strings .entry)) allowance)) o key .run (stateOf (now (sheet .entry)) s) ⌝ }
+{
+    match own_property::get_own_property(words, strings, allowance, sheet, o, key, depth, s) {
+        OwnPropertyOut::Failed(f, t) => BooleanOut::Failed(f, t), // 1
+        OwnPropertyOut::Done(own, t) => {
+            match own {
+                OwnProperty::Present(_) => BooleanOut::Done(true, t), // 2
+                OwnProperty::Absent => {
+                    match prototypes::get_prototype_of(
+                        words,
+                        strings,
+                        allowance,
+                        sheet,
+                        o,
+                        depth,
+                        t,
+                    ) {
+                        ValueOut::Failed(f, u) => BooleanOut::Failed(f, u), // 3
+                        ValueOut::Done(parent, u) => {
+                            match value::object_of(parent) {
+                                ObjectResult::Object(q) => {
+                                    has_property(words, strings, allowance, sheet, q, key, depth, u) // 4
+                                }
+                                ObjectResult::NotObject => BooleanOut::Done(false, u), // 5
+                            }
+                        }
+                    }
+                }
+            }
+        }
+    }
+}
+
+// 10.5.7 [[HasProperty]] ( P )
+fn proxy_exotic_has_property(
+    words: &[u64],
+    strings: &[u16],
+    allowance: usize,
+    sheet: &[u8],
+    p: ProxyObject,
+    key: PropertyKey,
+    depth: usize,
+    s: Progress,
+) -> BooleanOut
+    requires { ⌜ Readable (now words) (now strings) ⌝ }
+    ensures { λ r. ⌜ toldBoolean (now (sheet .entry)) r ≡ proxyHasProperty (context (now (words .entry)) (now (strings .entry)) allowance) (methods depth (context (now (words .entry)) (now (strings .entry)) allowance)) p key .run (stateOf (now (sheet .entry)) s) ⌝ }
+{
+    let target = p.target;
+    if calls::has_trap(p, 64) {
+        has_property_trap(words, strings, allowance, sheet, p, key, depth, s)
+    } else {
+        has_property(words, strings, allowance, sheet, target, key, depth, s) // 6
+    }
+}
