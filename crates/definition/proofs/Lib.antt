@@ -1,0 +1,2 @@
+pub mod DefineLaws
+pub mod TrapLaws
