@@ -16,7 +16,9 @@ use Rattle.calls.specs.declared.Progress.{Progress}
 use Rattle.calls.specs.Told.{stateOf}
 use Rattle.lasting.specs.declared.Completion.{Completion}
 use Rattle.lasting.specs.declared.Completion.the-variants as completion
+use Rattle.lasting.specs.declared.Outcome.{Outcome}
 use Rattle.lasting.specs.declared.Outcome.the-variants as outcome
+use Rattle.store_write.specs.declared.write.Write.the-variants.{Nothing}
 use Rattle.lasting.specs.declared.Report.{Report}
 use Rattle.lasting.specs.Response.{Effect, reportOf, refusal}
 use Rattle.lasting.specs.Step.{ended, refusing}
@@ -30,7 +32,7 @@ module _ (words cells sheet output : List ℕ) where
   abbrev endedAs : Performed → Shown
   endedAs p = shownBy (ended (worldOf words cells) (sheetOf sheet) output (toldPerformed sheet (storeOf words) p))
 
-  failing : (f : Failure) (s : State) → shownBy (ended (worldOf words cells) (sheetOf sheet) output (failed f s))
+  pub failing : (f : Failure) (s : State) → shownBy (ended (worldOf words cells) (sheetOf sheet) output (failed f s))
       ≡ shown (reportOf (failureResponse (sheetOf sheet) f s)) words cells output
   failing (Refused n) s = refl
   failing (TypeError n) s = refl
@@ -57,3 +59,10 @@ module _ (words : List ℕ) (sheet : List ℕ) where
   pub finished-words : (after : List ℕ) (p : Performed) → Finished words after p → WordsAfter (performedReport sheet p .outcome) words after
   finished-words after (Failed f s) e = failing-words f (stateOf sheet s) after e
   finished-words after (Done c w s) e = record { write = w; words = e .words }
+
+-- words that were not written
+pub kept-words : (words : List ℕ) (o : Outcome) → WordsAfter o words words
+kept-words words (outcome.Refused n) = refl
+kept-words words (outcome.Result c) = record { write = Nothing; words = refl }
+kept-words words (outcome.TypeError n) = refl
+kept-words words (outcome.Thrown v) = refl
