@@ -1,22 +1,28 @@
-// The interface for C and Rust to link. The report is ten words: outcome, refusal or message number, answers, calls, kind of completion,
-// flags or key count, then a value or getter and a setter, each as kind and payload.
-use lasting::Completion;
-use lasting::Outcome;
+// The interface for C and Rust to link. A report is ten words (crates/report_words). No function has a condition on what it is lent.
 use lasting::Report;
-use property::Property;
-use value::Value;
 ghost use mathlib.Core.Path.{_≡_};
-ghost use Rattle.store.specs.Store.{Store};
 ghost use Rattle.text.specs.Answers.{enterCells, cellsAfter};
-ghost use Rattle.reporting.specs.Memory.{shown, shownBy, stepOver, shownEntry, enterOver, WordsAfter};
-ghost use Rattle.demnyaluz.specs.ReportWords.{weight, Body, emptyBody, valueBody, propertyBody, completionBody, outcomeBody, reportWords, reportStepOver, outputStepOver};
+ghost use Rattle.store.specs.Store.{empty};
+ghost use Rattle.store.specs.Words.{worldOf};
+ghost use Rattle.lasting.specs.Response.{reportOf};
+ghost use Rattle.report_words.specs.ReportWords.{reportWords};
+ghost use Rattle.reporting.specs.Memory.{stepOver, enterOver, WordsAfter};
 
-// The words of a report after its first four.
-pub struct Body {
-    pub form: u64,
-    pub flags: u64,
-    pub kind: u64,
-    pub payload: u64,
-    pub second_kind: u64,
-    pub second_payload: u64,
+// One step.
+#[no_mangle]
+pub extern "C" fn demnyaluz_step(
+    words: &mut [u64],
+    strings: &[u16],
+    bytes: &[u8],
+    sheet: &[u8],
+    output: &mut [u8],
+    report: &mut [u64; 10],
+)
+    ensures reported { λ _. ⌜ now (report .exit) ≡ reportWords (reportOf (stepOver (now (words .entry)) (now (strings .entry)) (now (bytes .entry)) (now (sheet .entry)) (now (output .entry)) .response)) ⌝ }
+    ensures world { λ _. ⌜ worldOf (now (words .exit)) (now (strings .entry)) ≡ stepOver (now (words .entry)) (now (strings .entry)) (now (bytes .entry)) (now (sheet .entry)) (now (output .entry)) .world ⌝ }
+    ensures written { λ _. ⌜ now (output .exit) ≡ stepOver (now (words .entry)) (now (strings .entry)) (now (bytes .entry)) (now (sheet .entry)) (now (output .entry)) .output ⌝ }
+    ensures words { λ _. ⌜ WordsAfter (reportOf (stepOver (now (words .entry)) (now (strings .entry)) (now (bytes .entry)) (now (sheet .entry)) (now (output .entry)) .response) .outcome) (now (words .entry)) (now (words .exit)) ⌝ }
+{
+    let r = step::step(words, strings, bytes, sheet, output);
+    report_words::put_report(r, report);
 }
