@@ -6,7 +6,7 @@ use mathlib.Core.Bool.{Bool, true, false, _&&_, false≢true}
 use mathlib.Core.Option.{Option, none, some}
 use mathlib.Core.List.{List, [], _∷_}
 use lib.Dec.{leb}
-use lib.ListN.{length}
+use lib.ListN.{length, length-append}
 use borrow.Author.Tests.{leb-true}
 use types.Run.{OneOf, miss}
 use denote.Enum.Declared.{tagOf}
@@ -22,6 +22,12 @@ use Rattle.record.specs.Bytes.{valueSize}
 use Rattle.record.specs.Tests.{isKnown}
 use Rattle.record.specs.Step.{isSome}
 use Rattle.record.specs.Sheet.{answersAt, valuesAt, valuesPass}
+use Rattle.text.specs.Strings.{Strings}
+use Rattle.store.specs.Words.{isStore, storeOf}
+use Rattle.store.specs.OwnKeys.{ordinaryOwnPropertyKeys}
+use Rattle.store_read.specs.Answers.{Listed}
+use Rattle.store_read.proofs.ReadLaws.{sized}
+use Rattle.store_read.proofs.ListLaws.{listed-length, length-ascending, classes-fit, ordered-keys}
 use Rattle.sheet.specs.declared.NextAnswer.{NextAnswer}
 use Rattle.sheet.specs.declared.NextAnswer.the-variants as next
 use Rattle.sheet.specs.Next.{Next, told}
@@ -61,6 +67,16 @@ module _ (bytes : List ℕ) (at left : ℕ) (r : NextAnswer) (h : Next bytes at 
         all-keys = k;
         known = known;
       }
+
+-- a store has no more properties
+own-few : (strings : Strings) (words : List ℕ) (o : ℕ) → isStore words ≡ true → length (ordinaryOwnPropertyKeys strings (storeOf words) o) ≤ 256
+own-few strings words o h =
+    rw (sym (ordered-keys strings words o (sized words h)))
+    (simp (length-append, length-ascending) (omega (arith, classes-fit strings words o (sized words h))))
+
+pub own-listed-few : (strings : Strings) (words : List ℕ) (o : ℕ) → isStore words ≡ true → (before after : List ℕ) (n : ℕ)
+    → Listed before after n (ordinaryOwnPropertyKeys strings (storeOf words) o) → n ≤ 256
+own-listed-few strings words o h before after n l = omega (arith, own-few strings words o h, listed-length _ _ _ _ l)
 
 module _ (s : State) where
   pub no-list : (v : Value) → OneOf (0 ∷ 1 ∷ 2 ∷ 3 ∷ 4 ∷ 5 ∷ 6 ∷ []) (tagOf the-type v) → failed (TypeError 31) s ≡ unlisted v .run s

@@ -65,9 +65,15 @@ no-duplicate ks n e z = duplicate-numbered [] ks .none-at (sym e ∙ z)
 pub not-rejected : (extensible : Bool) (target : Sorted) (ks : List PropertyKey) (n : ℕ) → n ≡ messageNumber (rejected extensible target ks) → n ≡ 0 → rejected extensible target ks ≡ none
 not-rejected extensible target ks n e z = rejected-numbered extensible target ks .none-at (sym e ∙ z)
 
-pub some-message : (x : Option ℕ) (n : ℕ) → n ≡ messageNumber x → (n ≡ 0 → ⊥) → x ≡ some n
+some-message : (x : Option ℕ) (n : ℕ) → n ≡ messageNumber x → (n ≡ 0 → ⊥) → x ≡ some n
 some-message none n e h = absurd (h e)
 some-message (some m) n e h = ap some (sym e)
+
+pub rejected-some : (extensible : Bool) (target : Sorted) (ks : List PropertyKey) (n : ℕ) → n ≡ messageNumber (rejected extensible target ks) → (n ≡ 0 → ⊥) → rejected extensible target ks ≡ some n
+rejected-some extensible target ks n e h = some-message (rejected extensible target ks) n e h
+
+pub some-duplicate : (ks : List PropertyKey) (n : ℕ) → n ≡ messageNumber (duplicate [] ks) → (n ≡ 0 → ⊥) → duplicate [] ks ≡ some n
+some-duplicate ks n e h = some-message (duplicate [] ks) n e h
 
 -- 10.5.11 with the trap, in parts
 

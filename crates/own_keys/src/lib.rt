@@ -111,6 +111,7 @@ pub fn load_list(
 ) -> usize
     requires { ⌜ Readable (now words) (now strings) × (Loadable (now sheet) list × (256 ≤ length (now out))) ⌝ }
     ensures { λ r. ⌜ Listed (now (out .entry)) (now (out .exit)) r (listedKeys (now (sheet .entry)) (stringsOf (now (strings .entry))) (storeOf (now (words .entry))) list) ⌝ }
+    ensures { λ r. ⌜ r ≤ 256 ⌝ }
 {
     match list {
         KeyList::Answered(first, n) => {
@@ -250,18 +251,18 @@ fn checked_keys(
     extensible: bool,
     first: usize,
     n: usize,
-    target_keys: KeyList,
+    listed: KeyList,
     keys: &mut [u64],
     marks: &mut [u64],
     list: &mut [u64],
     depth: usize,
     s: Progress,
 ) -> KeysOut
-    requires { ⌜ Readable (now words) (now strings) × (LoadableAt (now sheet) first n × (Loadable (now sheet) target_keys × ((256 ≤ length (now keys)) × ((256 ≤ length (now marks)) × (256 ≤ length (now list)))))) ⌝ }
-    ensures { λ r. ⌜ toldKeys (now (sheet .entry)) (stringsOf (now (strings .entry))) (storeOf (now (words .entry))) r ≡ checkedKeys (methods depth (context (now (words .entry)) (now (strings .entry)) allowance)) target extensible (answeredKeys (now (sheet .entry)) first n) (listedKeys (now (sheet .entry)) (stringsOf (now (strings .entry))) (storeOf (now (words .entry))) target_keys) .run (stateOf (now (sheet .entry)) s) ⌝ }
+    requires { ⌜ Readable (now words) (now strings) × (LoadableAt (now sheet) first n × (Loadable (now sheet) listed × ((256 ≤ length (now keys)) × ((256 ≤ length (now marks)) × (256 ≤ length (now list)))))) ⌝ }
+    ensures { λ r. ⌜ toldKeys (now (sheet .entry)) (stringsOf (now (strings .entry))) (storeOf (now (words .entry))) r ≡ checkedKeys (methods depth (context (now (words .entry)) (now (strings .entry)) allowance)) target extensible (answeredKeys (now (sheet .entry)) first n) (listedKeys (now (sheet .entry)) (stringsOf (now (strings .entry))) (storeOf (now (words .entry))) listed) .run (stateOf (now (sheet .entry)) s) ⌝ }
     ensures { λ r. ⌜ LoadableKeys (now (sheet .entry)) r ⌝ }
 {
-    let m = load_list(words, strings, sheet, target_keys, keys);
+    let m = load_list(words, strings, sheet, listed, keys);
     match mark_configurable(
         words,
         strings,
@@ -291,4 +292,113 @@ fn ordinary_own_property_keys(o: u64) -> KeyList
     ensures { λ r. ⌜ r ≡ KeyList.Own o ⌝ }
 {
     KeyList::Own(o)
+}
+
+// 10.1.11 and 10.5.11 [[OwnPropertyKeys]] ( ). The three buffers' words are overwritten.
+pub fn own_property_keys(
+    words: &[u64],
+    strings: &[u16],
+    allowance: usize,
+    sheet: &[u8],
+    o: u64,
+    keys: &mut [u64],
+    marks: &mut [u64],
+    list: &mut [u64],
+    depth: usize,
+    s: Progress,
+) -> KeysOut
+    requires { ⌜ Readable (now words) (now strings) × ((areListsFit (answersAt (now sheet) (s .at) (s .left)) ≡ true) × ((256 ≤ length (now keys)) × ((256 ≤ length (now marks)) × (256 ≤ length (now list))))) ⌝ }
+    ensures { λ r. ⌜ toldKeys (now (sheet .entry)) (stringsOf (now (strings .entry))) (storeOf (now (words .entry))) r ≡ methods depth (context (now (words .entry)) (now (strings .entry)) allowance) .ownPropertyKeys o .run (stateOf (now (sheet .entry)) s) ⌝ }
+    ensures { λ r. ⌜ LoadableKeys (now (sheet .entry)) r ⌝ }
+{
+    match calls::enter(words, o, depth, s) {
+        Entered::Failed(f, t) => KeysOut::Failed(f, t),
+        Entered::Ordinary(_, t) => KeysOut::Done(ordinary_own_property_keys(o), t),
+        Entered::Proxy(p, t) => {
+            proxy_exotic_own_property_keys(
+                words,
+                strings,
+                allowance,
+                sheet,
+                p,
+                keys,
+                marks,
+                list,
+                depth - 1,
+                t,
+            )
+        }
+    }
+}
+
+// 10.5.11 [[OwnPropertyKeys]] ( )
+fn proxy_exotic_own_property_keys(
+    words: &[u64],
+    strings: &[u16],
+    allowance: usize,
+    sheet: &[u8],
+    p: ProxyObject,
+    keys: &mut [u64],
+    marks: &mut [u64],
+    list: &mut [u64],
+    depth: usize,
+    s: Progress,
+) -> KeysOut
+    requires { ⌜ Readable (now words) (now strings) × ((areListsFit (answersAt (now sheet) (s .at) (s .left)) ≡ true) × ((256 ≤ length (now keys)) × ((256 ≤ length (now marks)) × (256 ≤ length (now list))))) ⌝ }
+    ensures { λ r. ⌜ toldKeys (now (sheet .entry)) (stringsOf (now (strings .entry))) (storeOf (now (words .entry))) r ≡ proxyOwnPropertyKeys (methods depth (context (now (words .entry)) (now (strings .entry)) allowance)) p .run (stateOf (now (sheet .entry)) s) ⌝ }
+    ensures { λ r. ⌜ LoadableKeys (now (sheet .entry)) r ⌝ }
+{
+    let target = p.target;
+    if calls::has_trap(p, 1024) {
+        match own_keys_trap(words, strings, allowance, sheet, target, list, depth, s) {
+            TrapOut::Failed(f, t) => KeysOut::Failed(f, t), // 7 to 10
+            TrapOut::Done(first, n, extensible, t) => {
+                match own_property_keys(
+                    words,
+                    strings,
+                    allowance,
+                    sheet,
+                    target,
+                    keys,
+                    marks,
+                    list,
+                    depth,
+                    t,
+                ) {
+                    KeysOut::Failed(f, u) => KeysOut::Failed(f, u), // 11
+                    KeysOut::Done(listed, u) => {
+                        checked_keys(
+                            words,
+                            strings,
+                            allowance,
+                            sheet,
+                            target,
+                            extensible,
+                            first,
+                            n,
+                            listed,
+                            keys,
+                            marks,
+                            list,
+                            depth,
+                            u,
+                        ) // 14 to 23
+                    }
+                }
+            }
+        }
+    } else {
+        own_property_keys(
+            words,
+            strings,
+            allowance,
+            sheet,
+            target,
+            keys,
+            marks,
+            list,
+            depth,
+            s,
+        ) // 6
+    }
 }

@@ -1,3 +1,4 @@
+use mathlib.Core.Path.{sym, _∙_}
 use borrow.Author.Needs.{needs}
 use Rattle.own_keys.proofs.duplicate_in.Statement.{statement}
 use Rattle.own_keys.proofs.duplicate_in.Tie as tie
@@ -20,7 +21,7 @@ same-length c = search needs
 
 -- src/lib.rt:125:1
 returns : tie.Need-returns
-returns c = ?
+returns c = rw (c .duplicate-message .ensures, c .before .before .before .before .load-keys .ensures .0 .listed)
 
 pub duplicate-in-spec : {M : Type 1} → statement M
 duplicate-in-spec =

@@ -1,3 +1,7 @@
+use mathlib.Core.Path.{sym, _∙_}
+use Rattle.internal_methods.specs.Monad.{pure, fails, next, _>>=_, throwAny}
+use Rattle.own_keys.specs.Parts.{trapKeys}
+use Rattle.own_keys.proofs.PartLaws.{no-duplicate, some-duplicate}
 use borrow.Author.Needs.{needs}
 use Rattle.own_keys.proofs.own_keys_trap.Statement.{statement}
 use Rattle.own_keys.proofs.own_keys_trap.Tie as tie
@@ -21,7 +25,7 @@ enum-known-first c = search needs
 
 -- src/lib.rt:222:17
 duplicate-in-requires : tie.Need-duplicate-in-requires
-duplicate-in-requires c κs = ?
+duplicate-in-requires c κs = (rw (c .before .before .first .given .1) at (c .before .before .before .before .next-keys .ensures .1), c .before .before .before .before .before .before .before .before .before .pre .1 .1)
 
 -- src/lib.rt:224:23
 is-extensible-requires : tie.Need-is-extensible-requires
@@ -37,7 +41,8 @@ enum-known-extensible c = search needs
 
 -- src/lib.rt:205:1
 returns : tie.Need-returns
-returns c = ?
+unfolding pure fails next _>>=_ throwAny trapKeys
+returns c = (rw (sym (c .before .before .before .next-keys .ensures .0), c .before .f .given .1), tt)
 
 -- src/lib.rt:205:1
 same-length : tie.Need-same-length
@@ -45,7 +50,8 @@ same-length c = search needs
 
 -- src/lib.rt:205:1
 returns-2 : tie.Need-returns-2
-returns-2 c = ?
+unfolding pure fails next _>>=_ throwAny trapKeys
+returns-2 c = (rw (sym (c .before .before .before .before .before .before .before .before .before .before .before .before .next-keys .ensures .0), c .before .before .before .before .before .before .before .before .before .before .first .given .1, no-duplicate _ _ (c .before .before .before .before .before .before .before .duplicate-in .ensures) (c .before .before .before .before .if1 .taken), sym (c .before .before .before .is-extensible .ensures), c .before .f2 .given .1), tt)
 
 -- src/lib.rt:205:1
 same-length-2 : tie.Need-same-length-2
@@ -53,7 +59,8 @@ same-length-2 c = search needs
 
 -- src/lib.rt:205:1
 returns-3 : tie.Need-returns-3
-returns-3 c = ?
+unfolding pure fails next _>>=_ throwAny trapKeys
+returns-3 c = (rw (sym (c .before .before .before .before .before .before .before .before .before .before .before .before .next-keys .ensures .0), c .before .before .before .before .before .before .before .before .before .before .first .given .1, no-duplicate _ _ (c .before .before .before .before .before .before .before .duplicate-in .ensures) (c .before .before .before .before .if1 .taken), sym (c .before .before .before .is-extensible .ensures), c .before .extensible .given .1), rw (c .before .before .before .before .before .before .before .before .before .before .first .given .1) at (c .before .before .before .before .before .before .before .before .before .before .before .before .next-keys .ensures .1))
 
 -- src/lib.rt:205:1
 same-length-3 : tie.Need-same-length-3
@@ -61,7 +68,8 @@ same-length-3 c = search needs
 
 -- src/lib.rt:205:1
 returns-4 : tie.Need-returns-4
-returns-4 c = ?
+unfolding pure fails next _>>=_ throwAny trapKeys
+returns-4 c = (rw (sym (c .before .before .before .before .before .before .before .before .next-keys .ensures .0), c .before .before .before .before .before .before .first .given .1, some-duplicate _ _ (c .before .before .before .duplicate-in .ensures) (c .if1 .left)), tt)
 
 pub own-keys-trap-spec : {M : Type 1} → statement M
 own-keys-trap-spec =
