@@ -1,7 +1,7 @@
 -- 10.5.11 in parts, its messages by their numbers, and the lists that stay fit. Assumes nothing.
-use Prim.Native.Nat.{ℕ}
+use Prim.Native.Nat.{ℕ, zero, suc}
 use native.Mathlib.Omega.{arith}
-use mathlib.Core.Path.{_≡_, refl, sym, ap, _∙_}
+use mathlib.Core.Path.{_≡_, refl, sym, ap, subst, _∙_}
 use mathlib.Core.Bool.{Bool, true, false, _&&_, cond}
 use mathlib.Core.Option.{Option, none, some}
 use mathlib.Core.List.{List, [], _∷_}
@@ -16,7 +16,13 @@ use Rattle.internal_methods.specs.KeyList.{hasKey, isEmpty, duplicate, duplicat
 use Rattle.internal_methods.specs.Proxy.{hasTrap, sorted, proxyOwnPropertyKeys}
 use Rattle.internal_methods.specs.Internal.{methods}
 use Rattle.internal_methods.proofs.Longer.{Longer, left, longer-bind, longer-pure, longer-throwAny, askKeys-longer, methods-longer}
+use Rattle.store.specs.declared.Object.{Object}
+use Rattle.store.specs.declared.Object.the-variants as object
+use Rattle.record.specs.Sheet.{answersAt}
 use Rattle.key_list.specs.KeyWords.{messageNumber}
+use Rattle.calls.specs.declared.Progress.{Progress}
+use Rattle.calls.specs.declared.Entered.the-variants as entered
+use Rattle.calls.specs.Entering.{progress, unrevoked, found, counting, entering}
 use Rattle.own_keys.specs.Keys.{areListsFit}
 use Rattle.own_keys.specs.Parts.{trapKeys, checkedKeys}
 use Rattle.own_keys.proofs.ListLaws.{fit-suffix}
@@ -122,3 +128,26 @@ trap-longer depth c o =
 pub stays-fit : (depth : ℕ) (c : Context) (o : ℕ) (s t : State) (a : List PropertyKey × Bool)
     → done a t ≡ trapKeys (methods depth c) o .run s → areListsFit (s .answers) ≡ true → areListsFit (t .answers) ≡ true
 stays-fit depth c o s t a e h = fit-suffix (rw (sym e) at (trap-longer depth c o .shrinks s)) h
+
+-- to begin a call takes no answer
+module _ (p : ProxyObject) (t : Progress) where
+  found-place : (x : Option Object) (u : Progress) → found x u ≡ entered.Proxy p t → u ≡ t
+  found-place none u e = let z : _≡_ {A = ℕ} 0 1 = cc in absurd (omega arith)
+  found-place (some (object.Ordinary r)) u e = let z : _≡_ {A = ℕ} 0 1 = cc in absurd (omega arith)
+  found-place (some (object.Proxy q)) u e = go (q .revoked) e
+    where
+      go : (b : Bool) → unrevoked b q u ≡ entered.Proxy p t → u ≡ t
+      go true f = let z : _≡_ {A = ℕ} 0 1 = cc in absurd (omega arith)
+      go false f = cc
+
+  counted-fit : (sheet : List ℕ) (x : Option Object) (at to-come calls : ℕ) → counting x at to-come calls ≡ entered.Proxy p t
+      → areListsFit (answersAt sheet at to-come) ≡ true → areListsFit (answersAt sheet (t .at) (t .left)) ≡ true
+  counted-fit sheet x at to-come zero e h = let z : _≡_ {A = ℕ} 0 1 = cc in absurd (omega arith)
+  counted-fit sheet x at to-come (suc calls) e h =
+      subst (λ (u : Progress). areListsFit (answersAt sheet (u .at) (u .left)) ≡ true) (found-place x (progress at to-come calls) e) h
+
+  pub begun-fit : (sheet : List ℕ) (s : Progress) (x : Option Object) (depth : ℕ) → entering depth x s ≡ entered.Proxy p t
+      → areListsFit (answersAt sheet (s .at) (s .left)) ≡ true → areListsFit (answersAt sheet (t .at) (t .left)) ≡ true
+  unfolding entering
+  begun-fit sheet s x zero e h = let z : _≡_ {A = ℕ} 0 1 = cc in absurd (omega arith)
+  begun-fit sheet s x (suc depth) e h = counted-fit sheet x (s .at) (s .left) (s .calls) e h

@@ -1,3 +1,12 @@
+use denote.Ref.{now}
+use mathlib.Core.Path.{sym, _∙_}
+use native.Mathlib.Omega.{arith}
+use Prim.Native.Nat.{_+_, _*_}
+use borrow.Author.Needs.{needs}
+use Rattle.internal_methods.specs.Monad.{pure, fails, next, _>>=_}
+use Rattle.internal_methods.specs.Proxy.{hasTrap}
+use Rattle.calls.proofs.EnterLaws.{own-property-keys-goes-on, proxy-deep}
+use Rattle.own_keys.proofs.PartLaws.{in-parts, without-trap, stays-fit, begun-fit}
 use Prim.Native.Nat.{ℕ, _<_}
 use borrow.Fn.Kinds.{In}
 use borrow.Fn.PlainCycle.{Measures, is, falls, and}
@@ -16,10 +25,10 @@ use Rattle.own_keys.proofs.+own_property_keys+proxy_exotic_own_property
 use Rattle.own_keys.proofs.+own_property_keys+proxy_exotic_own_property_keys.Tie.{close}
 
 abbrev μ-own-property-keys : Measures 6 own-property-keys-kinds.ps ℕ
-μ-own-property-keys κs a = ?
+μ-own-property-keys κs a = 2 * a .1 .1 .1 .1 .1 .1 .1 .1 .0
 
 abbrev μ-proxy-exotic-own-property-keys : Measures 6 proxy-exotic-own-property-keys-kinds.ps ℕ
-μ-proxy-exotic-own-property-keys κs a = ?
+μ-proxy-exotic-own-property-keys κs a = 2 * a .1 .1 .1 .1 .1 .1 .1 .1 .0 + 1
 
 abbrev own-property-keys-at : ℕ → In 6 own-property-keys-kinds.ps
 own-property-keys-at t =
@@ -62,7 +71,7 @@ own-property-keys-enter-requires : (t : ℕ) → own-property-keys-lts.Need-ente
   proxy-exotic-own-property-keys-below t,
   proxy-exotic-own-property-keys.Post,
 ) (own-property-keys-at t) own-property-keys.Post
-own-property-keys-enter-requires t c κs = ?
+own-property-keys-enter-requires t c κs = c .before .before .before .before .before .before .pre .1 .0 .store
 
 -- src/lib.rt:315:25
 own-property-keys-enum-known-f : (t : ℕ) → own-property-keys-lts.Need-enum-known-f (
@@ -73,7 +82,7 @@ own-property-keys-enum-known-f : (t : ℕ) → own-property-keys-lts.Need-enum-k
   proxy-exotic-own-property-keys-below t,
   proxy-exotic-own-property-keys.Post,
 ) (own-property-keys-at t) own-property-keys.Post
-own-property-keys-enum-known-f t c = ?
+own-property-keys-enum-known-f t c = search needs
 
 -- src/lib.rt:316:30
 own-property-keys-enum-known-t : (t : ℕ) → own-property-keys-lts.Need-enum-known-t (
@@ -84,7 +93,7 @@ own-property-keys-enum-known-t : (t : ℕ) → own-property-keys-lts.Need-enum-k
   proxy-exotic-own-property-keys-below t,
   proxy-exotic-own-property-keys.Post,
 ) (own-property-keys-at t) own-property-keys.Post
-own-property-keys-enum-known-t t c = ?
+own-property-keys-enum-known-t t c = search needs
 
 -- src/lib.rt:316:50
 own-property-keys-ordinary-own-property-keys-requires :
@@ -96,7 +105,7 @@ own-property-keys-ordinary-own-property-keys-requires :
       proxy-exotic-own-property-keys-below t,
       proxy-exotic-own-property-keys.Post,
     ) (own-property-keys-at t) own-property-keys.Post
-own-property-keys-ordinary-own-property-keys-requires t c κs = ?
+own-property-keys-ordinary-own-property-keys-requires t c κs = search needs
 
 -- src/lib.rt:317:24
 own-property-keys-enum-known-p : (t : ℕ) → own-property-keys-lts.Need-enum-known-p (
@@ -107,7 +116,7 @@ own-property-keys-enum-known-p : (t : ℕ) → own-property-keys-lts.Need-enum-k
   proxy-exotic-own-property-keys-below t,
   proxy-exotic-own-property-keys.Post,
 ) (own-property-keys-at t) own-property-keys.Post
-own-property-keys-enum-known-p t c = ?
+own-property-keys-enum-known-p t c = search needs
 
 -- src/lib.rt:327:17
 own-property-keys-sub-proxy-exotic-own-property-keys :
@@ -119,7 +128,7 @@ own-property-keys-sub-proxy-exotic-own-property-keys :
       proxy-exotic-own-property-keys-below t,
       proxy-exotic-own-property-keys.Post,
     ) (own-property-keys-at t) own-property-keys.Post
-own-property-keys-sub-proxy-exotic-own-property-keys t c = ?
+own-property-keys-sub-proxy-exotic-own-property-keys t c = omega (arith, proxy-deep _ _ _ _ _ (sym (c .before .before .before .before .before .before .enter .ensures) ∙ c .before .before .before .before .p .given .1))
 
 -- src/lib.rt:318:13
 own-property-keys-proxy-exotic-own-property-keys-requires :
@@ -131,7 +140,7 @@ own-property-keys-proxy-exotic-own-property-keys-requires :
       proxy-exotic-own-property-keys-below t,
       proxy-exotic-own-property-keys.Post,
     ) (own-property-keys-at t) own-property-keys.Post
-own-property-keys-proxy-exotic-own-property-keys-requires t c κs = ?
+own-property-keys-proxy-exotic-own-property-keys-requires t c κs = (omega (arith, c .before .before .before .before .before .before .before .before .before .before .before .before .before .pre .0, proxy-deep _ _ _ _ _ (sym (c .before .before .before .before .before .before .enter .ensures) ∙ c .before .before .before .before .p .given .1)), (c .before .before .before .before .before .before .before .before .before .before .before .before .before .pre .1 .0, (begun-fit _ _ (now (c .before .before .before .before .before .before .before .before .before .before .before .before .before .args .sheet)) _ _ _ (sym (c .before .before .before .before .before .before .enter .ensures) ∙ c .before .before .before .before .p .given .1) (c .before .before .before .before .before .before .before .before .before .before .before .before .before .pre .1 .1 .0), c .before .before .before .before .before .before .before .before .before .before .before .before .before .pre .1 .1 .1)))
 
 -- src/lib.rt:298:1
 own-property-keys-returns : (t : ℕ) → own-property-keys-lts.Need-returns (
@@ -142,7 +151,8 @@ own-property-keys-returns : (t : ℕ) → own-property-keys-lts.Need-returns (
   proxy-exotic-own-property-keys-below t,
   proxy-exotic-own-property-keys.Post,
 ) (own-property-keys-at t) own-property-keys.Post
-own-property-keys-returns t c = ?
+unfolding pure fails next _>>=_ hasTrap
+own-property-keys-returns t c = (rw (own-property-keys-goes-on _ _ _ _ _, sym (c .before .before .before .enter .ensures) ∙ c .before .f .given .1), tt)
 
 -- src/lib.rt:298:1
 own-property-keys-returns-2 : (t : ℕ) → own-property-keys-lts.Need-returns-2 (
@@ -153,7 +163,8 @@ own-property-keys-returns-2 : (t : ℕ) → own-property-keys-lts.Need-returns-2
   proxy-exotic-own-property-keys-below t,
   proxy-exotic-own-property-keys.Post,
 ) (own-property-keys-at t) own-property-keys.Post
-own-property-keys-returns-2 t c = ?
+unfolding pure fails next _>>=_ hasTrap
+own-property-keys-returns-2 t c = (rw (own-property-keys-goes-on _ _ _ _ _, sym (c .before .before .before .before .enter .ensures) ∙ c .before .before .t .given .1, c .ordinary-own-property-keys .ensures), rw (c .ordinary-own-property-keys .ensures) tt)
 
 -- src/lib.rt:298:1
 own-property-keys-same-length : (t : ℕ) → own-property-keys-lts.Need-same-length (
@@ -164,7 +175,7 @@ own-property-keys-same-length : (t : ℕ) → own-property-keys-lts.Need-same-le
   proxy-exotic-own-property-keys-below t,
   proxy-exotic-own-property-keys.Post,
 ) (own-property-keys-at t) own-property-keys.Post
-own-property-keys-same-length t c = ?
+own-property-keys-same-length t c = search needs
 
 -- src/lib.rt:298:1
 own-property-keys-same-length-2 : (t : ℕ) → own-property-keys-lts.Need-same-length-2 (
@@ -175,7 +186,7 @@ own-property-keys-same-length-2 : (t : ℕ) → own-property-keys-lts.Need-same-
   proxy-exotic-own-property-keys-below t,
   proxy-exotic-own-property-keys.Post,
 ) (own-property-keys-at t) own-property-keys.Post
-own-property-keys-same-length-2 t c = ?
+own-property-keys-same-length-2 t c = search needs
 
 -- src/lib.rt:298:1
 own-property-keys-same-length-3 : (t : ℕ) → own-property-keys-lts.Need-same-length-3 (
@@ -186,7 +197,7 @@ own-property-keys-same-length-3 : (t : ℕ) → own-property-keys-lts.Need-same-
   proxy-exotic-own-property-keys-below t,
   proxy-exotic-own-property-keys.Post,
 ) (own-property-keys-at t) own-property-keys.Post
-own-property-keys-same-length-3 t c = ?
+own-property-keys-same-length-3 t c = search needs
 
 -- src/lib.rt:298:1
 own-property-keys-returns-3 : (t : ℕ) → own-property-keys-lts.Need-returns-3 (
@@ -197,7 +208,8 @@ own-property-keys-returns-3 : (t : ℕ) → own-property-keys-lts.Need-returns-3
   proxy-exotic-own-property-keys-below t,
   proxy-exotic-own-property-keys.Post,
 ) (own-property-keys-at t) own-property-keys.Post
-own-property-keys-returns-3 t c = ?
+unfolding pure fails next _>>=_ hasTrap
+own-property-keys-returns-3 t c = (rw (own-property-keys-goes-on _ _ _ _ _, sym (c .before .before .before .before .before .before .before .before .before .before .before .before .before .enter .ensures) ∙ c .before .before .before .before .before .before .before .before .before .before .before .p .given .1) (c .before .before .before .before .before .before .proxy-exotic-own-property-keys .ensures .0), c .before .before .before .before .before .before .proxy-exotic-own-property-keys .ensures .1)
 
 -- src/lib.rt:352:8
 proxy-exotic-own-property-keys-has-trap-requires :
@@ -211,7 +223,7 @@ proxy-exotic-own-property-keys-has-trap-requires :
       checked-keys-reads.Asked,
       checked-keys-reads.Learnt,
     ) (proxy-exotic-own-property-keys-at t) proxy-exotic-own-property-keys.Post
-proxy-exotic-own-property-keys-has-trap-requires t c κs = ?
+proxy-exotic-own-property-keys-has-trap-requires t c κs = search needs
 
 -- src/lib.rt:353:15
 proxy-exotic-own-property-keys-own-keys-trap-requires :
@@ -225,7 +237,7 @@ proxy-exotic-own-property-keys-own-keys-trap-requires :
       checked-keys-reads.Asked,
       checked-keys-reads.Learnt,
     ) (proxy-exotic-own-property-keys-at t) proxy-exotic-own-property-keys.Post
-proxy-exotic-own-property-keys-own-keys-trap-requires t c κs = ?
+proxy-exotic-own-property-keys-own-keys-trap-requires t c κs = (c .before .before .before .before .before .before .before .before .before .pre .1 .0, (c .before .before .before .before .before .before .before .before .before .pre .1 .1 .0, c .before .before .before .before .before .before .before .before .before .pre .1 .1 .1 .1 .1))
 
 -- src/lib.rt:354:29
 proxy-exotic-own-property-keys-enum-known-f :
@@ -239,7 +251,7 @@ proxy-exotic-own-property-keys-enum-known-f :
       checked-keys-reads.Asked,
       checked-keys-reads.Learnt,
     ) (proxy-exotic-own-property-keys-at t) proxy-exotic-own-property-keys.Post
-proxy-exotic-own-property-keys-enum-known-f t c = ?
+proxy-exotic-own-property-keys-enum-known-f t c = search needs
 
 -- src/lib.rt:355:27
 proxy-exotic-own-property-keys-enum-known-first :
@@ -253,7 +265,7 @@ proxy-exotic-own-property-keys-enum-known-first :
       checked-keys-reads.Asked,
       checked-keys-reads.Learnt,
     ) (proxy-exotic-own-property-keys-at t) proxy-exotic-own-property-keys.Post
-proxy-exotic-own-property-keys-enum-known-first t c = ?
+proxy-exotic-own-property-keys-enum-known-first t c = search needs
 
 -- src/lib.rt:356:23
 proxy-exotic-own-property-keys-own-property-keys-requires :
@@ -267,7 +279,7 @@ proxy-exotic-own-property-keys-own-property-keys-requires :
       checked-keys-reads.Asked,
       checked-keys-reads.Learnt,
     ) (proxy-exotic-own-property-keys-at t) proxy-exotic-own-property-keys.Post
-proxy-exotic-own-property-keys-own-property-keys-requires t c κs = ?
+proxy-exotic-own-property-keys-own-property-keys-requires t c κs = (omega (arith, c .before .before .before .before .before .before .before .before .before .before .before .before .before .before .before .before .before .before .pre .0), (c .before .before .before .before .before .before .before .before .before .before .before .before .before .before .before .before .before .before .pre .1 .0, (stays-fit _ _ _ _ _ _ (rw (c .before .before .before .before .first .given .1) at (c .before .before .before .before .before .before .before .before .own-keys-trap .ensures .0)) (c .before .before .before .before .before .before .before .before .before .before .before .before .before .before .before .before .before .before .pre .1 .1 .0), (c .before .before .before .before .before .before .before .before .before .before .before .before .before .before .before .before .before .before .pre .1 .1 .1 .0, (c .before .before .before .before .before .before .before .before .before .before .before .before .before .before .before .before .before .before .pre .1 .1 .1 .1 .0, omega (arith, c .before .before .before .before .before .before .before .list .given, c .before .before .before .before .before .before .before .before .before .before .before .before .before .before .before .before .before .before .pre .1 .1 .1 .1 .1))))))
 
 -- src/lib.rt:368:37
 proxy-exotic-own-property-keys-enum-known-f-2 :
@@ -281,7 +293,7 @@ proxy-exotic-own-property-keys-enum-known-f-2 :
       checked-keys-reads.Asked,
       checked-keys-reads.Learnt,
     ) (proxy-exotic-own-property-keys-at t) proxy-exotic-own-property-keys.Post
-proxy-exotic-own-property-keys-enum-known-f-2 t c = ?
+proxy-exotic-own-property-keys-enum-known-f-2 t c = search needs
 
 -- src/lib.rt:369:35
 proxy-exotic-own-property-keys-enum-known-listed :
@@ -295,7 +307,7 @@ proxy-exotic-own-property-keys-enum-known-listed :
       checked-keys-reads.Asked,
       checked-keys-reads.Learnt,
     ) (proxy-exotic-own-property-keys-at t) proxy-exotic-own-property-keys.Post
-proxy-exotic-own-property-keys-enum-known-listed t c = ?
+proxy-exotic-own-property-keys-enum-known-listed t c = search needs
 
 -- src/lib.rt:370:25
 proxy-exotic-own-property-keys-checked-keys-requires :
@@ -309,7 +321,7 @@ proxy-exotic-own-property-keys-checked-keys-requires :
       checked-keys-reads.Asked,
       checked-keys-reads.Learnt,
     ) (proxy-exotic-own-property-keys-at t) proxy-exotic-own-property-keys.Post
-proxy-exotic-own-property-keys-checked-keys-requires t c κs = ?
+proxy-exotic-own-property-keys-checked-keys-requires t c κs = (c .before .before .before .before .before .before .before .before .before .before .before .before .before .before .before .before .before .before .before .before .before .before .before .before .before .before .before .before .before .before .before .pre .1 .0, (rw (c .before .before .before .before .before .before .before .before .before .before .before .before .before .before .before .before .before .first .given .1) at (c .before .before .before .before .before .before .before .before .before .before .before .before .before .before .before .before .before .before .before .before .before .own-keys-trap .ensures .1), (rw (c .before .before .before .before .listed .given .1) at (c .before .before .before .before .before .before .before .before .before .before .before .before .own-property-keys .ensures .1), (omega (arith, c .before .before .before .before .before .before .before .before .before .before .before .keys .given, c .before .before .before .before .before .before .before .before .before .before .before .before .before .before .before .before .before .before .before .before .before .before .before .before .before .before .before .before .before .before .before .pre .1 .1 .1 .0), (omega (arith, c .before .before .before .before .before .before .before .before .before .marks .given, c .before .before .before .before .before .before .before .before .before .before .before .before .before .before .before .before .before .before .before .before .before .before .before .before .before .before .before .before .before .before .before .pre .1 .1 .1 .1 .0), omega (arith, c .before .before .before .before .before .before .before .list2 .given, c .before .before .before .before .before .before .before .before .before .before .before .before .before .before .before .before .before .before .before .before .list .given, c .before .before .before .before .before .before .before .before .before .before .before .before .before .before .before .before .before .before .before .before .before .before .before .before .before .before .before .before .before .before .before .pre .1 .1 .1 .1 .1))))))
 
 -- src/lib.rt:391:9
 proxy-exotic-own-property-keys-own-property-keys-requires-2 :
@@ -323,7 +335,7 @@ proxy-exotic-own-property-keys-own-property-keys-requires-2 :
       checked-keys-reads.Asked,
       checked-keys-reads.Learnt,
     ) (proxy-exotic-own-property-keys-at t) proxy-exotic-own-property-keys.Post
-proxy-exotic-own-property-keys-own-property-keys-requires-2 t c κs = ?
+proxy-exotic-own-property-keys-own-property-keys-requires-2 t c κs = (omega (arith, c .before .before .before .before .before .before .before .before .before .before .before .pre .0), c .before .before .before .before .before .before .before .before .before .before .before .pre .1)
 
 -- src/lib.rt:335:1
 proxy-exotic-own-property-keys-same-length :
@@ -337,7 +349,7 @@ proxy-exotic-own-property-keys-same-length :
       checked-keys-reads.Asked,
       checked-keys-reads.Learnt,
     ) (proxy-exotic-own-property-keys-at t) proxy-exotic-own-property-keys.Post
-proxy-exotic-own-property-keys-same-length t c = ?
+proxy-exotic-own-property-keys-same-length t c = search needs
 
 -- src/lib.rt:335:1
 proxy-exotic-own-property-keys-returns : (t : ℕ) → proxy-exotic-own-property-keys-lts.Need-returns (
@@ -350,7 +362,8 @@ proxy-exotic-own-property-keys-returns : (t : ℕ) → proxy-exotic-own-property
   checked-keys-reads.Asked,
   checked-keys-reads.Learnt,
 ) (proxy-exotic-own-property-keys-at t) proxy-exotic-own-property-keys.Post
-proxy-exotic-own-property-keys-returns t c = ?
+unfolding pure fails next _>>=_ hasTrap
+proxy-exotic-own-property-keys-returns t c = (rw (in-parts _ _ (sym (c .before .before .before .before .before .before .before .before .has-trap .ensures) ∙ c .before .before .before .before .before .before .before .if1 .taken) _, sym (c .before .before .before .before .before .own-keys-trap .ensures .0), c .before .f .given .1), tt)
 
 -- src/lib.rt:335:1
 proxy-exotic-own-property-keys-same-length-2 :
@@ -364,7 +377,7 @@ proxy-exotic-own-property-keys-same-length-2 :
       checked-keys-reads.Asked,
       checked-keys-reads.Learnt,
     ) (proxy-exotic-own-property-keys-at t) proxy-exotic-own-property-keys.Post
-proxy-exotic-own-property-keys-same-length-2 t c = ?
+proxy-exotic-own-property-keys-same-length-2 t c = search needs
 
 -- src/lib.rt:335:1
 proxy-exotic-own-property-keys-same-length-3 :
@@ -378,7 +391,7 @@ proxy-exotic-own-property-keys-same-length-3 :
       checked-keys-reads.Asked,
       checked-keys-reads.Learnt,
     ) (proxy-exotic-own-property-keys-at t) proxy-exotic-own-property-keys.Post
-proxy-exotic-own-property-keys-same-length-3 t c = ?
+proxy-exotic-own-property-keys-same-length-3 t c = search needs
 
 -- src/lib.rt:335:1
 proxy-exotic-own-property-keys-same-length-4 :
@@ -392,7 +405,7 @@ proxy-exotic-own-property-keys-same-length-4 :
       checked-keys-reads.Asked,
       checked-keys-reads.Learnt,
     ) (proxy-exotic-own-property-keys-at t) proxy-exotic-own-property-keys.Post
-proxy-exotic-own-property-keys-same-length-4 t c = ?
+proxy-exotic-own-property-keys-same-length-4 t c = search needs
 
 -- src/lib.rt:335:1
 proxy-exotic-own-property-keys-returns-2 :
@@ -406,7 +419,8 @@ proxy-exotic-own-property-keys-returns-2 :
       checked-keys-reads.Asked,
       checked-keys-reads.Learnt,
     ) (proxy-exotic-own-property-keys-at t) proxy-exotic-own-property-keys.Post
-proxy-exotic-own-property-keys-returns-2 t c = ?
+unfolding pure fails next _>>=_ hasTrap
+proxy-exotic-own-property-keys-returns-2 t c = (rw (in-parts _ _ (sym (c .before .before .before .before .before .before .before .before .before .before .before .before .before .before .before .before .before .before .before .before .before .has-trap .ensures) ∙ c .before .before .before .before .before .before .before .before .before .before .before .before .before .before .before .before .before .before .before .before .if1 .taken) _, sym (c .before .before .before .before .before .before .before .before .before .before .before .before .before .before .before .before .before .before .own-keys-trap .ensures .0), c .before .before .before .before .before .before .before .before .before .before .before .before .before .before .first .given .1, sym (c .before .before .before .before .before .before .before .before .before .own-property-keys .ensures .0), c .before .f2 .given .1), tt)
 
 -- src/lib.rt:335:1
 proxy-exotic-own-property-keys-same-length-5 :
@@ -420,7 +434,7 @@ proxy-exotic-own-property-keys-same-length-5 :
       checked-keys-reads.Asked,
       checked-keys-reads.Learnt,
     ) (proxy-exotic-own-property-keys-at t) proxy-exotic-own-property-keys.Post
-proxy-exotic-own-property-keys-same-length-5 t c = ?
+proxy-exotic-own-property-keys-same-length-5 t c = search needs
 
 -- src/lib.rt:335:1
 proxy-exotic-own-property-keys-same-length-6 :
@@ -434,7 +448,7 @@ proxy-exotic-own-property-keys-same-length-6 :
       checked-keys-reads.Asked,
       checked-keys-reads.Learnt,
     ) (proxy-exotic-own-property-keys-at t) proxy-exotic-own-property-keys.Post
-proxy-exotic-own-property-keys-same-length-6 t c = ?
+proxy-exotic-own-property-keys-same-length-6 t c = search needs
 
 -- src/lib.rt:335:1
 proxy-exotic-own-property-keys-same-length-7 :
@@ -448,7 +462,7 @@ proxy-exotic-own-property-keys-same-length-7 :
       checked-keys-reads.Asked,
       checked-keys-reads.Learnt,
     ) (proxy-exotic-own-property-keys-at t) proxy-exotic-own-property-keys.Post
-proxy-exotic-own-property-keys-same-length-7 t c = ?
+proxy-exotic-own-property-keys-same-length-7 t c = c .before .list3 .given ∙ c .before .before .before .before .before .before .before .before .before .before .before .before .before .before .list2 .given ∙ c .before .before .before .before .before .before .before .before .before .before .before .before .before .before .before .before .before .before .before .before .before .before .before .before .before .before .before .list .given
 
 -- src/lib.rt:335:1
 proxy-exotic-own-property-keys-returns-3 :
@@ -462,7 +476,8 @@ proxy-exotic-own-property-keys-returns-3 :
       checked-keys-reads.Asked,
       checked-keys-reads.Learnt,
     ) (proxy-exotic-own-property-keys-at t) proxy-exotic-own-property-keys.Post
-proxy-exotic-own-property-keys-returns-3 t c = ?
+unfolding pure fails next _>>=_ hasTrap
+proxy-exotic-own-property-keys-returns-3 t c = (rw (in-parts _ _ (sym (c .before .before .before .before .before .before .before .before .before .before .before .before .before .before .before .before .before .before .before .before .before .before .before .before .before .before .before .before .before .before .before .has-trap .ensures) ∙ c .before .before .before .before .before .before .before .before .before .before .before .before .before .before .before .before .before .before .before .before .before .before .before .before .before .before .before .before .before .before .if1 .taken) _, sym (c .before .before .before .before .before .before .before .before .before .before .before .before .before .before .before .before .before .before .before .before .before .before .before .before .before .before .before .before .own-keys-trap .ensures .0), c .before .before .before .before .before .before .before .before .before .before .before .before .before .before .before .before .before .before .before .before .before .before .before .before .first .given .1, sym (c .before .before .before .before .before .before .before .before .before .before .before .before .before .before .before .before .before .before .before .own-property-keys .ensures .0), c .before .before .before .before .before .before .before .before .before .before .before .listed .given .1) (c .before .before .before .before .before .before .checked-keys .ensures .0), c .before .before .before .before .before .before .checked-keys .ensures .1)
 
 -- src/lib.rt:335:1
 proxy-exotic-own-property-keys-same-length-8 :
@@ -476,7 +491,7 @@ proxy-exotic-own-property-keys-same-length-8 :
       checked-keys-reads.Asked,
       checked-keys-reads.Learnt,
     ) (proxy-exotic-own-property-keys-at t) proxy-exotic-own-property-keys.Post
-proxy-exotic-own-property-keys-same-length-8 t c = ?
+proxy-exotic-own-property-keys-same-length-8 t c = search needs
 
 -- src/lib.rt:335:1
 proxy-exotic-own-property-keys-same-length-9 :
@@ -490,7 +505,7 @@ proxy-exotic-own-property-keys-same-length-9 :
       checked-keys-reads.Asked,
       checked-keys-reads.Learnt,
     ) (proxy-exotic-own-property-keys-at t) proxy-exotic-own-property-keys.Post
-proxy-exotic-own-property-keys-same-length-9 t c = ?
+proxy-exotic-own-property-keys-same-length-9 t c = search needs
 
 -- src/lib.rt:335:1
 proxy-exotic-own-property-keys-same-length-10 :
@@ -504,7 +519,7 @@ proxy-exotic-own-property-keys-same-length-10 :
       checked-keys-reads.Asked,
       checked-keys-reads.Learnt,
     ) (proxy-exotic-own-property-keys-at t) proxy-exotic-own-property-keys.Post
-proxy-exotic-own-property-keys-same-length-10 t c = ?
+proxy-exotic-own-property-keys-same-length-10 t c = search needs
 
 -- src/lib.rt:335:1
 proxy-exotic-own-property-keys-returns-4 :
@@ -518,7 +533,8 @@ proxy-exotic-own-property-keys-returns-4 :
       checked-keys-reads.Asked,
       checked-keys-reads.Learnt,
     ) (proxy-exotic-own-property-keys-at t) proxy-exotic-own-property-keys.Post
-proxy-exotic-own-property-keys-returns-4 t c = ?
+unfolding pure fails next _>>=_ hasTrap
+proxy-exotic-own-property-keys-returns-4 t c = (rw (without-trap _ _ (sym (c .before .before .before .before .before .before .before .before .before .before .before .has-trap .ensures) ∙ c .before .before .before .before .before .before .before .before .before .before .if1 .left) _) (c .before .before .before .before .before .before .own-property-keys2 .ensures .0), c .before .before .before .before .before .before .own-property-keys2 .ensures .1)
 
 pub +own-property-keys+proxy-exotic-own-property-keys-spec : {M : Type 1} → statement M
 +own-property-keys+proxy-exotic-own-property-keys-spec =
