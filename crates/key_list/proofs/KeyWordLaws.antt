@@ -3,7 +3,7 @@ use Prim.Native.Nat.{ℕ, suc, _+_, _/_, _%_, _<_, _≤_}
 use native.Mathlib.Omega.{arith}
 use native.Mathlib.Numerals.{add-one}
 use mathlib.Core.Path.{_≡_, refl, sym, ap, _∙_}
-use mathlib.Core.Bool.{Bool, true, false, _&&_, _||_, cond, false≢true}
+use mathlib.Core.Bool.{Bool, true, false, _&&_, _||_, Bool·beq, cond, false≢true}
 use mathlib.Core.Option.{Option, none, some}
 use mathlib.Core.List.{List, [], _∷_, _++_, map}
 use lib.Dec.{eqb, ltb}
@@ -138,7 +138,7 @@ duplicate-end ws n i h g = rw (no-more ws n i h g)
 
 -- Steps 19.b and 21.b: one key is checked off -----------------------------------------------------
 
-module _ (word : ℕ) (small : word < checkedMark) where
+module _ (word : ℕ) (other : word ≡ checkedMark → ⊥) where
   unchecked-has : (ws : List ℕ) → hasKey (keyFromWord word) (unchecked ws) ≡ ltb (placeOfWord word ws) (length ws)
   unfolding hasKey unchecked placeOfWord
   unchecked-has [] = sym (le-ltb 0 0 (omega arith))
@@ -146,7 +146,7 @@ module _ (word : ℕ) (small : word < checkedMark) where
     where
       go : (b : Bool) → eqb w checkedMark ≡ b → (d : Bool) → eqb w word ≡ d → hasKey (keyFromWord word) (unchecked ws) ≡ ltb (placeOfWord word ws) (length ws)
           → hasKey (keyFromWord word) (cond b (unchecked ws) (keyFromWord w ∷ unchecked ws)) ≡ ltb (cond d 0 (suc (placeOfWord word ws))) (suc (length ws))
-      go true e true f ih = absurd (omega (arith, eqb-true w checkedMark e, eqb-true w word f))
+      go true e true f ih = absurd (other (sym (eqb-true w word f) ∙ eqb-true w checkedMark e))
       go true e false f ih = ih ∙ ltb-suc (placeOfWord word ws) (length ws)
       go false e true f ih = rw (key-word w word ∙ f) (sym (lt-ltb 0 (suc (length ws)) (omega arith)))
       go false e false f ih = rw (key-word w word ∙ f) (ih ∙ ltb-suc (placeOfWord word ws) (length ws))
@@ -160,7 +160,7 @@ module _ (word : ℕ) (small : word < checkedMark) where
           → (placeOfWord word ws < length ws → unchecked (set ws (placeOfWord word ws) checkedMark) ≡ withoutKey (keyFromWord word) (unchecked ws))
           → cond d 0 (suc (placeOfWord word ws)) < suc (length ws)
           → unchecked (set (w ∷ ws) (cond d 0 (suc (placeOfWord word ws))) checkedMark) ≡ withoutKey (keyFromWord word) (cond b (unchecked ws) (keyFromWord w ∷ unchecked ws))
-      go true e true f ih l = absurd (omega (arith, eqb-true w checkedMark e, eqb-true w word f))
+      go true e true f ih l = absurd (other (sym (eqb-true w word f) ∙ eqb-true w checkedMark e))
       go true e false f ih l = rw e (ih (omega arith))
       go false e true f ih l = rw (key-word w word ∙ f)
       go false e false f ih l = rw (e, key-word w word ∙ f) (ap (λ (ks : List PropertyKey). keyFromWord w ∷ ks) (ih (omega arith)))
@@ -178,6 +178,20 @@ module _ (word : ℕ) (small : word < checkedMark) where
     pub check-miss : n ≤ i → none ≡ checkedOff (keyFromWord word ∷ []) (unchecked (take n ws))
     unfolding checkedOff
     check-miss l = rw (has-first, le-ltb _ _ l)
+
+-- the word that stands for a key checked off is no key's
+marked-has : (ws : List ℕ) → hasKey (keyFromWord checkedMark) (unchecked ws) ≡ false
+unfolding hasKey unchecked
+marked-has [] = refl
+marked-has (w ∷ ws) = go (eqb w checkedMark) refl (marked-has ws)
+  where
+    go : (b : Bool) → eqb w checkedMark ≡ b → hasKey (keyFromWord checkedMark) (unchecked ws) ≡ false → hasKey (keyFromWord checkedMark) (cond b (unchecked ws) (keyFromWord w ∷ unchecked ws)) ≡ false
+    go true e ih = ih
+    go false e ih = rw (key-word w checkedMark ∙ e) ih
+
+pub check-marked : (word : ℕ) (ws : List ℕ) → word ≡ checkedMark → none ≡ checkedOff (keyFromWord word ∷ []) (unchecked ws)
+unfolding checkedOff
+check-marked word ws e = rw (e, marked-has ws)
 
 -- Steps 19 and 21: the keys of a mark --------------------------------------------------------------
 
@@ -198,42 +212,41 @@ checked-missing k ks us h = go (hasKey k us) h
     go false h = refl
 
 -- of the target's words from i on
-abbrev pub markedFrom : ℕ → List ℕ → ℕ → ℕ → List PropertyKey
-markedFrom mark ts m i = markedKeys mark (drop i (take m ts))
+abbrev pub markedFrom : Bool → List ℕ → List ℕ → ℕ → ℕ → List PropertyKey
+markedFrom b ts ms m i = markedKeys b (drop i (take m ts)) (drop i (take m ms))
 
-module _ (mark : ℕ) (ts : List ℕ) (m i : ℕ) (h : m ≤ length ts) where
-  marked-key : i < m → getD ts i 0 % 2 ≡ mark → markedFrom mark ts m i ≡ keyFromWord (getD ts i 0 / 2) ∷ markedFrom mark ts m (i + 1)
+module _ (b : Bool) (ts ms : List ℕ) (m i : ℕ) (h : m ≤ length ts) (k : m ≤ length ms) where
+  marked-key : i < m → Bool·beq (eqb (getD ms i 0) 1) b ≡ true → markedFrom b ts ms m i ≡ keyFromWord (getD ts i 0) ∷ markedFrom b ts ms m (i + 1)
   unfolding markedKeys
-  marked-key l e = rw (next-word ts m i h l, eq-eqb _ _ e)
+  marked-key l e = rw (next-word ts m i h l, next-word ms m i k l, e)
 
-  pub marked-hit : i < m → getD ts i 0 % 2 ≡ mark → (us vs : List PropertyKey) → some vs ≡ checkedOff (keyFromWord (getD ts i 0 / 2) ∷ []) us
-      → checkedOff (markedFrom mark ts m i) us ≡ checkedOff (markedFrom mark ts m (i + 1)) vs
+  pub marked-hit : i < m → Bool·beq (eqb (getD ms i 0) 1) b ≡ true → (us vs : List PropertyKey) → some vs ≡ checkedOff (keyFromWord (getD ts i 0) ∷ []) us
+      → checkedOff (markedFrom b ts ms m i) us ≡ checkedOff (markedFrom b ts ms m (i + 1)) vs
   marked-hit l e us vs f = rw (marked-key l e) (checked-more _ _ us vs f)
 
-  pub marked-miss : i < m → getD ts i 0 % 2 ≡ mark → (us : List PropertyKey) → none ≡ checkedOff (keyFromWord (getD ts i 0 / 2) ∷ []) us
-      → none ≡ checkedOff (markedFrom mark ts m i) us
+  pub marked-miss : i < m → Bool·beq (eqb (getD ms i 0) 1) b ≡ true → (us : List PropertyKey) → none ≡ checkedOff (keyFromWord (getD ts i 0) ∷ []) us
+      → none ≡ checkedOff (markedFrom b ts ms m i) us
   marked-miss l e us f = rw (marked-key l e) (checked-missing _ _ us f)
 
-  pub marked-pass : i < m → (getD ts i 0 % 2 ≡ mark → ⊥) → markedFrom mark ts m i ≡ markedFrom mark ts m (i + 1)
+  pub marked-pass : i < m → Bool·beq (eqb (getD ms i 0) 1) b ≡ false → markedFrom b ts ms m i ≡ markedFrom b ts ms m (i + 1)
   unfolding markedKeys
-  marked-pass l e = rw (next-word ts m i h l, ne-eqb _ _ e)
+  marked-pass l e = rw (next-word ts m i h l, next-word ms m i k l, e)
 
-  pub marked-done : m ≤ i → (us : List PropertyKey) → some us ≡ checkedOff (markedFrom mark ts m i) us
+  pub marked-done : m ≤ i → (us : List PropertyKey) → some us ≡ checkedOff (markedFrom b ts ms m i) us
   unfolding markedKeys checkedOff
   marked-done l us = rw (no-more ts m i h l)
 
-sorted-keys : (ts : List ℕ) → (sortedFrom ts .configurable ≡ markedKeys 1 ts) × (sortedFrom ts .nonconfigurable ≡ markedKeys 0 ts)
+sorted-keys : (ts ms : List ℕ) → (sortedFrom ts ms .configurable ≡ markedKeys true ts ms) × (sortedFrom ts ms .nonconfigurable ≡ markedKeys false ts ms)
 unfolding sortedFrom markedKeys
-sorted-keys [] = (refl, refl)
-sorted-keys (t ∷ ts) = go (eqb (t % 2) 1) refl (eqb (t % 2) 0) refl (sorted-keys ts)
+sorted-keys [] ms = (refl, refl)
+sorted-keys (t ∷ ts) [] = (refl, refl)
+sorted-keys (t ∷ ts) (m ∷ ms) = go (eqb m 1) (sorted-keys ts ms)
   where
-    go : (b : Bool) → eqb (t % 2) 1 ≡ b → (d : Bool) → eqb (t % 2) 0 ≡ d → (sortedFrom ts .configurable ≡ markedKeys 1 ts) × (sortedFrom ts .nonconfigurable ≡ markedKeys 0 ts)
-        → (sortedBy (keyFromWord (t / 2)) b (sortedFrom ts) .configurable ≡ cond b (keyFromWord (t / 2) ∷ markedKeys 1 ts) (markedKeys 1 ts))
-        × (sortedBy (keyFromWord (t / 2)) b (sortedFrom ts) .nonconfigurable ≡ cond d (keyFromWord (t / 2) ∷ markedKeys 0 ts) (markedKeys 0 ts))
-    go true e true f ih = absurd (omega (arith, eqb-true (t % 2) 1 e, eqb-true (t % 2) 0 f))
-    go true e false f ih = (rw (ih .0), ih .1)
-    go false e true f ih = (ih .0, rw (ih .1))
-    go false e false f ih = absurd (let x = eqb-false (t % 2) 1 e in let y = eqb-false (t % 2) 0 f in omega arith)
+    go : (b : Bool) → (sortedFrom ts ms .configurable ≡ markedKeys true ts ms) × (sortedFrom ts ms .nonconfigurable ≡ markedKeys false ts ms)
+        → (sortedBy (keyFromWord t) b (sortedFrom ts ms) .configurable ≡ cond (Bool·beq b true) (keyFromWord t ∷ markedKeys true ts ms) (markedKeys true ts ms))
+        × (sortedBy (keyFromWord t) b (sortedFrom ts ms) .nonconfigurable ≡ cond (Bool·beq b false) (keyFromWord t ∷ markedKeys false ts ms) (markedKeys false ts ms))
+    go true ih = (rw (ih .0), ih .1)
+    go false ih = (ih .0, rw (ih .1))
 
 -- Step 22 ------------------------------------------------------------------------------------------
 
@@ -273,18 +286,18 @@ all-unchecked (w ∷ ws) h =
     let e : eqb w checkedMark ≡ false = ne-eqb w checkedMark (λ q. omega arith) in
     rw e (ap (λ (ks : List PropertyKey). keyFromWord w ∷ ks) (all-unchecked ws (λ i l. h (suc i) (omega arith))))
 
-module _ (x : Bool) (ts : List ℕ) (m : ℕ) (ws : List ℕ) (n : ℕ) (h : n ≤ length ws) (small : (i : ℕ) → i < n → getD ws i 0 < 512) where
+module _ (x : Bool) (ts ms : List ℕ) (m : ℕ) (ws : List ℕ) (n : ℕ) (h : n ≤ length ws) (small : (i : ℕ) → i < n → getD ws i 0 < 512) where
   abbrev answer : Option ℕ
-  answer = rejected x (sortedFrom (take m ts)) (map keyFromWord (take n ws))
+  answer = rejected x (sortedFrom (take m ts) (take m ms)) (map keyFromWord (take n ws))
 
-  rejected-words : answer ≡ required x (markedKeys 1 (take m ts)) (checkedOff (markedKeys 0 (take m ts)) (unchecked (take n ws)))
+  rejected-words : answer ≡ required x (markedKeys true (take m ts) (take m ms)) (checkedOff (markedKeys false (take m ts) (take m ms)) (unchecked (take n ws)))
   rejected-words =
       let a : unchecked (take n ws) ≡ map keyFromWord (take n ws)
       = all-unchecked (take n ws) (λ i l. let z : i < n = omega (arith, length-take-le n ws h) in rw (getD-take n ws i 0 z) (small i z)) in
-      let (p, q) = sorted-keys (take m ts) in
-      rejected-required x (sortedFrom (take m ts)) (map keyFromWord (take n ws)) ∙ rw (p, q, a)
+      let (p, q) = sorted-keys (take m ts) (take m ms) in
+      rejected-required x (sortedFrom (take m ts) (take m ms)) (map keyFromWord (take n ws)) ∙ rw (p, q, a)
 
-  module _ (r : Bool) (us : List PropertyKey) (c : unlessMissing r us ≡ checkedOff (markedKeys 0 (take m ts)) (unchecked (take n ws))) where
+  module _ (r : Bool) (us : List PropertyKey) (c : unlessMissing r us ≡ checkedOff (markedKeys false (take m ts) (take m ms)) (unchecked (take n ws))) where
     pub message-24 : r ≡ false → 24 ≡ messageNumber answer
     message-24 e = rw (rejected-words, ← c, e)
 
@@ -292,7 +305,7 @@ module _ (x : Bool) (ts : List ℕ) (m : ℕ) (ws : List ℕ) (n : ℕ) (h : n �
       pub message-extensible : x ≡ true → 0 ≡ messageNumber answer
       message-extensible f = rw (rejected-words, ← c, e, f)
 
-      module _ (f : x ≡ false) (s : Bool) (vs : List PropertyKey) (d : unlessMissing s vs ≡ checkedOff (markedKeys 1 (take m ts)) us) where
+      module _ (f : x ≡ false) (s : Bool) (vs : List PropertyKey) (d : unlessMissing s vs ≡ checkedOff (markedKeys true (take m ts) (take m ms)) us) where
         pub message-25 : s ≡ false → 25 ≡ messageNumber answer
         message-25 g = rw (rejected-words, ← c, e, f, ← d, g)
 

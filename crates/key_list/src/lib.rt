@@ -1,12 +1,13 @@
 // ECMA-262 10.5.11 steps 9 and 17 to 22: the check of an answered key list, each key in one word.
 ghost use mathlib.Core.Path.{_≡_};
-ghost use mathlib.Core.Bool.{not};
+ghost use mathlib.Core.Bool.{Bool·beq, not};
 ghost use mathlib.Core.List.{[], _∷_, map};
 ghost use Prim.Native.Nat.{ℕ, _<_, _≤_};
+ghost use lib.Dec.{eqb};
 ghost use lib.ListN.{length, take, getD};
 ghost use Rattle.store_read.specs.Answers.{keyFromWord};
 ghost use Rattle.internal_methods.specs.KeyList.{isEmpty, duplicate, checkedOff, rejected};
-ghost use Rattle.key_list.specs.KeyWords.{messageNumber, sortedFrom, markedKeys, placeOfWord, checkedMark, unchecked, unlessMissing};
+ghost use Rattle.key_list.specs.KeyWords.{messageNumber, sortedFrom, markedKeys, placeOfWord, unchecked, unlessMissing};
 
 // Stands for a key that was checked off.
 const CHECKED: u64 = 18446744073709551615;
@@ -44,9 +45,12 @@ pub fn duplicate_message(list: &[u64], n: usize) -> u64
 
 // Checks off one key; false if it is missing.
 fn check_off(list: &mut [u64], n: usize, word: u64) -> bool
-    requires { ⌜ (n ≤ length (now list)) × (word < checkedMark) ⌝ }
+    requires { ⌜ n ≤ length (now list) ⌝ }
     ensures { λ r. ⌜ unlessMissing r (unchecked (take n (now (list .exit)))) ≡ checkedOff (keyFromWord word ∷ []) (unchecked (take n (now (list .entry)))) ⌝ }
 {
+    if word == CHECKED {
+        return false;
+    }
     let i = find_word(list, n, word);
     if i < n {
         list[i] = CHECKED;
@@ -55,16 +59,28 @@ fn check_off(list: &mut [u64], n: usize, word: u64) -> bool
     false
 }
 
-// Steps 19 and 21: checks off the target's keys that have the mark; false if one is missing.
-fn check_off_marked(target: &[u64], m: usize, mark: u64, list: &mut [u64], n: usize) -> bool
-    requires { ⌜ (m ≤ length (now target)) × (n ≤ length (now list)) ⌝ }
-    ensures { λ r. ⌜ unlessMissing r (unchecked (take n (now (list .exit)))) ≡ checkedOff (markedKeys mark (take m (now (target .entry)))) (unchecked (take n (now (list .entry)))) ⌝ }
+fn has_mark(mark: u64, configurable: bool) -> bool
+    ensures { λ r. ⌜ r ≡ Bool·beq (eqb mark 1) configurable ⌝ }
+{
+    (mark == 1) == configurable
+}
+
+// Steps 19 and 21: checks off the target's keys that are configurable, or those that are not; false if one is missing.
+fn check_off_marked(
+    target: &[u64],
+    marks: &[u64],
+    m: usize,
+    configurable: bool,
+    list: &mut [u64],
+    n: usize,
+) -> bool
+    requires { ⌜ (m ≤ length (now target)) × ((m ≤ length (now marks)) × (n ≤ length (now list))) ⌝ }
+    ensures { λ r. ⌜ unlessMissing r (unchecked (take n (now (list .exit)))) ≡ checkedOff (markedKeys configurable (take m (now (target .entry))) (take m (now (marks .entry)))) (unchecked (take n (now (list .entry)))) ⌝ }
 {
     let mut i: usize = 0;
     while i < m {
-        let word = target[i];
-        if word % 2 == mark {
-            if check_off(list, n, word / 2) {
+        if has_mark(marks[i], configurable) {
+            if check_off(list, n, target[i]) {
                 i += 1;
             } else {
                 return false;
@@ -95,18 +111,19 @@ fn any_left(list: &[u64], n: usize) -> bool
 pub fn rejected_message(
     extensible: bool,
     target: &[u64],
+    marks: &[u64],
     m: usize,
     list: &mut [u64],
     n: usize,
 ) -> u64
-    requires { ⌜ (m ≤ length (now target)) × (n ≤ length (now list)) × ((i : ℕ) → i < n → getD (now list) i 0 < 512) ⌝ }
-    ensures { λ r. ⌜ r ≡ messageNumber (rejected extensible (sortedFrom (take m (now (target .entry)))) (map keyFromWord (take n (now (list .entry))))) ⌝ }
+    requires { ⌜ (m ≤ length (now target)) × ((m ≤ length (now marks)) × ((n ≤ length (now list)) × ((i : ℕ) → i < n → getD (now list) i 0 < 512))) ⌝ }
+    ensures { λ r. ⌜ r ≡ messageNumber (rejected extensible (sortedFrom (take m (now (target .entry))) (take m (now (marks .entry)))) (map keyFromWord (take n (now (list .entry))))) ⌝ }
 {
-    if check_off_marked(target, m, 0, list, n) {
+    if check_off_marked(target, marks, m, false, list, n) {
         if extensible {
             return 0;
         }
-        if check_off_marked(target, m, 1, list, n) {
+        if check_off_marked(target, marks, m, true, list, n) {
             if any_left(list, n) {
                 return 26;
             }

@@ -1,0 +1,3 @@
+pub mod ListLaws
+pub mod MarkLaws
+pub mod PartLaws
