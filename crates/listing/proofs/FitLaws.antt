@@ -15,7 +15,7 @@ use Rattle.internal_methods.specs.Monad.{Answer}
 use Rattle.internal_methods.specs.Monad as answer
 use Rattle.record.specs.Bytes.{byteAt}
 use Rattle.record.specs.Tests.{Counts, isKnown}
-use Rattle.record.specs.Sheet.{valuesAt, keyCountAt, answerAt, answerEnd, answersAt, isBodyAt, isAnswerAt, areAnswersAt, sheetOf, isSheet, valuesPass, answerPasses, sheetPasses}
+use Rattle.record.specs.Sheet.{valuesAt, areValuesAt, keyCountAt, answerAt, answerEnd, answersAt, isBodyAt, isAnswerAt, areAnswersAt, sheetOf, isSheet, valuesPass, answerPasses, sheetPasses}
 use Rattle.key_bytes.specs.Keys.{greatest}
 use Rattle.own_keys.specs.Keys.{isListFit, areListsFit}
 
@@ -52,9 +52,10 @@ module _ (n : Counts) (h : n .strings ≤ 256) where
   tagged b i true two three p q r e f = rw p
   tagged b i false true three p q r e f = rw (p, q)
   tagged b i false false true p q r e f =
-      let body : (leb (keyCountAt b i) 256 && _) ≡ true = rw (p, q, r) at e in
+      let body : (leb (keyCountAt b i) 256 && areValuesAt b (i + 3) (keyCountAt b i)) ≡ true = rw (p, q, r) at e in
       let pass : valuesPass (isKnown n) (valuesAt b (i + 3) (keyCountAt b i)) ≡ true = rw (p, q, r) at f in
-      rw (p, q, r) (both _ _ (rw (length-values b (i + 3) (keyCountAt b i)) (and-true _ _ body .0)) (values-widen _ pass))
+      let few : leb (length (valuesAt b (i + 3) (keyCountAt b i))) 256 ≡ true = rw (length-values b (i + 3) (keyCountAt b i)) (and-true (leb (keyCountAt b i) 256) _ body .0) in
+      rw (p, q, r) (both (leb (length (valuesAt b (i + 3) (keyCountAt b i))) 256) (valuesPass (isKnown greatest) (valuesAt b (i + 3) (keyCountAt b i))) few (values-widen (valuesAt b (i + 3) (keyCountAt b i)) pass))
   tagged b i false false false p q r e f = rw (p, q, r)
 
   lists-fit : (b : List ℕ) (i m : ℕ) → areAnswersAt b i m ≡ true → sheetPasses (isKnown n) (answersAt b i m) ≡ true → areListsFit (answersAt b i m) ≡ true
@@ -64,8 +65,8 @@ module _ (n : Counts) (h : n .strings ≤ 256) where
       let a = and-true (isAnswerAt b i) (areAnswersAt b (answerEnd b i) m) e in
       let w = and-true (leb (answerEnd b i) (length b)) (isBodyAt b i) (a .0) in
       let g : (answerPasses (isKnown n) (answerAt b i) && sheetPasses (isKnown n) (answersAt b (answerEnd b i) m)) ≡ true = rw (w .0) at f in
-      let k = and-true (answerPasses (isKnown n) (answerAt b i)) _ g in
-      rw (w .0) (both _ _ (tagged b i _ _ _ refl refl refl (w .1) (k .0)) (lists-fit b (answerEnd b i) m (a .1) (k .1)))
+      let k = and-true (answerPasses (isKnown n) (answerAt b i)) (sheetPasses (isKnown n) (answersAt b (answerEnd b i) m)) g in
+      rw (w .0) (both (isListFit (answerAt b i)) (areListsFit (answersAt b (answerEnd b i) m)) (tagged b i (eqb (byteAt b i) 1) (eqb (byteAt b i) 2) (eqb (byteAt b i) 3) refl refl refl (w .1) (k .0)) (lists-fit b (answerEnd b i) m (a .1) (k .1)))
 
   pub sheet-fits : (sheet : List ℕ) → isSheet sheet ≡ true → sheetPasses (isKnown n) (sheetOf sheet) ≡ true → areListsFit (sheetOf sheet) ≡ true
   unfolding sheetOf isSheet

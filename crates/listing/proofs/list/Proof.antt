@@ -1,0 +1,79 @@
+use borrow.Author.Needs.{needs}
+use Rattle.listing.proofs.list.Statement.{statement}
+use Rattle.listing.proofs.list.Tie as tie
+use Rattle.listing.proofs.list.Reads as reads
+use Rattle.listing.proofs.list.Lts as lts
+use Rattle.listing.proofs.write_out.Reads as write-out-reads
+use Rattle.own_keys.proofs.own_property_keys.Reads as own-property-keys-reads
+use Rattle.reporting.proofs.failed.Reads as failed-reads
+use Rattle.reporting.proofs.start.Reads as start-reads
+
+-- src/lib.rt:58:9
+start-requires : tie.Need-start-requires
+start-requires c κs = search needs
+
+-- src/lib.rt:65:9
+slice-aggregate-own-property-keys : tie.Need-slice-aggregate-own-property-keys
+slice-aggregate-own-property-keys c = search needs
+
+-- src/lib.rt:66:9
+slice-aggregate-own-property-keys-2 : tie.Need-slice-aggregate-own-property-keys-2
+slice-aggregate-own-property-keys-2 c = search needs
+
+-- src/lib.rt:67:9
+slice-aggregate-own-property-keys-3 : tie.Need-slice-aggregate-own-property-keys-3
+slice-aggregate-own-property-keys-3 c = search needs
+
+-- src/lib.rt:59:11
+own-property-keys-requires : tie.Need-own-property-keys-requires
+own-property-keys-requires c κs = ?
+
+-- src/lib.rt:71:25
+enum-known-f : tie.Need-enum-known-f
+enum-known-f c = search needs
+
+-- src/lib.rt:71:34
+failed-requires : tie.Need-failed-requires
+failed-requires c κs = search needs
+
+-- src/lib.rt:72:23
+enum-known-found : tie.Need-enum-known-found
+enum-known-found c = search needs
+
+-- src/lib.rt:72:76
+slice-aggregate-write-out : tie.Need-slice-aggregate-write-out
+slice-aggregate-write-out c = search needs
+
+-- src/lib.rt:72:36
+write-out-requires : tie.Need-write-out-requires
+write-out-requires c κs = ?
+
+-- src/lib.rt:51:1
+returns : tie.Need-returns
+returns c = ?
+
+-- src/lib.rt:51:1
+same-length : tie.Need-same-length
+same-length c = search needs
+
+-- src/lib.rt:51:1
+returns-2 : tie.Need-returns-2
+returns-2 c = ?
+
+pub list-spec : {M : Type 1} → statement M
+list-spec =
+    tie.close
+    (tie.spec
+    start-requires
+    slice-aggregate-own-property-keys
+    slice-aggregate-own-property-keys-2
+    slice-aggregate-own-property-keys-3
+    own-property-keys-requires
+    enum-known-f
+    failed-requires
+    enum-known-found
+    slice-aggregate-write-out
+    write-out-requires
+    returns
+    same-length
+    returns-2)
