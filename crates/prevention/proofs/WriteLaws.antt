@@ -13,7 +13,7 @@ use Rattle.store.specs.Store.{lookup}
 use Rattle.store.specs.Words.{isStore, storeOf, wordAt}
 use Rattle.store_read.proofs.ReadLaws.{sized, lookup-missing}
 use Rattle.store_write.specs.declared.write.Write.the-variants as write
-use Rattle.store_write.specs.Write.{fitsIn, numberIn}
+use Rattle.store_write.specs.Write.{fitsIn, Joins, numberIn}
 
 module _ (words : List ℕ) (o : ℕ) (x : Object) (found : lookup (storeOf words) o ≡ some x) where
   below-by : (b : Bool) → ltb o (wordAt words 0) ≡ b → o < wordAt words 0
@@ -31,9 +31,9 @@ module _ (words : List ℕ) (o : ℕ) (x : Object) (found : lookup (storeOf word
   pub object-fits : (y : Object) → isStore words ≡ true → fitsIn (write.Object o y) words
   object-fits y h = record { store = h; bounds = found-below }
 
-  -- a property of an object may go, where its key fits a word
-  pub remove-fits : (k : PropertyKey) → isStore words ≡ true → numberIn k < 2 ^ 58 → fitsIn (write.Remove o k) words
-  remove-fits k h n = record { store = h; bounds = record { owner = omega (arith, found-below, sized words h .objects); number = n } }
+  -- a word can join the object and a key that fits
+  pub found-joins : (k : PropertyKey) → isStore words ≡ true → numberIn k < 2 ^ 58 → Joins o k
+  found-joins k h n = record { owner = omega (arith, found-below, sized words h .objects); number = n }
 
 -- no write at all
 pub nothing-fits : (words : List ℕ) → isStore words ≡ true → fitsIn write.Nothing words

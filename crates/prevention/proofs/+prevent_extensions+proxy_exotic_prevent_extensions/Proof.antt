@@ -65,7 +65,6 @@ proxy-exotic-prevent-extensions-below t =
     (falls 3 proxy-exotic-prevent-extensions-kinds.ps _<_ μ-proxy-exotic-prevent-extensions t)
     proxy-exotic-prevent-extensions.Pre
 
--- src/lib.rt:83:11
 prevent-extensions-enter-requires : (t : ℕ) → prevent-extensions-lts.Need-enter-requires (
   enter-reads.Asked,
   enter-reads.Learnt,
@@ -76,7 +75,6 @@ prevent-extensions-enter-requires : (t : ℕ) → prevent-extensions-lts.Need-en
 ) (prevent-extensions-at t) prevent-extensions.Post
 prevent-extensions-enter-requires t c κs = c .before .before .before .pre .1 .store
 
--- src/lib.rt:84:25
 prevent-extensions-enum-known-f : (t : ℕ) → prevent-extensions-lts.Need-enum-known-f (
   enter-reads.Asked,
   enter-reads.Learnt,
@@ -87,7 +85,6 @@ prevent-extensions-enum-known-f : (t : ℕ) → prevent-extensions-lts.Need-enum
 ) (prevent-extensions-at t) prevent-extensions.Post
 prevent-extensions-enum-known-f t c = search needs
 
--- src/lib.rt:85:27
 prevent-extensions-enum-known-object : (t : ℕ) → prevent-extensions-lts.Need-enum-known-object (
   enter-reads.Asked,
   enter-reads.Learnt,
@@ -98,7 +95,6 @@ prevent-extensions-enum-known-object : (t : ℕ) → prevent-extensions-lts.Need
 ) (prevent-extensions-at t) prevent-extensions.Post
 prevent-extensions-enum-known-object t c = search needs
 
--- src/lib.rt:86:34
 prevent-extensions-ordinary-prevent-extensions-requires :
     (t : ℕ) → prevent-extensions-lts.Need-ordinary-prevent-extensions-requires (
       enter-reads.Asked,
@@ -110,7 +106,6 @@ prevent-extensions-ordinary-prevent-extensions-requires :
     ) (prevent-extensions-at t) prevent-extensions.Post
 prevent-extensions-ordinary-prevent-extensions-requires t c κs = search needs
 
--- src/lib.rt:88:24
 prevent-extensions-enum-known-p : (t : ℕ) → prevent-extensions-lts.Need-enum-known-p (
   enter-reads.Asked,
   enter-reads.Learnt,
@@ -121,7 +116,6 @@ prevent-extensions-enum-known-p : (t : ℕ) → prevent-extensions-lts.Need-enum
 ) (prevent-extensions-at t) prevent-extensions.Post
 prevent-extensions-enum-known-p t c = search needs
 
--- src/lib.rt:89:82
 prevent-extensions-sub-proxy-exotic-prevent-extensions :
     (t : ℕ) → prevent-extensions-lts.Need-sub-proxy-exotic-prevent-extensions (
       enter-reads.Asked,
@@ -133,7 +127,6 @@ prevent-extensions-sub-proxy-exotic-prevent-extensions :
     ) (prevent-extensions-at t) prevent-extensions.Post
 prevent-extensions-sub-proxy-exotic-prevent-extensions t c = omega (arith, proxy-deep _ _ _ _ _ (sym (c .before .before .before .enter .ensures) ∙ c .before .p .given .1))
 
--- src/lib.rt:89:13
 prevent-extensions-proxy-exotic-prevent-extensions-requires :
     (t : ℕ) → prevent-extensions-lts.Need-proxy-exotic-prevent-extensions-requires (
       enter-reads.Asked,
@@ -145,7 +138,6 @@ prevent-extensions-proxy-exotic-prevent-extensions-requires :
     ) (prevent-extensions-at t) prevent-extensions.Post
 prevent-extensions-proxy-exotic-prevent-extensions-requires t c κs = (omega (arith, c .before .before .before .before .before .before .before .pre .0, proxy-deep _ _ _ _ _ (sym (c .before .before .before .enter .ensures) ∙ c .before .p .given .1)), c .before .before .before .before .before .before .before .pre .1)
 
--- src/lib.rt:70:1
 prevent-extensions-returns : (t : ℕ) → prevent-extensions-lts.Need-returns (
   enter-reads.Asked,
   enter-reads.Learnt,
@@ -157,7 +149,6 @@ prevent-extensions-returns : (t : ℕ) → prevent-extensions-lts.Need-returns (
 unfolding pure fails next _>>=_ throwIf if_then_else_ hasTrap proxyPreventExtensions
 prevent-extensions-returns t c = (rw (prevent-extensions-goes-on _ _ _ _ _, sym (c .before .before .before .enter .ensures) ∙ c .before .f .given .1), tt)
 
--- src/lib.rt:70:1
 prevent-extensions-returns-2 : (t : ℕ) → prevent-extensions-lts.Need-returns-2 (
   enter-reads.Asked,
   enter-reads.Learnt,
@@ -169,7 +160,6 @@ prevent-extensions-returns-2 : (t : ℕ) → prevent-extensions-lts.Need-returns
 unfolding pure fails next _>>=_ throwIf if_then_else_ hasTrap proxyPreventExtensions
 prevent-extensions-returns-2 t c = (rw (prevent-extensions-goes-on _ _ _ _ _, sym (c .before .before .before .before .enter .ensures) ∙ c .before .before .object .given .1, c .ordinary-prevent-extensions .ensures), rw (c .ordinary-prevent-extensions .ensures) (object-fits _ _ _ (ordinary-found _ _ _ _ _ (sym (c .before .before .before .before .enter .ensures) ∙ c .before .before .object .given .1)) _ (c .before .before .before .before .before .before .before .before .pre .1 .store)))
 
--- src/lib.rt:70:1
 prevent-extensions-returns-3 : (t : ℕ) → prevent-extensions-lts.Need-returns-3 (
   enter-reads.Asked,
   enter-reads.Learnt,
@@ -181,7 +171,6 @@ prevent-extensions-returns-3 : (t : ℕ) → prevent-extensions-lts.Need-returns
 unfolding pure fails next _>>=_ throwIf if_then_else_ hasTrap proxyPreventExtensions
 prevent-extensions-returns-3 t c = (rw (prevent-extensions-goes-on _ _ _ _ _, sym (c .before .before .before .before .enter .ensures) ∙ c .before .before .p .given .1) (c .proxy-exotic-prevent-extensions .ensures .0), c .proxy-exotic-prevent-extensions .ensures .1)
 
--- src/lib.rt:109:8
 proxy-exotic-prevent-extensions-has-trap-requires :
     (t : ℕ) → proxy-exotic-prevent-extensions-lts.Need-has-trap-requires (
       has-trap-reads.Asked,
@@ -193,7 +182,6 @@ proxy-exotic-prevent-extensions-has-trap-requires :
     ) (proxy-exotic-prevent-extensions-at t) proxy-exotic-prevent-extensions.Post
 proxy-exotic-prevent-extensions-has-trap-requires t c κs = search needs
 
--- src/lib.rt:110:9
 proxy-exotic-prevent-extensions-prevent-extensions-trap-requires :
     (t : ℕ) → proxy-exotic-prevent-extensions-lts.Need-prevent-extensions-trap-requires (
       has-trap-reads.Asked,
@@ -206,7 +194,6 @@ proxy-exotic-prevent-extensions-prevent-extensions-trap-requires :
 unfolding pure fails next _>>=_ throwIf if_then_else_ hasTrap proxyPreventExtensions
 proxy-exotic-prevent-extensions-prevent-extensions-trap-requires t c κs = (c .before .before .before .before .before .pre .1, sym (c .before .has-trap .ensures) ∙ c .if1 .taken)
 
--- src/lib.rt:112:9
 proxy-exotic-prevent-extensions-prevent-extensions-requires :
     (t : ℕ) → proxy-exotic-prevent-extensions-lts.Need-prevent-extensions-requires (
       has-trap-reads.Asked,
@@ -218,7 +205,6 @@ proxy-exotic-prevent-extensions-prevent-extensions-requires :
     ) (proxy-exotic-prevent-extensions-at t) proxy-exotic-prevent-extensions.Post
 proxy-exotic-prevent-extensions-prevent-extensions-requires t c κs = (omega (arith, c .before .before .before .before .before .pre .0), c .before .before .before .before .before .pre .1)
 
--- src/lib.rt:95:1
 proxy-exotic-prevent-extensions-returns :
     (t : ℕ) → proxy-exotic-prevent-extensions-lts.Need-returns (
       has-trap-reads.Asked,
@@ -231,7 +217,6 @@ proxy-exotic-prevent-extensions-returns :
 unfolding pure fails next _>>=_ throwIf if_then_else_ hasTrap proxyPreventExtensions
 proxy-exotic-prevent-extensions-returns t c = c .prevent-extensions-trap .ensures
 
--- src/lib.rt:95:1
 proxy-exotic-prevent-extensions-returns-2 :
     (t : ℕ) → proxy-exotic-prevent-extensions-lts.Need-returns-2 (
       has-trap-reads.Asked,

@@ -6,56 +6,41 @@ use Rattle.prevention.proofs.WriteLaws.{nothing-fits}
 use borrow.Author.Needs.{needs}
 use Rattle.prevention.proofs.prevent_extensions_trap.Statement.{statement}
 use Rattle.prevention.proofs.prevent_extensions_trap.Tie as tie
-use Rattle.prevention.proofs.prevent_extensions_trap.Reads as reads
-use Rattle.prevention.proofs.prevent_extensions_trap.Lts as lts
-use Rattle.calls.proofs.next_boolean.Reads as next-boolean-reads
-use Rattle.extensibility.proofs.is_extensible.Reads as is-extensible-reads
 
--- src/lib.rt:47:11
 next-boolean-requires : tie.Need-next-boolean-requires
 next-boolean-requires c κs = search needs
 
--- src/lib.rt:48:28
 enum-known-f : tie.Need-enum-known-f
 enum-known-f c = search needs
 
--- src/lib.rt:49:26
 enum-known-answer : tie.Need-enum-known-answer
 enum-known-answer c = search needs
 
--- src/lib.rt:51:23
 is-extensible-requires : tie.Need-is-extensible-requires
 is-extensible-requires c κs = search needs
 
--- src/lib.rt:52:40
 enum-known-f-2 : tie.Need-enum-known-f-2
 enum-known-f-2 c = search needs
 
--- src/lib.rt:53:38
 enum-known-extensible : tie.Need-enum-known-extensible
 enum-known-extensible c = search needs
 
--- src/lib.rt:33:1
 returns : tie.Need-returns
 unfolding pure fails next _>>=_ throwIf if_then_else_ proxyPreventExtensions
 returns c = (rw (c .before .before .before .before .before .before .before .pre .1, sym (c .before .before .before .next-boolean .ensures), c .before .f .given .1), tt)
 
--- src/lib.rt:33:1
 returns-2 : tie.Need-returns-2
 unfolding pure fails next _>>=_ throwIf if_then_else_ proxyPreventExtensions
 returns-2 c = (rw (c .before .before .before .before .before .before .before .before .before .before .before .before .pre .1, sym (c .before .before .before .before .before .before .before .before .next-boolean .ensures), c .before .before .before .before .before .before .answer .given .1, c .before .before .before .before .if1 .taken, sym (c .before .before .before .is-extensible .ensures), c .before .f2 .given .1), tt)
 
--- src/lib.rt:33:1
 returns-3 : tie.Need-returns-3
 unfolding pure fails next _>>=_ throwIf if_then_else_ proxyPreventExtensions
 returns-3 c = (rw (c .before .before .before .before .before .before .before .before .before .before .before .before .before .pre .1, sym (c .before .before .before .before .before .before .before .before .before .next-boolean .ensures), c .before .before .before .before .before .before .before .answer .given .1, c .before .before .before .before .before .if1 .taken, sym (c .before .before .before .before .is-extensible .ensures), c .before .before .extensible .given .1, c .if2 .taken), tt)
 
--- src/lib.rt:33:1
 returns-4 : tie.Need-returns-4
 unfolding pure fails next _>>=_ throwIf if_then_else_ proxyPreventExtensions
 returns-4 c = (rw (c .before .before .before .before .before .before .before .before .before .before .before .before .before .pre .1, sym (c .before .before .before .before .before .before .before .before .before .next-boolean .ensures), c .before .before .before .before .before .before .before .answer .given .1, c .before .before .before .before .before .if1 .taken, sym (c .before .before .before .before .is-extensible .ensures), c .before .before .extensible .given .1, c .if2 .left), nothing-fits _ (c .before .before .before .before .before .before .before .before .before .before .before .before .before .pre .0 .store))
 
--- src/lib.rt:33:1
 returns-5 : tie.Need-returns-5
 unfolding pure fails next _>>=_ throwIf if_then_else_ proxyPreventExtensions
 returns-5 c = (rw (c .before .before .before .before .before .before .before .before .pre .1, sym (c .before .before .before .before .next-boolean .ensures), c .before .before .answer .given .1, c .if1 .left), nothing-fits _ (c .before .before .before .before .before .before .before .before .pre .0 .store))

@@ -64,7 +64,6 @@ set-prototype-of-below t =
     (falls 3 set-prototype-of-kinds.ps _<_ μ-set-prototype-of t)
     set-prototype-of.Pre
 
--- src/lib.rt:212:8
 proxy-exotic-set-prototype-of-has-trap-requires :
     (t : ℕ) → proxy-exotic-set-prototype-of-lts.Need-has-trap-requires (
       has-trap-reads.Asked,
@@ -76,7 +75,6 @@ proxy-exotic-set-prototype-of-has-trap-requires :
     ) (proxy-exotic-set-prototype-of-at t) proxy-exotic-set-prototype-of.Post
 proxy-exotic-set-prototype-of-has-trap-requires t c κs = search needs
 
--- src/lib.rt:213:9
 proxy-exotic-set-prototype-of-set-prototype-of-trap-requires :
     (t : ℕ) → proxy-exotic-set-prototype-of-lts.Need-set-prototype-of-trap-requires (
       has-trap-reads.Asked,
@@ -89,7 +87,6 @@ proxy-exotic-set-prototype-of-set-prototype-of-trap-requires :
 unfolding pure fails next _>>=_ throwIf if_then_else_ hasTrap proxySetPrototypeOf
 proxy-exotic-set-prototype-of-set-prototype-of-trap-requires t c κs = (c .before .before .before .before .before .pre .1, sym (c .before .has-trap .ensures) ∙ c .if1 .taken)
 
--- src/lib.rt:215:9
 proxy-exotic-set-prototype-of-set-prototype-of-requires :
     (t : ℕ) → proxy-exotic-set-prototype-of-lts.Need-set-prototype-of-requires (
       has-trap-reads.Asked,
@@ -101,7 +98,6 @@ proxy-exotic-set-prototype-of-set-prototype-of-requires :
     ) (proxy-exotic-set-prototype-of-at t) proxy-exotic-set-prototype-of.Post
 proxy-exotic-set-prototype-of-set-prototype-of-requires t c κs = (omega (arith, c .before .before .before .before .before .pre .0), c .before .before .before .before .before .pre .1)
 
--- src/lib.rt:197:1
 proxy-exotic-set-prototype-of-returns : (t : ℕ) → proxy-exotic-set-prototype-of-lts.Need-returns (
   has-trap-reads.Asked,
   has-trap-reads.Learnt,
@@ -113,7 +109,6 @@ proxy-exotic-set-prototype-of-returns : (t : ℕ) → proxy-exotic-set-prototype
 unfolding pure fails next _>>=_ throwIf if_then_else_ hasTrap proxySetPrototypeOf
 proxy-exotic-set-prototype-of-returns t c = c .set-prototype-of-trap .ensures
 
--- src/lib.rt:197:1
 proxy-exotic-set-prototype-of-returns-2 :
     (t : ℕ) → proxy-exotic-set-prototype-of-lts.Need-returns-2 (
       has-trap-reads.Asked,
@@ -126,7 +121,6 @@ proxy-exotic-set-prototype-of-returns-2 :
 unfolding pure fails next _>>=_ throwIf if_then_else_ hasTrap proxySetPrototypeOf
 proxy-exotic-set-prototype-of-returns-2 t c = (rw (sym (c .before .before .has-trap .ensures) ∙ c .before .if1 .left) (c .set-prototype-of .ensures .0), c .set-prototype-of .ensures .1)
 
--- src/lib.rt:183:11
 set-prototype-of-enter-requires : (t : ℕ) → set-prototype-of-lts.Need-enter-requires (
   enter-reads.Asked,
   enter-reads.Learnt,
@@ -137,7 +131,6 @@ set-prototype-of-enter-requires : (t : ℕ) → set-prototype-of-lts.Need-enter-
 ) (set-prototype-of-at t) set-prototype-of.Post
 set-prototype-of-enter-requires t c κs = c .before .before .before .pre .1 .store
 
--- src/lib.rt:184:25
 set-prototype-of-enum-known-f : (t : ℕ) → set-prototype-of-lts.Need-enum-known-f (
   enter-reads.Asked,
   enter-reads.Learnt,
@@ -148,7 +141,6 @@ set-prototype-of-enum-known-f : (t : ℕ) → set-prototype-of-lts.Need-enum-kno
 ) (set-prototype-of-at t) set-prototype-of.Post
 set-prototype-of-enum-known-f t c = search needs
 
--- src/lib.rt:185:27
 set-prototype-of-enum-known-object : (t : ℕ) → set-prototype-of-lts.Need-enum-known-object (
   enter-reads.Asked,
   enter-reads.Learnt,
@@ -159,7 +151,6 @@ set-prototype-of-enum-known-object : (t : ℕ) → set-prototype-of-lts.Need-enu
 ) (set-prototype-of-at t) set-prototype-of.Post
 set-prototype-of-enum-known-object t c = search needs
 
--- src/lib.rt:186:17
 set-prototype-of-ordinary-set-prototype-of-requires :
     (t : ℕ) → set-prototype-of-lts.Need-ordinary-set-prototype-of-requires (
       enter-reads.Asked,
@@ -171,7 +162,6 @@ set-prototype-of-ordinary-set-prototype-of-requires :
     ) (set-prototype-of-at t) set-prototype-of.Post
 set-prototype-of-ordinary-set-prototype-of-requires t c κs = (c .before .before .before .before .before .before .before .pre .1 .store, ordinary-found _ _ _ _ _ (sym (c .before .before .before .enter .ensures) ∙ c .before .object .given .1))
 
--- src/lib.rt:190:24
 set-prototype-of-enum-known-p : (t : ℕ) → set-prototype-of-lts.Need-enum-known-p (
   enter-reads.Asked,
   enter-reads.Learnt,
@@ -182,7 +172,6 @@ set-prototype-of-enum-known-p : (t : ℕ) → set-prototype-of-lts.Need-enum-kno
 ) (set-prototype-of-at t) set-prototype-of.Post
 set-prototype-of-enum-known-p t c = search needs
 
--- src/lib.rt:191:83
 set-prototype-of-sub-proxy-exotic-set-prototype-of :
     (t : ℕ) → set-prototype-of-lts.Need-sub-proxy-exotic-set-prototype-of (
       enter-reads.Asked,
@@ -194,7 +183,6 @@ set-prototype-of-sub-proxy-exotic-set-prototype-of :
     ) (set-prototype-of-at t) set-prototype-of.Post
 set-prototype-of-sub-proxy-exotic-set-prototype-of t c = omega (arith, proxy-deep _ _ _ _ _ (sym (c .before .before .before .enter .ensures) ∙ c .before .p .given .1))
 
--- src/lib.rt:191:13
 set-prototype-of-proxy-exotic-set-prototype-of-requires :
     (t : ℕ) → set-prototype-of-lts.Need-proxy-exotic-set-prototype-of-requires (
       enter-reads.Asked,
@@ -206,7 +194,6 @@ set-prototype-of-proxy-exotic-set-prototype-of-requires :
     ) (set-prototype-of-at t) set-prototype-of.Post
 set-prototype-of-proxy-exotic-set-prototype-of-requires t c κs = (omega (arith, c .before .before .before .before .before .before .before .pre .0, proxy-deep _ _ _ _ _ (sym (c .before .before .before .enter .ensures) ∙ c .before .p .given .1)), c .before .before .before .before .before .before .before .pre .1)
 
--- src/lib.rt:169:1
 set-prototype-of-returns : (t : ℕ) → set-prototype-of-lts.Need-returns (
   enter-reads.Asked,
   enter-reads.Learnt,
@@ -218,7 +205,6 @@ set-prototype-of-returns : (t : ℕ) → set-prototype-of-lts.Need-returns (
 unfolding pure fails next _>>=_ throwIf if_then_else_ hasTrap proxySetPrototypeOf
 set-prototype-of-returns t c = (rw (set-prototype-of-goes-on _ _ _ _ _ _, sym (c .before .before .before .enter .ensures) ∙ c .before .f .given .1), tt)
 
--- src/lib.rt:169:1
 set-prototype-of-returns-2 : (t : ℕ) → set-prototype-of-lts.Need-returns-2 (
   enter-reads.Asked,
   enter-reads.Learnt,
@@ -230,7 +216,6 @@ set-prototype-of-returns-2 : (t : ℕ) → set-prototype-of-lts.Need-returns-2 (
 unfolding pure fails next _>>=_ throwIf if_then_else_ hasTrap proxySetPrototypeOf
 set-prototype-of-returns-2 t c = (rw (set-prototype-of-goes-on _ _ _ _ _ _, sym (c .before .before .before .before .enter .ensures) ∙ c .before .before .object .given .1, sym (c .ordinary-set-prototype-of .ensures .tells)), c .ordinary-set-prototype-of .ensures .fits)
 
--- src/lib.rt:169:1
 set-prototype-of-returns-3 : (t : ℕ) → set-prototype-of-lts.Need-returns-3 (
   enter-reads.Asked,
   enter-reads.Learnt,

@@ -11,64 +11,47 @@ use Rattle.prototype_setting.proofs.ChainLaws.{not-object, is-object}
 use borrow.Author.Needs.{needs}
 use Rattle.prototype_setting.proofs.next_link.Statement.{statement}
 use Rattle.prototype_setting.proofs.next_link.Tie as tie
-use Rattle.prototype_setting.proofs.next_link.Reads as reads
-use Rattle.prototype_setting.proofs.next_link.Lts as lts
-use Rattle.store_read.proofs.object_at.Reads as object-at-reads
-use Rattle.value.proofs.object_of.Reads as object-of-reads
 
--- src/lib.rt:44:11
 object-of-requires : tie.Need-object-of-requires
 object-of-requires c κs = search needs
 
--- src/lib.rt:45:36
 enum-told : tie.Need-enum-told
 enum-told c = search needs
 
--- src/lib.rt:46:30
 enum-known-p : tie.Need-enum-known-p
 enum-known-p c = search needs
 
--- src/lib.rt:48:17
 returns : tie.Need-returns
 unfolding reaches
 returns c = λ n. rw (is-object (objectOf (c .before .before .before .before .before .before .args .v)) _ (sym (c .before .before .before .before .object-of .ensures) ∙ c .before .before .p .given .1), eq-eqb _ _ (c .if1 .taken))
 
--- src/lib.rt:50:19
 object-at-requires : tie.Need-object-at-requires
 object-at-requires c κs = search needs
 
--- src/lib.rt:51:41
 enum-told-2 : tie.Need-enum-told-2
 enum-told-2 c = search needs
 
--- src/lib.rt:52:35
 enum-known-x : tie.Need-enum-known-x
 enum-known-x c = search needs
 
--- src/lib.rt:53:41
 enum-told-3 : tie.Need-enum-told-3
 enum-told-3 c = search needs
 
--- src/lib.rt:54:38
 enum-known-x-2 : tie.Need-enum-known-x-2
 enum-known-x-2 c = search needs
 
--- src/lib.rt:40:1
 returns-2 : tie.Need-returns-2
 unfolding reaches
 returns-2 c = λ n. rw (not-object (objectOf (c .before .before .before .before .args .v)) (sym (c .before .before .object-of .ensures) ∙ c .enum-told .given .1))
 
--- src/lib.rt:40:1
 returns-3 : tie.Need-returns-3
 unfolding reaches
 returns-3 c = λ n. rw (is-object (objectOf (c .before .before .before .before .before .before .before .before .before .args .v)) _ (sym (c .before .before .before .before .before .before .before .object-of .ensures) ∙ c .before .before .before .before .before .p .given .1), ne-eqb _ _ (c .before .before .before .if1 .left), objectless (lookup (storeOf (now (c .before .before .before .before .before .before .before .before .before .args .words))) (c .before .before .before .before .before .p .given .0 .0)) (sym (c .before .before .object-at .ensures) ∙ c .enum-told2 .given .1))
 
--- src/lib.rt:40:1
 returns-4 : tie.Need-returns-4
 unfolding reaches
 returns-4 c = λ n. rw (is-object (objectOf (c .before .before .before .before .before .before .before .before .before .before .before .before .args .v)) _ (sym (c .before .before .before .before .before .before .before .before .before .before .object-of .ensures) ∙ c .before .before .before .before .before .before .before .before .p .given .1), ne-eqb _ _ (c .before .before .before .before .before .before .if1 .left), objectful (lookup (storeOf (now (c .before .before .before .before .before .before .before .before .before .before .before .before .args .words))) (c .before .before .before .before .before .before .before .before .p .given .0 .0)) _ (sym (c .before .before .before .before .before .object-at .ensures) ∙ c .before .before .before .x .given .1), c .enum-told3 .given .1)
 
--- src/lib.rt:40:1
 returns-5 : tie.Need-returns-5
 unfolding reaches
 returns-5 c = λ n. rw (is-object (objectOf (c .before .before .before .before .before .before .before .before .before .before .before .before .before .args .v)) _ (sym (c .before .before .before .before .before .before .before .before .before .before .before .object-of .ensures) ∙ c .before .before .before .before .before .before .before .before .before .p .given .1), ne-eqb _ _ (c .before .before .before .before .before .before .before .if1 .left), objectful (lookup (storeOf (now (c .before .before .before .before .before .before .before .before .before .before .before .before .before .args .words))) (c .before .before .before .before .before .before .before .before .before .p .given .0 .0)) _ (sym (c .before .before .before .before .before .before .object-at .ensures) ∙ c .before .before .before .before .x .given .1), c .before .x2 .given .1)

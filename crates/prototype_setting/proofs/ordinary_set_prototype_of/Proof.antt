@@ -5,35 +5,25 @@ use Rattle.prevention.proofs.WriteLaws.{nothing-fits, object-fits}
 use borrow.Author.Needs.{needs}
 use Rattle.prototype_setting.proofs.ordinary_set_prototype_of.Statement.{statement}
 use Rattle.prototype_setting.proofs.ordinary_set_prototype_of.Tie as tie
-use Rattle.prototype_setting.proofs.ordinary_set_prototype_of.Reads as reads
-use Rattle.prototype_setting.proofs.ordinary_set_prototype_of.Lts as lts
-use Rattle.prototype_setting.proofs.reaches.Reads as reaches-reads
-use Rattle.value.proofs.same_value.Reads as same-value-reads
 
--- src/lib.rt:94:8
 same-value-requires : tie.Need-same-value-requires
 same-value-requires c κs = search needs
 
--- src/lib.rt:95:9
 returns : tie.Need-returns
 unfolding ordinarySetPrototypeOf
 returns c = record { tells = rw (sym (c .before .same-value .ensures) ∙ c .if1 .taken); fits = nothing-fits _ (c .before .before .before .pre .0) }
 
--- src/lib.rt:102:12
 reaches-requires : tie.Need-reaches-requires
 reaches-requires c κs = search needs
 
--- src/lib.rt:103:13
 returns-2 : tie.Need-returns-2
 unfolding ordinarySetPrototypeOf
 returns-2 c = record { tells = rw (sym (c .before .before .before .before .same-value .ensures) ∙ c .before .before .before .if1 .left, c .before .before .if2 .taken, sym (c .before .reaches .ensures) ∙ c .if3 .taken); fits = nothing-fits _ (c .before .before .before .before .before .before .pre .0) }
 
--- src/lib.rt:112:9
 returns-3 : tie.Need-returns-3
 unfolding ordinarySetPrototypeOf
 returns-3 c = record { tells = rw (sym (c .before .before .before .before .same-value .ensures) ∙ c .before .before .before .if1 .left, c .before .before .if2 .taken, sym (c .before .reaches .ensures) ∙ c .if3 .left); fits = object-fits _ _ _ (c .before .before .before .before .before .before .pre .1) _ (c .before .before .before .before .before .before .pre .0) }
 
--- src/lib.rt:89:1
 returns-4 : tie.Need-returns-4
 unfolding ordinarySetPrototypeOf
 returns-4 c = record { tells = rw (sym (c .before .before .same-value .ensures) ∙ c .before .if1 .left, c .if2 .left); fits = nothing-fits _ (c .before .before .before .before .pre .0) }

@@ -6,84 +6,61 @@ use Rattle.prevention.proofs.WriteLaws.{nothing-fits}
 use borrow.Author.Needs.{needs}
 use Rattle.prototype_setting.proofs.set_prototype_of_trap.Statement.{statement}
 use Rattle.prototype_setting.proofs.set_prototype_of_trap.Tie as tie
-use Rattle.prototype_setting.proofs.set_prototype_of_trap.Reads as reads
-use Rattle.prototype_setting.proofs.set_prototype_of_trap.Lts as lts
-use Rattle.calls.proofs.next_boolean.Reads as next-boolean-reads
-use Rattle.extensibility.proofs.is_extensible.Reads as is-extensible-reads
-use Rattle.prototypes.proofs.get_prototype_of.Reads as get-prototype-of-reads
-use Rattle.value.proofs.same_value.Reads as same-value-reads
 
--- src/lib.rt:138:11
 next-boolean-requires : tie.Need-next-boolean-requires
 next-boolean-requires c κs = search needs
 
--- src/lib.rt:139:28
 enum-known-f : tie.Need-enum-known-f
 enum-known-f c = search needs
 
--- src/lib.rt:140:26
 enum-known-answer : tie.Need-enum-known-answer
 enum-known-answer c = search needs
 
--- src/lib.rt:142:23
 is-extensible-requires : tie.Need-is-extensible-requires
 is-extensible-requires c κs = search needs
 
--- src/lib.rt:143:40
 enum-known-f-2 : tie.Need-enum-known-f-2
 enum-known-f-2 c = search needs
 
--- src/lib.rt:144:38
 enum-known-extensible : tie.Need-enum-known-extensible
 enum-known-extensible c = search needs
 
--- src/lib.rt:146:29
 returns : tie.Need-returns
 unfolding pure fails next _>>=_ throwIf if_then_else_ proxySetPrototypeOf
 returns c = (rw (c .before .before .before .before .before .before .before .before .before .before .before .before .before .pre .1, sym (c .before .before .before .before .before .before .before .before .before .next-boolean .ensures), c .before .before .before .before .before .before .before .answer .given .1, c .before .before .before .before .before .if1 .taken, sym (c .before .before .before .before .is-extensible .ensures), c .before .before .extensible .given .1, c .if2 .taken), nothing-fits _ (c .before .before .before .before .before .before .before .before .before .before .before .before .before .pre .0 .store))
 
--- src/lib.rt:148:31
 get-prototype-of-requires : tie.Need-get-prototype-of-requires
 get-prototype-of-requires c κs = search needs
 
--- src/lib.rt:149:46
 enum-known-f-3 : tie.Need-enum-known-f-3
 enum-known-f-3 c = search needs
 
--- src/lib.rt:150:44
 enum-known-prototype : tie.Need-enum-known-prototype
 enum-known-prototype c = search needs
 
--- src/lib.rt:151:36
 same-value-requires : tie.Need-same-value-requires
 same-value-requires c κs = search needs
 
--- src/lib.rt:123:1
 returns-2 : tie.Need-returns-2
 unfolding pure fails next _>>=_ throwIf if_then_else_ proxySetPrototypeOf
 returns-2 c = (rw (c .before .before .before .before .before .before .before .pre .1, sym (c .before .before .before .next-boolean .ensures), c .before .f .given .1), tt)
 
--- src/lib.rt:123:1
 returns-3 : tie.Need-returns-3
 unfolding pure fails next _>>=_ throwIf if_then_else_ proxySetPrototypeOf
 returns-3 c = (rw (c .before .before .before .before .before .before .before .before .before .before .before .before .pre .1, sym (c .before .before .before .before .before .before .before .before .next-boolean .ensures), c .before .before .before .before .before .before .answer .given .1, c .before .before .before .before .if1 .taken, sym (c .before .before .before .is-extensible .ensures), c .before .f2 .given .1), tt)
 
--- src/lib.rt:123:1
 returns-4 : tie.Need-returns-4
 unfolding pure fails next _>>=_ throwIf if_then_else_ proxySetPrototypeOf
 returns-4 c = (rw (c .before .before .before .before .before .before .before .before .before .before .before .before .before .before .before .before .before .pre .1, sym (c .before .before .before .before .before .before .before .before .before .before .before .before .before .next-boolean .ensures), c .before .before .before .before .before .before .before .before .before .before .before .answer .given .1, c .before .before .before .before .before .before .before .before .before .if1 .taken, sym (c .before .before .before .before .before .before .before .before .is-extensible .ensures), c .before .before .before .before .before .before .extensible .given .1, c .before .before .before .before .if2 .left, sym (c .before .before .before .get-prototype-of .ensures), c .before .f3 .given .1), tt)
 
--- src/lib.rt:123:1
 returns-5 : tie.Need-returns-5
 unfolding pure fails next _>>=_ throwIf if_then_else_ proxySetPrototypeOf
 returns-5 c = (rw (c .before .before .before .before .before .before .before .before .before .before .before .before .before .before .before .before .before .before .before .pre .1, sym (c .before .before .before .before .before .before .before .before .before .before .before .before .before .before .before .next-boolean .ensures), c .before .before .before .before .before .before .before .before .before .before .before .before .before .answer .given .1, c .before .before .before .before .before .before .before .before .before .before .before .if1 .taken, sym (c .before .before .before .before .before .before .before .before .before .before .is-extensible .ensures), c .before .before .before .before .before .before .before .before .extensible .given .1, c .before .before .before .before .before .before .if2 .left, sym (c .before .before .before .before .before .get-prototype-of .ensures), c .before .before .before .prototype .given .1, sym (c .before .same-value .ensures) ∙ c .if3 .taken), nothing-fits _ (c .before .before .before .before .before .before .before .before .before .before .before .before .before .before .before .before .before .before .before .pre .0 .store))
 
--- src/lib.rt:123:1
 returns-6 : tie.Need-returns-6
 unfolding pure fails next _>>=_ throwIf if_then_else_ proxySetPrototypeOf
 returns-6 c = (rw (c .before .before .before .before .before .before .before .before .before .before .before .before .before .before .before .before .before .before .before .pre .1, sym (c .before .before .before .before .before .before .before .before .before .before .before .before .before .before .before .next-boolean .ensures), c .before .before .before .before .before .before .before .before .before .before .before .before .before .answer .given .1, c .before .before .before .before .before .before .before .before .before .before .before .if1 .taken, sym (c .before .before .before .before .before .before .before .before .before .before .is-extensible .ensures), c .before .before .before .before .before .before .before .before .extensible .given .1, c .before .before .before .before .before .before .if2 .left, sym (c .before .before .before .before .before .get-prototype-of .ensures), c .before .before .before .prototype .given .1, sym (c .before .same-value .ensures) ∙ c .if3 .left), tt)
 
--- src/lib.rt:123:1
 returns-7 : tie.Need-returns-7
 unfolding pure fails next _>>=_ throwIf if_then_else_ proxySetPrototypeOf
 returns-7 c = (rw (c .before .before .before .before .before .before .before .before .pre .1, sym (c .before .before .before .before .next-boolean .ensures), c .before .before .answer .given .1, c .if1 .left), nothing-fits _ (c .before .before .before .before .before .before .before .before .pre .0 .store))
