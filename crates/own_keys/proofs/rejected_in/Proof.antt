@@ -1,4 +1,3 @@
-use mathlib.Core.Path.{sym, _∙_}
 use native.Mathlib.Omega.{arith}
 use borrow.Author.Needs.{needs}
 use Rattle.own_keys.proofs.rejected_in.Statement.{statement}
