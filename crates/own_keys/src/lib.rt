@@ -149,6 +149,7 @@ fn rejected_in(
 }
 
 const CONFIGURABLE: u64 = 1;
+
 const NONCONFIGURABLE: u64 = 0;
 
 fn mark_of(target: OwnProperty) -> u64
