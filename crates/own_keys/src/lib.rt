@@ -162,7 +162,7 @@ fn mark_of(target: OwnProperty) -> u64
     }
 }
 
-// 10.5.11 steps 14 to 16: marks those of the first m keys that the target lacks or may configure.
+// 10.5.11 steps 14 to 16: for each of the first m keys, whether the target lacks it or has it configurable.
 pub fn mark_configurable(
     words: &[u64],
     strings: &[u16],
