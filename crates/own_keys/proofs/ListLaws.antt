@@ -1,7 +1,7 @@
 -- Laws of the lists that a sheet's answers hold. Assumes nothing.
-use Prim.Native.Nat.{ℕ, zero, suc, _+_, _*_, _<_, _≤_}
+use Prim.Native.Nat.{ℕ, zero, suc, _+_, _*_, _≤_}
 use native.Mathlib.Omega.{arith}
-use mathlib.Core.Path.{_≡_, refl, sym, ap, _∙_}
+use mathlib.Core.Path.{_≡_, refl, sym, ap}
 use mathlib.Core.Bool.{Bool, true, false, _&&_, false≢true}
 use mathlib.Core.Option.{Option, none, some}
 use mathlib.Core.List.{List, [], _∷_}
@@ -15,7 +15,7 @@ use Rattle.value.specs.declared.Value.{Value}
 use Rattle.value.specs.declared.Value.the-variants.{Undefined, Null, Boolean, Integer32, Float64, String, Symbol, Object, Function}
 use Rattle.value.specs.declared.PropertyKey.{PropertyKey}
 use Rattle.internal_methods.specs.declared.Failure.the-variants.{TypeError}
-use Rattle.internal_methods.specs.Monad.{Answer, keys, State, Out, failed, done, pure, fails}
+use Rattle.internal_methods.specs.Monad.{Answer, keys, State, failed, done, pure, fails}
 use Rattle.internal_methods.specs.Answers.{keysOf, listed, unlisted}
 use Rattle.internal_methods.proofs.Longer.{Suffix, same, more}
 use Rattle.record.specs.Bytes.{valueSize}
@@ -30,7 +30,7 @@ use Rattle.store_read.proofs.ReadLaws.{sized}
 use Rattle.store_read.proofs.ListLaws.{listed-length, length-ascending, classes-fit, ordered-keys}
 use Rattle.sheet.specs.declared.NextAnswer.{NextAnswer}
 use Rattle.sheet.specs.declared.NextAnswer.the-variants as next
-use Rattle.sheet.specs.Next.{Next, told}
+use Rattle.sheet.specs.Next.{Next}
 use Rattle.key_bytes.specs.Keys.{keysHeld, greatest}
 use Rattle.own_keys.specs.Keys.{LoadableAt, isListFit, areListsFit}
 

@@ -8,12 +8,11 @@ use mathlib.Core.List.{List, [], _∷_}
 use Rattle.value.specs.declared.PropertyKey.{PropertyKey}
 use Rattle.value.specs.declared.PropertyKey.the-variants.{String, Symbol}
 use Rattle.store.specs.declared.ProxyObject.{ProxyObject}
-use Rattle.internal_methods.specs.declared.Failure.the-variants.{TypeError}
-use Rattle.internal_methods.specs.Monad.{Answer, State, Out, failed, done, M, pure, fails, next, _>>=_, _>>_, throwAny, if_then_else_}
+use Rattle.internal_methods.specs.Monad.{State, Out, failed, done, M, pure, fails, next, _>>=_, _>>_, throwAny, if_then_else_}
 use Rattle.internal_methods.specs.Answers.{askKeys}
 use Rattle.internal_methods.specs.Methods.{Context, Methods}
 use Rattle.internal_methods.specs.KeyList.{hasKey, isEmpty, duplicate, duplicateMessage, checkedOff, Sorted, remaining, required, rejected}
-use Rattle.internal_methods.specs.Proxy.{hasTrap, sorted, proxyOwnPropertyKeys}
+use Rattle.internal_methods.specs.Proxy.{hasTrap, proxyOwnPropertyKeys}
 use Rattle.internal_methods.specs.Internal.{methods}
 use Rattle.internal_methods.proofs.Longer.{Longer, left, longer-bind, longer-pure, longer-throwAny, askKeys-longer, methods-longer}
 use Rattle.store.specs.declared.Object.{Object}

@@ -4,7 +4,7 @@ use mathlib.Core.Path.{_≡_}
 use mathlib.Core.Bool.{Bool, true, _&&_}
 use mathlib.Core.List.{List, [], _∷_}
 use lib.Dec.{leb}
-use lib.ListN.{length, take}
+use lib.ListN.{length}
 use Rattle.value.specs.declared.PropertyKey.{PropertyKey}
 use Rattle.text.specs.Strings.{Strings}
 use Rattle.store.specs.Store.{Store}

@@ -16,7 +16,6 @@ ghost use lib.Dec.{eqb};
 ghost use lib.ListN.{length, take};
 ghost use Rattle.text.specs.Table.{stringsOf};
 ghost use Rattle.store.specs.Words.{storeOf};
-ghost use Rattle.store.specs.OwnKeys.{ordinaryOwnPropertyKeys};
 ghost use Rattle.store_read.specs.Answers.{keyFromWord, Listed};
 ghost use Rattle.internal_methods.specs.Monad.{State, failed};
 ghost use Rattle.internal_methods.specs.Answers.{unlisted, askKeys};
@@ -149,17 +148,21 @@ fn rejected_in(
     key_list::rejected_message(extensible, keys, marks, m, list, n)
 }
 
+const CONFIGURABLE: u64 = 1;
+
+const NONCONFIGURABLE: u64 = 0;
+
 fn mark_of(target: OwnProperty) -> u64
     ensures { λ r. ⌜ eqb r 1 ≡ absentOrConfigurable target ⌝ }
 {
     if target_checks::absent_or_configurable(target) {
-        1
+        CONFIGURABLE
     } else {
-        0
+        NONCONFIGURABLE
     }
 }
 
-// 10.5.11 steps 14 to 16: marks those of the first m keys that the target lacks or may configure.
+// 10.5.11 steps 14 to 16: for each of the first m keys, whether the target lacks it or has it configurable.
 pub fn mark_configurable(
     words: &[u64],
     strings: &[u16],

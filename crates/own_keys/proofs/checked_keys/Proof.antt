@@ -1,4 +1,4 @@
-use mathlib.Core.Path.{sym, _∙_}
+use mathlib.Core.Path.{sym}
 use native.Mathlib.Omega.{arith}
 use Rattle.internal_methods.specs.Monad.{pure, fails, next, _>>=_, throwAny}
 use Rattle.own_keys.specs.Parts.{checkedKeys}

@@ -1,4 +1,3 @@
-use mathlib.Core.Path.{sym, _∙_}
 use borrow.Author.Needs.{needs}
 use Rattle.own_keys.proofs.duplicate_in.Statement.{statement}
 use Rattle.own_keys.proofs.duplicate_in.Tie as tie

@@ -1,7 +1,6 @@
 use denote.Ref.{now}
 use Rattle.own_keys.proofs.ListLaws.{own-listed-few}
 use native.Mathlib.Omega.{arith}
-use mathlib.Core.Path.{sym, _∙_}
 use borrow.Author.Needs.{needs}
 use Rattle.own_keys.proofs.load_list.Statement.{statement}
 use Rattle.own_keys.proofs.load_list.Tie as tie

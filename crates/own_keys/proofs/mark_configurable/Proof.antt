@@ -19,7 +19,7 @@ use Rattle.own_property.proofs.get_own_property.Reads as get-own-property-reads
 use Rattle.store_read.proofs.key_from_word.Reads as key-from-word-reads
 
 abbrev Inv-loop : tie.InvT-loop
-Inv-loop words strings allowance sheet target keys m marks₀ depth t₀ i₀ marks t i = 
+Inv-loop words strings allowance sheet target keys m marks₀ depth t₀ i₀ marks t i =
     (i ≤ m) × ((length marks ≡ length marks₀) × (sorted (methods depth (context words strings allowance) .getOwnProperty target) (map keyFromWord (take m keys)) .run (stateOf sheet t₀) ≡ sortedOnto (methods depth (context words strings allowance) .getOwnProperty target) keys m marks i (stateOf sheet t)))
 
 abbrev μ-loop : tie.MeasureT-loop

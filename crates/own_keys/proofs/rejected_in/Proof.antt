@@ -1,4 +1,3 @@
-use mathlib.Core.Path.{sym, _∙_}
 use native.Mathlib.Omega.{arith}
 use borrow.Author.Needs.{needs}
 use Rattle.own_keys.proofs.rejected_in.Statement.{statement}
@@ -14,7 +13,7 @@ load-keys-requires c κs = search needs
 
 -- src/lib.rt:148:5
 rejected-message-requires : tie.Need-rejected-message-requires
-rejected-message-requires c κs = (c .before .before .before .before .before .before .before .before .before .pre .0, (c .before .before .before .before .before .before .before .before .before .pre .1 .0, (omega (arith, c .before .before .before .before .before .before .before .before .before .pre .1 .1 .0 .few, c .before .before .before .before .before .before .before .before .before .pre .1 .1 .1, c .before .before .list .given), c .before .before .before .load-keys .ensures .1)))
+rejected-message-requires c κs = (omega (arith, c .before .before .before .before .before .before .before .before .before .pre .0), (omega (arith, c .before .before .before .before .before .before .before .before .before .pre .1 .0), (omega (arith, c .before .before .before .before .before .before .before .before .before .pre .1 .1 .0 .few, c .before .before .before .before .before .before .before .before .before .pre .1 .1 .1, c .before .before .list .given), c .before .before .before .load-keys .ensures .1)))
 
 -- src/lib.rt:134:1
 same-length : tie.Need-same-length
