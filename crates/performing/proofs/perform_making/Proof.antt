@@ -1,0 +1,48 @@
+use denote.Ref.{now}
+use native.Mathlib.Omega.{arith}
+use mathlib.Core.Path.{_≡_, sym, _∙_}
+use borrow.Author.Needs.{needs}
+use Rattle.calls.specs.Told.{context}
+use Rattle.lasting.specs.Operation.{operationOf}
+use Rattle.lasting.specs.Perform.{maximumCalls}
+use Rattle.making.proofs.MakingLaws.{object-made, proxy-made, proxy-revoked}
+use borrow.Author.Needs.{needs}
+use Rattle.performing.proofs.perform_making.Statement.{statement}
+use Rattle.performing.proofs.perform_making.Tie as tie
+use Rattle.performing.proofs.perform_making.Reads as reads
+use Rattle.performing.proofs.perform_making.Lts as lts
+use Rattle.making.proofs.make_object.Reads as make-object-reads
+use Rattle.making.proofs.make_proxy.Reads as make-proxy-reads
+use Rattle.making.proofs.revoke.Reads as revoke-reads
+
+-- src/lib.rt:32:14
+make-object-requires : tie.Need-make-object-requires
+make-object-requires c κs = c .before .before .before .before .pre .0 .readable .store
+
+-- src/lib.rt:33:14
+make-proxy-requires : tie.Need-make-proxy-requires
+make-proxy-requires c κs = c .before .before .before .before .pre .0 .readable .store
+
+-- src/lib.rt:34:14
+revoke-requires : tie.Need-revoke-requires
+revoke-requires c κs = c .before .before .before .before .pre .0 .readable .store
+
+-- src/lib.rt:16:1
+returns : tie.Need-returns
+unfolding operationOf
+returns c = (rw (c .make-object .ensures .0, c .before .match .keys1) (object-made (now (c .before .before .before .before .before .args .sheet)) (c .before .before .before .before .before .args .s) maximumCalls (context (now (c .before .before .before .before .before .args .words)) (now (c .before .before .before .before .before .args .strings)) (c .before .before .before .before .before .args .allowance)) (c .before .before .before .before .before .args .step .value)), c .make-object .ensures .1)
+
+-- src/lib.rt:16:1
+returns-2 : tie.Need-returns-2
+unfolding operationOf
+returns-2 c = (rw (c .make-proxy .ensures .0, c .before .match .keys2) (proxy-made (now (c .before .before .before .before .before .args .sheet)) (c .before .before .before .before .before .args .s) maximumCalls (context (now (c .before .before .before .before .before .args .words)) (now (c .before .before .before .before .before .args .strings)) (c .before .before .before .before .before .args .allowance)) (c .before .before .before .before .before .args .step .object) (c .before .before .before .before .before .args .step .value)), c .make-proxy .ensures .1)
+
+-- src/lib.rt:16:1
+returns-3 : tie.Need-returns-3
+unfolding operationOf
+returns-3 c = let e : c .before .before .before .before .before .args .step .code ≡ 3 = omega (arith, c .before .before .before .before .before .pre .1 .0, c .before .before .before .before .before .pre .1 .1, c .before .match .rest .0 .1, c .before .match .rest .1) in (rw (c .revoke .ensures .0, e) (proxy-revoked (now (c .before .before .before .before .before .args .sheet)) (c .before .before .before .before .before .args .s) maximumCalls (context (now (c .before .before .before .before .before .args .words)) (now (c .before .before .before .before .before .args .strings)) (c .before .before .before .before .before .args .allowance)) (c .before .before .before .before .before .args .step .object)), c .revoke .ensures .1)
+
+pub perform-making-spec : {M : Type 1} → statement M
+perform-making-spec =
+    tie.close
+    (tie.spec make-object-requires make-proxy-requires revoke-requires returns returns-2 returns-3)
