@@ -1,3 +1,9 @@
+use denote.Ref.{now}
+use native.Mathlib.Omega.{arith}
+use Rattle.record.specs.Sheet.{sheetOf}
+use Rattle.store.specs.Store.{maximumProperties}
+use Rattle.calls.specs.Told.{context}
+use Rattle.listing.proofs.ListingLaws.{listing-failed, listing-done}
 use borrow.Author.Needs.{needs}
 use Rattle.listing.proofs.list.Statement.{statement}
 use Rattle.listing.proofs.list.Tie as tie
@@ -26,7 +32,8 @@ slice-aggregate-own-property-keys-3 c = search needs
 
 -- src/lib.rt:59:11
 own-property-keys-requires : tie.Need-own-property-keys-requires
-own-property-keys-requires c κs = ?
+unfolding sheetOf
+own-property-keys-requires c κs = (c .before .before .before .before .before .before .before .before .pre .0, (rw (c .before .before .before .start .ensures) (c .before .before .before .before .before .before .before .before .pre .1 .1), (omega arith, (omega arith, omega arith))))
 
 -- src/lib.rt:71:25
 enum-known-f : tie.Need-enum-known-f
@@ -46,11 +53,11 @@ slice-aggregate-write-out c = search needs
 
 -- src/lib.rt:72:36
 write-out-requires : tie.Need-write-out-requires
-write-out-requires c κs = ?
+write-out-requires c κs = (c .before .before .before .before .before .before .before .before .before .before .before .before .before .before .before .before .before .pre .0, (c .before .before .before .before .before .before .before .before .before .before .before .before .before .before .before .before .before .pre .1 .0, (rw (c .before .before .before .found .given .1) at (c .before .before .before .before .before .before .before .before .own-property-keys .ensures .1), search needs)))
 
 -- src/lib.rt:51:1
 returns : tie.Need-returns
-returns c = ?
+returns c = listing-failed (now (c .before .before .before .before .before .before .before .before .before .before .before .before .before .before .before .before .args .words)) (now (c .before .before .before .before .before .before .before .before .before .before .before .before .before .before .before .before .args .strings)) (now (c .before .before .before .before .before .before .before .before .before .before .before .before .before .before .before .before .args .sheet)) (now (c .before .before .before .before .before .before .before .before .before .before .before .before .before .before .before .before .args .output)) (context (now (c .before .before .before .before .before .before .before .before .before .before .before .before .before .before .before .before .args .words)) (now (c .before .before .before .before .before .before .before .before .before .before .before .before .before .before .before .before .args .strings)) maximumProperties) (c .before .before .before .before .before .before .before .before .before .before .before .before .before .before .before .before .args .o) _ (c .before .before .before .before .before .before .before .before .before .before .before .start .ensures) _ _ _ (rw (c .before .before .f .given .1) at (c .before .before .before .before .before .before .before .own-property-keys .ensures .0)) (c .failed .ensures)
 
 -- src/lib.rt:51:1
 same-length : tie.Need-same-length
@@ -58,7 +65,7 @@ same-length c = search needs
 
 -- src/lib.rt:51:1
 returns-2 : tie.Need-returns-2
-returns-2 c = ?
+returns-2 c = listing-done (now (c .before .before .before .before .before .before .before .before .before .before .before .before .before .before .before .before .before .before .before .before .before .args .words)) (now (c .before .before .before .before .before .before .before .before .before .before .before .before .before .before .before .before .before .before .before .before .before .args .strings)) (now (c .before .before .before .before .before .before .before .before .before .before .before .before .before .before .before .before .before .before .before .before .before .args .sheet)) (now (c .before .before .before .before .before .before .before .before .before .before .before .before .before .before .before .before .before .before .before .before .before .args .output)) (context (now (c .before .before .before .before .before .before .before .before .before .before .before .before .before .before .before .before .before .before .before .before .before .args .words)) (now (c .before .before .before .before .before .before .before .before .before .before .before .before .before .before .before .before .before .before .before .before .before .args .strings)) maximumProperties) (c .before .before .before .before .before .before .before .before .before .before .before .before .before .before .before .before .before .before .before .before .before .args .o) _ (c .before .before .before .before .before .before .before .before .before .before .before .before .before .before .before .before .start .ensures) _ _ _ (rw (c .before .before .before .before .before .before .before .found .given .1) at (c .before .before .before .before .before .before .before .before .before .before .before .before .own-property-keys .ensures .0)) (c .before .before .before .write-out .ensures)
 
 pub list-spec : {M : Type 1} → statement M
 list-spec =

@@ -1,3 +1,7 @@
+use denote.Ref.{now}
+use Rattle.record.specs.Sheet.{sheetOf}
+use Rattle.calls.specs.Told.{stateOf}
+use Rattle.listing.proofs.ListingLaws.{written-out, not-written}
 use borrow.Author.Needs.{needs}
 use Rattle.listing.proofs.write_out.Statement.{statement}
 use Rattle.listing.proofs.write_out.Tie as tie
@@ -34,7 +38,7 @@ same-length-2 c = search needs
 
 -- src/lib.rt:45:9
 returns : tie.Need-returns
-returns c = ?
+returns c = written-out (now (c .before .before .before .before .before .before .before .before .before .before .before .before .before .before .before .before .args .words)) (now (c .before .before .before .before .before .before .before .before .before .before .before .before .before .before .before .before .args .strings)) (now (c .before .before .before .before .before .before .before .before .before .before .before .before .before .before .before .before .args .output)) _ _ (sheetOf (now (c .before .before .before .before .before .before .before .before .before .before .before .before .before .before .before .before .args .sheet))) (stateOf (now (c .before .before .before .before .before .before .before .before .before .before .before .before .before .before .before .before .args .sheet)) (c .before .before .before .before .before .before .before .before .before .before .before .before .before .before .before .before .args .s)) _ _ (c .before .before .before .before .before .before .before .before .before .load-list .ensures .0) _ _ (c .before .before .before .write-keys .ensures) (c .before .before .before .before .before .before .if1 .taken) (c .completed .ensures)
 
 -- src/lib.rt:47:5
 refused-requires : tie.Need-refused-requires
@@ -46,7 +50,7 @@ same-length-3 c = search needs
 
 -- src/lib.rt:30:1
 returns-2 : tie.Need-returns-2
-returns-2 c = ?
+returns-2 c = not-written (now (c .before .before .before .before .before .before .before .before .before .before .before .args .words)) (now (c .before .before .before .before .before .before .before .before .before .before .before .args .strings)) (now (c .before .before .before .before .before .before .before .before .before .before .before .args .output)) _ _ (sheetOf (now (c .before .before .before .before .before .before .before .before .before .before .before .args .sheet))) (stateOf (now (c .before .before .before .before .before .before .before .before .before .before .before .args .sheet)) (c .before .before .before .before .before .before .before .before .before .before .before .args .s)) _ _ (c .before .before .before .before .load-list .ensures .0) _ (c .before .if1 .left) (c .refused .ensures)
 
 pub write-out-spec : {M : Type 1} → statement M
 write-out-spec =
