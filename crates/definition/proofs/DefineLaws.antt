@@ -1,13 +1,12 @@
 -- What an ordinary object's definition writes. Assumes nothing.
 use Prim.Native.Nat.{ℕ, zero, suc, _-_, _<_, _≤_}
 use native.Mathlib.Omega.{arith}
-use mathlib.Core.Path.{_≡_, refl, sym, ap, _∙_}
+use mathlib.Core.Path.{_≡_, refl, sym, _∙_}
 use mathlib.Core.Bool.{Bool, true, false, false≢true}
 use mathlib.Core.Option.{Option, none, some}
 use mathlib.Core.List.{List, [], _∷_}
 use borrow.Author.Tests.{ltb-true, ltb-false}
 use lib.Dec.{ltb}
-use lib.ListN.{length}
 use Rattle.value.specs.declared.PropertyKey.{PropertyKey}
 use Rattle.property.specs.declared.Property.{Property}
 use Rattle.property.specs.declared.OwnProperty.{OwnProperty}
@@ -21,10 +20,10 @@ use Rattle.store.specs.Store.{Store, lookup, isAt, own, withChange, withPropert
 use Rattle.store.specs.Words.{storeOf, isStore, wordAt}
 use Rattle.store.proofs.FindLaws.{First, first-replaced}
 use Rattle.store.proofs.FindLaws.First.{here, later}
-use Rattle.store_read.specs.declared.Place.the-variants.{Nothing, At}
+use Rattle.store_read.specs.declared.Place.the-variants.{At}
 use Rattle.store_read.specs.Answers.{firstPlace, findPlace}
-use Rattle.store_read.proofs.ReadLaws.{Sized, sized, lookup-missing, property-length}
-use Rattle.internal_methods.specs.Monad.{State, Out, failed, done, M, pure}
+use Rattle.store_read.proofs.ReadLaws.{sized, lookup-missing}
+use Rattle.internal_methods.specs.Monad.{State, Out, done, M, pure}
 use Rattle.internal_methods.specs.Methods.{Context}
 use Rattle.internal_methods.specs.Ordinary.{ordinaryGetOwnProperty, applyValidation}
 use Rattle.internal_methods.specs.Proxy.{proxyGetOwnProperty}

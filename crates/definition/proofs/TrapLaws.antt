@@ -1,5 +1,4 @@
 -- The checks of 10.5.6 steps 14 to 16 end as their message says. Assumes nothing.
-use Prim.Native.Nat.{ℕ}
 use native.Mathlib.Omega.{arith}
 use mathlib.Core.Path.{_≡_, refl}
 use mathlib.Core.Bool.{Bool, true, false}

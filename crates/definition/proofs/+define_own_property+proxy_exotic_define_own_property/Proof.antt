@@ -1,3 +1,4 @@
+-- [[DefineOwnProperty]] of both kinds is what the definitions say, and its write is one that the words can take. Assumes nothing.
 use borrow.Author.Needs.{needs}
 use mathlib.Core.Path.{sym, _∙_}
 use native.Mathlib.Omega.{arith}

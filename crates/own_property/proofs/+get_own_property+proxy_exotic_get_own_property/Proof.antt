@@ -1,3 +1,4 @@
+-- [[GetOwnProperty]] of both kinds is what the definitions say. Assumes nothing.
 use borrow.Author.Needs.{needs}
 use mathlib.Core.Path.{sym, _∙_}
 use native.Mathlib.Omega.{arith}

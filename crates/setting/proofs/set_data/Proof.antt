@@ -1,3 +1,4 @@
+-- 10.1.9.2 step 2 is what the definition says. Assumes nothing.
 use mathlib.Core.Path.{sym, _∙_}
 use Rattle.value.specs.Value.{objectOf}
 use Rattle.prototypes.proofs.ParentLaws.{is-object, is-no-object}
@@ -6,38 +7,15 @@ use Rattle.internal_methods.specs.Ordinary.{setData}
 use borrow.Author.Needs.{needs}
 use Rattle.setting.proofs.set_data.Statement.{statement}
 use Rattle.setting.proofs.set_data.Tie as tie
-use Rattle.setting.proofs.set_data.Reads as reads
-use Rattle.setting.proofs.set_data.Lts as lts
-use Rattle.setting.proofs.set_on_receiver.Reads as set-on-receiver-reads
-use Rattle.value.proofs.object_of.Reads as object-of-reads
 
--- src/lib.rt:100:15
-object-of-requires : tie.Need-object-of-requires
-object-of-requires c κs = search needs
-
--- src/lib.rt:101:34
-enum-known-o : tie.Need-enum-known-o
-enum-known-o c = search needs
-
--- src/lib.rt:102:17
-set-on-receiver-requires : tie.Need-set-on-receiver-requires
-set-on-receiver-requires c κs = search needs
-
--- src/lib.rt:104:62
-enum-told : tie.Need-enum-told
-enum-told c = search needs
-
--- src/lib.rt:83:1
 returns : tie.Need-returns
 unfolding pure if_then_else_ setData
 returns c = (rw (c .before .before .before .before .before .if1 .taken, is-object (objectOf (c .before .before .before .before .before .before .before .before .before .args .receiver)) _ (sym (c .before .before .before .before .object-of .ensures) ∙ c .before .before .o .given .1)) (c .set-on-receiver .ensures .0), c .set-on-receiver .ensures .1)
 
--- src/lib.rt:83:1
 returns-2 : tie.Need-returns-2
 unfolding pure if_then_else_ setData
 returns-2 c = (rw (c .before .before .before .if1 .taken, is-no-object (objectOf (c .before .before .before .before .before .before .before .args .receiver)) (sym (c .before .before .object-of .ensures) ∙ c .enum-told .given .1)), record { store = c .before .before .before .before .before .before .before .pre .readable .store; bounds = tt })
 
--- src/lib.rt:83:1
 returns-3 : tie.Need-returns-3
 unfolding pure if_then_else_ setData
 returns-3 c = (rw (c .if1 .left), record { store = c .before .before .before .before .pre .readable .store; bounds = tt })
@@ -46,10 +24,10 @@ pub set-data-spec : {M : Type 1} → statement M
 set-data-spec =
     tie.close
     (tie.spec
-    object-of-requires
-    enum-known-o
-    set-on-receiver-requires
-    enum-told
+    (λ c κs. search needs)
+    (λ c. search needs)
+    (λ c κs. search needs)
+    (λ c. search needs)
     returns
     returns-2
     returns-3)
