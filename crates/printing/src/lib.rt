@@ -146,7 +146,7 @@ fn print_reason(n: u64) {
         1 => print(b"a record is malformed"),
         2 => print(b"an object was never made"),
         3 => print(
-            b"a string, symbol or function is unknown, a string too long, or a kind of no use to the step",
+            b"an unknown string, symbol or function, a string too long, or a kind that the step cannot use",
         ),
         4 => print(b"a descriptor mixes data and accessor, or its get or set is not callable"),
         5 => print(b"the current descriptor is generic or incomplete"),
@@ -156,7 +156,7 @@ fn print_reason(n: u64) {
         9 => print(b"the next answer cannot be read"),
         10 => print(b"a 2,049th call would begin"),
         11 => print(b"the output cannot hold the keys"),
-        _ => print(b"no reason"),
+        _ => print(b"no such refusal"),
     }
 }
 
