@@ -1,0 +1,38 @@
+use mathlib.Core.Path.{_≡_}
+use Prim.Native.Nat.{_≤_, _-_}
+use lib.ListN.{length, length-take}
+use native.Mathlib.Omega.{arith}
+use borrow.Author.Needs.{needs}
+use Rattle.day.proofs.run_entry.Statement.{statement}
+use Rattle.day.proofs.run_entry.Tie as tie
+
+abbrev Inv-loop : tie.InvT-loop
+Inv-loop strings n call units₀ size i₀ units i = (i ≤ size) × ((size ≤ 64) × (length units ≡ 64))
+
+abbrev μ-loop : tie.MeasureT-loop
+μ-loop strings n call units₀ size i₀ units i = size - i
+
+slice-aggregate-enter-string : tie.Need-slice-aggregate-enter-string Inv-loop μ-loop
+slice-aggregate-enter-string c = simp length-take (omega arith)
+
+pub run-entry-spec : {M : Type 1} → statement M
+run-entry-spec =
+    tie.close
+    (tie.spec
+    Inv-loop
+    μ-loop
+    (λ c κs. search needs)
+    (λ c. search needs)
+    (λ c. search needs)
+    (λ c κs. search needs)
+    (λ c. search needs)
+    (λ c. search needs)
+    (λ c. search needs)
+    (λ c. search needs)
+    (λ c. search needs)
+    (λ c. search needs)
+    slice-aggregate-enter-string
+    (λ c κs. search needs)
+    (λ c κs. search needs)
+    (λ c. search needs)
+    (λ c. search needs))

@@ -1,0 +1,79 @@
+-- A report as ten words, for C. What is not used is 0, as are the words of undefined. Assumes nothing.
+use Prim.Native.Nat.{ℕ}
+use mathlib.Core.List.{List, [], _∷_}
+use Rattle.value.specs.declared.Value.{Value}
+use Rattle.value.specs.declared.Value.the-variants.{Undefined}
+use Rattle.value.specs.Words.{kindOf, payloadOf}
+use Rattle.store.specs.Words.{flagsOf, primary, secondary}
+use Rattle.lasting.specs.declared.Completion.{Completion}
+use Rattle.lasting.specs.declared.Completion.the-variants as completion
+use Rattle.lasting.specs.declared.Outcome.{Outcome}
+use Rattle.lasting.specs.declared.Outcome.the-variants as outcome
+use Rattle.lasting.specs.declared.Report.{Report}
+use Rattle.lasting.specs.Response.{outcomeNumber, refusalOrMessage}
+
+abbrev pub completionForm : Completion → ℕ
+completionForm (completion.Value v) = 1
+completionForm (completion.Descriptor p) = 2
+completionForm completion.Absent = 3
+completionForm (completion.Keys n) = 4
+
+-- a descriptor's flags, or the number of keys
+abbrev pub completionDetail : Completion → ℕ
+completionDetail (completion.Value v) = 0
+completionDetail (completion.Descriptor p) = flagsOf p
+completionDetail completion.Absent = 0
+completionDetail (completion.Keys n) = n
+
+-- the value, or a descriptor's value or getter
+abbrev pub completionFirst : Completion → Value
+completionFirst (completion.Value v) = v
+completionFirst (completion.Descriptor p) = primary p
+completionFirst completion.Absent = Undefined
+completionFirst (completion.Keys n) = Undefined
+
+-- a descriptor's setter
+abbrev pub completionSecond : Completion → Value
+completionSecond (completion.Value v) = Undefined
+completionSecond (completion.Descriptor p) = secondary p
+completionSecond completion.Absent = Undefined
+completionSecond (completion.Keys n) = Undefined
+
+-- 0 nothing, 1 a value, a thrown one too, 2 a descriptor, 3 absent, 4 keys
+abbrev pub outcomeForm : Outcome → ℕ
+outcomeForm (outcome.Refused n) = 0
+outcomeForm (outcome.Result c) = completionForm c
+outcomeForm (outcome.TypeError n) = 0
+outcomeForm (outcome.Thrown v) = 1
+
+abbrev pub outcomeDetail : Outcome → ℕ
+outcomeDetail (outcome.Refused n) = 0
+outcomeDetail (outcome.Result c) = completionDetail c
+outcomeDetail (outcome.TypeError n) = 0
+outcomeDetail (outcome.Thrown v) = 0
+
+abbrev pub outcomeFirst : Outcome → Value
+outcomeFirst (outcome.Refused n) = Undefined
+outcomeFirst (outcome.Result c) = completionFirst c
+outcomeFirst (outcome.TypeError n) = Undefined
+outcomeFirst (outcome.Thrown v) = v
+
+abbrev pub outcomeSecond : Outcome → Value
+outcomeSecond (outcome.Refused n) = Undefined
+outcomeSecond (outcome.Result c) = completionSecond c
+outcomeSecond (outcome.TypeError n) = Undefined
+outcomeSecond (outcome.Thrown v) = Undefined
+
+unfoldable pub reportWords : Report → List ℕ
+reportWords r =
+    outcomeNumber (r .outcome)
+    ∷ refusalOrMessage (r .outcome)
+    ∷ r .answers
+    ∷ r .calls
+    ∷ outcomeForm (r .outcome)
+    ∷ outcomeDetail (r .outcome)
+    ∷ kindOf (outcomeFirst (r .outcome))
+    ∷ payloadOf (outcomeFirst (r .outcome))
+    ∷ kindOf (outcomeSecond (r .outcome))
+    ∷ payloadOf (outcomeSecond (r .outcome))
+    ∷ []
