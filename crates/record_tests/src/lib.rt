@@ -1,5 +1,4 @@
 // The refusals over a call's records, in their order: 1 to 4 over the step, then 1 to 3 over the sheet.
-use parts::tests;
 use record::Counts;
 use record::Refusal;
 use record::Step;
@@ -59,7 +58,7 @@ fn step_refusal(words: &[u64], n: Counts, s: Step) -> Refusal
     let d = s.descriptor;
     if steps::are_objects_made(n, s) {
         if steps::are_kinds_usable(is_proxy(words, s.object), n, s) {
-            if tests::is_descriptor(d) {
+            if value_tests::is_descriptor(d) {
                 return Refusal::Passed;
             }
             return Refusal::Failed(4);

@@ -1,9 +1,6 @@
 // An answer sheet: a count, then that many answers.
 use crate::AnswerEnd;
 use crate::NextAnswer;
-use parts::bytes;
-use parts::descriptor;
-use parts::tests;
 use record::Counts;
 use record::Test;
 ghost use mathlib.Core.Path.{_≡_};
@@ -31,7 +28,7 @@ fn key_count_at(bytes: &[u8], at: usize) -> usize
     requires { ⌜ at + 3 ≤ length (now bytes) ⌝ }
     ensures { λ r. ⌜ (r ≡ keyCountAt (now (bytes .entry)) at) × (r < 65536) ⌝ }
 {
-    bytes::short_at(bytes, at + 1) as usize
+    byte_numbers::short_at(bytes, at + 1) as usize
 }
 
 fn keys_end(bytes: &[u8], at: usize) -> AnswerEnd
@@ -66,7 +63,7 @@ fn are_values_at(bytes: &[u8], at: usize, n: usize) -> bool
     let mut i: usize = at;
     let mut left: usize = n;
     while 0 < left {
-        if bytes::is_value_at(bytes, i) {
+        if value_bytes::is_value_at(bytes, i) {
             i += 9;
             left -= 1;
         } else {
@@ -93,10 +90,10 @@ fn is_body_at(bytes: &[u8], at: usize) -> bool
 {
     let tag = bytes[at];
     match tag {
-        1 => bytes::is_value_at(bytes, at + 1),
-        2 => descriptor::is_descriptor_at(bytes, at + 1),
+        1 => value_bytes::is_value_at(bytes, at + 1),
+        2 => descriptor_bytes::is_descriptor_at(bytes, at + 1),
         3 => are_keys_at(bytes, at),
-        4 => bytes::is_value_at(bytes, at + 1),
+        4 => value_bytes::is_value_at(bytes, at + 1),
         _ => false,
     }
 }
@@ -153,10 +150,10 @@ pub fn next_answer(bytes: &[u8], at: usize, left: usize) -> NextAnswer
     };
     let tag = bytes[at];
     match tag {
-        1 => NextAnswer::Value(bytes::value_at(bytes, at + 1), end),
-        2 => NextAnswer::Descriptor(descriptor::descriptor_at(bytes, at + 1), end),
+        1 => NextAnswer::Value(value_bytes::value_at(bytes, at + 1), end),
+        2 => NextAnswer::Descriptor(descriptor_bytes::descriptor_at(bytes, at + 1), end),
         3 => NextAnswer::Keys(at + 3, key_count_at(bytes, at), end),
-        _ => NextAnswer::Throw(bytes::value_at(bytes, at + 1), end),
+        _ => NextAnswer::Throw(value_bytes::value_at(bytes, at + 1), end),
     }
 }
 
@@ -168,7 +165,7 @@ fn values_pass(test: Test, counts: Counts, bytes: &[u8], at: usize, n: usize) ->
     let mut i: usize = at;
     let mut left: usize = n;
     while 0 < left {
-        if tests::passes(test, counts, bytes::value_at(bytes, i)) {
+        if value_tests::passes(test, counts, value_bytes::value_at(bytes, i)) {
             i += 9;
             left -= 1;
         } else {
@@ -184,10 +181,10 @@ fn next_passes(test: Test, counts: Counts, bytes: &[u8], next: NextAnswer) -> bo
 {
     match next {
         NextAnswer::NoAnswer => true,
-        NextAnswer::Value(v, _) => tests::passes(test, counts, v),
-        NextAnswer::Descriptor(d, _) => tests::descriptor_passes(test, counts, d),
+        NextAnswer::Value(v, _) => value_tests::passes(test, counts, v),
+        NextAnswer::Descriptor(d, _) => value_tests::descriptor_passes(test, counts, d),
         NextAnswer::Keys(first, n, _) => values_pass(test, counts, bytes, first, n),
-        NextAnswer::Throw(v, _) => tests::passes(test, counts, v),
+        NextAnswer::Throw(v, _) => value_tests::passes(test, counts, v),
     }
 }
 

@@ -20,7 +20,7 @@ const STORE_SIZE: usize = 1634;
 
 const OBJECTS: usize = 2;
 
-pub(crate) const KEYS: usize = 98;
+const KEYS: usize = 98;
 
 const ROWS: usize = 354;
 
@@ -126,7 +126,7 @@ pub fn find(words: &[u64], o: u64, key: PropertyKey) -> Place
     Place::Nothing
 }
 
-pub fn property_at(words: &[u64], i: usize) -> Property
+fn property_at(words: &[u64], i: usize) -> Property
     requires { ⌜ (isStore (now words) ≡ true) × (i < 256) ⌝ }
     ensures { λ r. ⌜ r ≡ propertyIn (now (words .entry)) i ⌝ }
 {

@@ -8,8 +8,8 @@ use Rattle.own_property.proofs.result_message.Lts as lts
 use Rattle.target_checks.proofs.absent_or_configurable.Reads as absent-or-configurable-reads
 use Rattle.target_checks.proofs.is_read_only.Reads as is-read-only-reads
 use Rattle.target_checks.proofs.is_writable.Reads as is-writable-reads
-use Rattle.property.proofs.descriptor_of.Reads as descriptor-of-reads
-use Rattle.property.proofs.is_configurable.Reads as is-configurable-reads
+use Rattle.completion.proofs.descriptor_of.Reads as descriptor-of-reads
+use Rattle.attributes.proofs.is_configurable.Reads as is-configurable-reads
 use Rattle.validation.proofs.is_compatible_property_descriptor.Reads as is-compatible-property-descriptor-reads
 
 -- src/lib.rt:64:9

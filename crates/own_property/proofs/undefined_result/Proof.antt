@@ -7,7 +7,7 @@ use Rattle.own_property.proofs.undefined_result.Tie as tie
 use Rattle.own_property.proofs.undefined_result.Reads as reads
 use Rattle.own_property.proofs.undefined_result.Lts as lts
 use Rattle.extensibility.proofs.is_extensible.Reads as is-extensible-reads
-use Rattle.property.proofs.is_configurable.Reads as is-configurable-reads
+use Rattle.attributes.proofs.is_configurable.Reads as is-configurable-reads
 
 -- src/lib.rt:97:53
 enum-told : tie.Need-enum-told
