@@ -129,8 +129,8 @@ fn judge(extensible: bool, d: PropertyDescriptor, current: OwnProperty) -> Verdi
     ensures { λ r. ⌜ r ≡ judged current (validate extensible d current) ⌝ }
 {
     let v = validation::validate(extensible, d, current);
-    let accepted = validation::is_accepted(v);
-    let after = validation::settled(current, v);
+    let accepted = validation_outcome::is_accepted(v);
+    let after = validation_outcome::settled(current, v);
     Verdict::Verdict(accepted, after)
 }
 

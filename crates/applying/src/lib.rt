@@ -15,16 +15,16 @@ fn applied_to_data(d: PropertyDescriptor, v: Value, w: bool, e: bool, c: bool) -
     // 6.a
     if descriptor_kinds::is_accessor_descriptor(d) {
         return Property::Accessor(
-            fields::or_else(fields::get_field(k), Value::Undefined),
-            fields::or_else(fields::set_field(k), Value::Undefined),
+            fields::or_else(kind_fields::get_field(k), Value::Undefined),
+            fields::or_else(kind_fields::set_field(k), Value::Undefined),
             flags::or_else_flag(enumerable, e),
             flags::or_else_flag(configurable, c),
         );
     }
     // 6.c
     Property::Data(
-        fields::or_else(fields::value_field(k), v),
-        flags::or_else_flag(fields::writable_field(k), w),
+        fields::or_else(kind_fields::value_field(k), v),
+        flags::or_else_flag(kind_fields::writable_field(k), w),
         flags::or_else_flag(enumerable, e),
         flags::or_else_flag(configurable, c),
     )
@@ -40,16 +40,16 @@ fn applied_to_accessor(d: PropertyDescriptor, g: Value, s: Value, e: bool, c: bo
     // 6.b
     if descriptor_kinds::is_data_descriptor(d) {
         return Property::Data(
-            fields::or_else(fields::value_field(k), Value::Undefined),
-            flags::or_else_flag(fields::writable_field(k), false),
+            fields::or_else(kind_fields::value_field(k), Value::Undefined),
+            flags::or_else_flag(kind_fields::writable_field(k), false),
             flags::or_else_flag(enumerable, e),
             flags::or_else_flag(configurable, c),
         );
     }
     // 6.c
     Property::Accessor(
-        fields::or_else(fields::get_field(k), g),
-        fields::or_else(fields::set_field(k), s),
+        fields::or_else(kind_fields::get_field(k), g),
+        fields::or_else(kind_fields::set_field(k), s),
         flags::or_else_flag(enumerable, e),
         flags::or_else_flag(configurable, c),
     )

@@ -17,15 +17,15 @@ pub fn complete_property_descriptor(d: PropertyDescriptor) -> Property
     let configurable = d.configurable;
     if descriptor_kinds::is_accessor_descriptor(d) {
         return Property::Accessor(
-            fields::or_else(fields::get_field(k), Value::Undefined), // 3.a
-            fields::or_else(fields::set_field(k), Value::Undefined), // 3.b
+            fields::or_else(kind_fields::get_field(k), Value::Undefined), // 3.a
+            fields::or_else(kind_fields::set_field(k), Value::Undefined), // 3.b
             flags::or_else_flag(enumerable, false), // 4
             flags::or_else_flag(configurable, false), // 5
         );
     }
     Property::Data(
-        fields::or_else(fields::value_field(k), Value::Undefined), // 2.a
-        flags::or_else_flag(fields::writable_field(k), false), // 2.b
+        fields::or_else(kind_fields::value_field(k), Value::Undefined), // 2.a
+        flags::or_else_flag(kind_fields::writable_field(k), false), // 2.b
         flags::or_else_flag(enumerable, false), // 4
         flags::or_else_flag(configurable, false), // 5
     )

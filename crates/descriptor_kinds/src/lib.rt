@@ -30,8 +30,8 @@ pub fn is_accessor_descriptor(d: PropertyDescriptor) -> bool
     ensures { λ r. ⌜ r ≡ isAccessorDescriptor d ⌝ }
 {
     let k = d.kind;
-    let get = fields::get_field(k);
-    let set = fields::set_field(k);
+    let get = kind_fields::get_field(k);
+    let set = kind_fields::set_field(k);
     has_either(get, set) // 2, 3
 }
 
@@ -40,8 +40,8 @@ pub fn is_data_descriptor(d: PropertyDescriptor) -> bool
     ensures { λ r. ⌜ r ≡ isDataDescriptor d ⌝ }
 {
     let k = d.kind;
-    let value = fields::value_field(k);
-    let writable = fields::writable_field(k);
+    let value = kind_fields::value_field(k);
+    let writable = kind_fields::writable_field(k);
     has_value_or_writable(value, writable) // 2, 3
 }
 

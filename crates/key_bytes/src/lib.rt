@@ -78,8 +78,8 @@ pub fn write_keys(list: &[u64], n: usize, out: &mut [u8])
 {
     let mut i: usize = 0;
     while i < n {
-        let key = own_key_order::key_from_word(list[i]);
-        value_bytes::put_value(out, 9 * i, property_keys::key_value(key));
+        let key = store_read::key_from_word(list[i]);
+        value_writing::put_value(out, 9 * i, property_keys::key_value(key));
         i += 1;
     }
 }

@@ -24,7 +24,7 @@ fn ordinary_get_own_property(words: &[u64], o: u64, key: PropertyKey) -> OwnProp
     requires { ⌜ isStore (now words) ≡ true ⌝ }
     ensures { λ r. ⌜ r ≡ ordinaryGetOwnProperty (storeOf (now (words .entry))) o key ⌝ }
 {
-    store_read::own(words, o, key)
+    property_read::own(words, o, key)
 }
 
 // The TypeError of 10.5.5 steps 14 to 16 by its number, or 0.
@@ -112,13 +112,13 @@ fn descriptor_result(
     match extensibility::is_extensible(words, strings, allowance, sheet, target, depth, s) {
         BooleanOut::Failed(f, t) => OwnPropertyOut::Failed(f, t), // 11
         BooleanOut::Done(extensible, t) => {
-            if descriptors::is_uncallable(get) {
+            if descriptor_tests::is_uncallable(get) {
                 return OwnPropertyOut::Failed(Failure::TypeError(27), t); // 12
             }
-            if descriptors::is_uncallable(set) {
+            if descriptor_tests::is_uncallable(set) {
                 return OwnPropertyOut::Failed(Failure::TypeError(28), t); // 12
             }
-            if descriptors::is_mixed(object) {
+            if descriptor_tests::is_mixed(object) {
                 return OwnPropertyOut::Failed(Failure::TypeError(29), t); // 12
             }
             let d = descriptors::to_property_descriptor(object); // 12

@@ -73,8 +73,8 @@ fn sheet_refusal(n: Counts, sheet: &[u8]) -> Refusal
     ensures { λ r. ⌜ r ≡ refusal (firstFailing (sheetTests n (now (sheet .entry)))) ⌝ }
 {
     if sheet::is_sheet(sheet) {
-        if sheet::sheet_made(sheet, n) {
-            if sheet::sheet_known(sheet, n) {
+        if sheet_tests::sheet_made(sheet, n) {
+            if sheet_tests::sheet_known(sheet, n) {
                 return Refusal::Passed;
             }
             return Refusal::Failed(3);
@@ -91,7 +91,7 @@ pub fn record_refusal(words: &[u64], strings: &[u16], bytes: &[u8], sheet: &[u8]
 {
     if steps::is_step(bytes) {
         let n = counts_of(words, strings);
-        let first = step_refusal(words, n, steps::step_of(bytes));
+        let first = step_refusal(words, n, step_reading::step_of(bytes));
         match first {
             Refusal::Failed(i) => Refusal::Failed(i),
             Refusal::Passed => sheet_refusal(n, sheet),

@@ -11,7 +11,7 @@ ghost use lib.ListN.{length};
 ghost use Rattle.value.specs.PropertyKey.{keyOf};
 ghost use Rattle.value.specs.Words.{kindOf};
 ghost use Rattle.record.specs.Tests.{asks};
-ghost use Rattle.record.specs.Step.{stepOf, usesObject, usesKey, usesPrototype, usesMask, usesValue, usesReceiver, usesDescriptor, isMask, isCode, isObjectFormed, areValuesFormed, isDescriptorFormed, isMaskFormed, isStep, stepPasses, areObjectsMade, isSome, isNullOrObject, isKeyUsable, isPrototypeUsable, isMaskUsable, isObjectUsable, isReceiverUsable, areKindsUsable};
+ghost use Rattle.record.specs.Step.{usesObject, usesKey, usesPrototype, usesValue, usesReceiver, isMask, isCode, isObjectFormed, areValuesFormed, isDescriptorFormed, isMaskFormed, isStep, stepPasses, areObjectsMade, isSome, isNullOrObject, isKeyUsable, isPrototypeUsable, isMaskUsable, isObjectUsable, isReceiverUsable, areKindsUsable};
 
 fn uses_object(code: u64) -> bool
     ensures { λ r. ⌜ r ≡ usesObject code ⌝ }
@@ -154,20 +154,6 @@ pub fn is_step(bytes: &[u8]) -> bool
         }
     }
     false
-}
-
-pub fn step_of(bytes: &[u8]) -> Step
-    requires { ⌜ 58 ≤ length (now bytes) ⌝ }
-    ensures { λ r. ⌜ r ≡ stepOf (now (bytes .entry)) ⌝ }
-{
-    Step {
-        code: byte_numbers::wide(bytes[0]),
-        object: byte_numbers::wide(bytes[1]),
-        key: value_bytes::value_at(bytes, 2),
-        value: value_bytes::value_at(bytes, 11),
-        receiver: value_bytes::value_at(bytes, 20),
-        descriptor: descriptor_bytes::descriptor_at(bytes, 29),
-    }
 }
 
 // Whether all values of the step pass.

@@ -1,11 +1,10 @@
 // Reading the store's words.
 mod read;
 
-pub use read::find;
 pub use read::is_store;
+pub use read::key_from_word;
 pub use read::object_at;
 pub use read::object_count;
-pub use read::own;
 pub use read::property_count;
 use store::Object;
 

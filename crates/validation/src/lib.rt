@@ -7,7 +7,7 @@ ghost use mathlib.Core.Path.{_≡_};
 ghost use mathlib.Core.Bool.{not, _&&_, Bool·beq};
 ghost use Rattle.property.specs.Fields.{isAccessor};
 ghost use Rattle.property.specs.Descriptor.{isAccessorDescriptor, isGenericDescriptor};
-ghost use Rattle.property.specs.Validate.{hasNoFields, applied, validateKind, validateFixed, validate, isAccepted, isCompatible, settled};
+ghost use Rattle.property.specs.Validate.{hasNoFields, applied, validateKind, validateFixed, validate, isCompatible};
 
 // Step 4.
 fn has_no_fields(d: PropertyDescriptor) -> bool
@@ -41,10 +41,10 @@ fn validate_kind(d: PropertyDescriptor, current: Property, next: Validation) -> 
     let k = d.kind;
     match current {
         Property::Accessor(g, s, _, _) => {
-            if fields::is_unlike(fields::get_field(k), g) {
+            if fields::is_unlike(kind_fields::get_field(k), g) {
                 return Validation::Rejected; // 5.d.i
             }
-            if fields::is_unlike(fields::set_field(k), s) {
+            if fields::is_unlike(kind_fields::set_field(k), s) {
                 return Validation::Rejected; // 5.d.ii
             }
             next
@@ -53,10 +53,10 @@ fn validate_kind(d: PropertyDescriptor, current: Property, next: Validation) -> 
             if w {
                 return next;
             }
-            if flags::is_true(fields::writable_field(k)) {
+            if flags::is_true(kind_fields::writable_field(k)) {
                 return Validation::Rejected; // 5.e.i
             }
-            let value = fields::value_field(k);
+            let value = kind_fields::value_field(k);
             if fields::has_field(value) {
                 if fields::is_unlike(value, v) {
                     return Validation::Rejected; // 5.e.iii
@@ -110,16 +110,6 @@ pub fn validate(extensible: bool, d: PropertyDescriptor, current: OwnProperty) -
     }
 }
 
-pub fn is_accepted(v: Validation) -> bool
-    ensures { λ r. ⌜ r ≡ isAccepted v ⌝ }
-{
-    match v {
-        Validation::Rejected => false,
-        Validation::Unchanged => true,
-        Validation::Becomes(_) => true,
-    }
-}
-
 // 10.1.6.2 IsCompatiblePropertyDescriptor ( Extensible, Desc, Current )
 pub fn is_compatible_property_descriptor(
     extensible: bool,
@@ -128,16 +118,5 @@ pub fn is_compatible_property_descriptor(
 ) -> bool
     ensures { λ r. ⌜ r ≡ isCompatible extensible d current ⌝ }
 {
-    is_accepted(validate(extensible, d, current))
-}
-
-// The property after validation.
-pub fn settled(current: OwnProperty, validation: Validation) -> OwnProperty
-    ensures { λ r. ⌜ r ≡ settled current validation ⌝ }
-{
-    match validation {
-        Validation::Rejected => current,
-        Validation::Unchanged => current,
-        Validation::Becomes(p) => OwnProperty::Present(p),
-    }
+    validation_outcome::is_accepted(validate(extensible, d, current))
 }

@@ -79,11 +79,11 @@ pub fn is_descriptor(d: DescriptorObject) -> bool
 {
     let get = d.get;
     let set = d.set;
-    if descriptors::is_mixed(d) {
+    if descriptor_tests::is_mixed(d) {
         return false;
     }
-    if descriptors::is_uncallable(get) {
+    if descriptor_tests::is_uncallable(get) {
         return false;
     }
-    !descriptors::is_uncallable(set)
+    !descriptor_tests::is_uncallable(set)
 }

@@ -189,8 +189,11 @@ fn validate(r: &[u8]) -> bool
 {
     let current = own_at(r, truth(r[2]), 32);
     let v = validation::validate(truth(r[1]), descriptor(r, 3), current);
-    if same_bool(validation::is_accepted(v), truth(r[61])) {
-        same_own(validation::settled(current, v), own_at(r, truth(r[62]), 63))
+    if same_bool(validation_outcome::is_accepted(v), truth(r[61])) {
+        same_own(
+            validation_outcome::settled(current, v),
+            own_at(r, truth(r[62]), 63),
+        )
     } else {
         false
     }
@@ -200,7 +203,7 @@ fn validate(r: &[u8]) -> bool
 fn step_refusal(bytes: &[u8], n: Counts, proxy: bool) -> u8 {
     if steps::is_step(bytes) {
         if bytes.len() == 58 {
-            let s = steps::step_of(bytes);
+            let s = step_reading::step_of(bytes);
             let d = s.descriptor;
             if steps::are_objects_made(n, s) {
                 if steps::are_kinds_usable(proxy, n, s) {
@@ -236,8 +239,8 @@ fn step_tests(r: &[u8]) -> bool
 // The first of refusals 1 to 3 over a sheet, or 0
 fn sheet_refusal(bytes: &[u8], n: Counts) -> u8 {
     if sheet::is_sheet(bytes) {
-        if sheet::sheet_made(bytes, n) {
-            if sheet::sheet_known(bytes, n) {
+        if sheet_tests::sheet_made(bytes, n) {
+            if sheet_tests::sheet_known(bytes, n) {
                 return 0;
             }
             return 3;

@@ -10,8 +10,8 @@ use Rattle.own_property.proofs.descriptor_result.Lts as lts
 use Rattle.extensibility.proofs.is_extensible.Reads as is-extensible-reads
 use Rattle.own_property.proofs.result_message.Reads as result-message-reads
 use Rattle.completion.proofs.complete_property_descriptor.Reads as complete-property-descriptor-reads
-use Rattle.descriptors.proofs.is_mixed.Reads as is-mixed-reads
-use Rattle.descriptors.proofs.is_uncallable.Reads as is-uncallable-reads
+use Rattle.descriptor_tests.proofs.is_mixed.Reads as is-mixed-reads
+use Rattle.descriptor_tests.proofs.is_uncallable.Reads as is-uncallable-reads
 use Rattle.descriptors.proofs.to_property_descriptor.Reads as to-property-descriptor-reads
 
 -- src/lib.rt:134:11
