@@ -1,6 +1,4 @@
 // Completing, validating and merging descriptors by themselves, over byte records.
-use parts::descriptor;
-use parts::tests;
 use property::DescriptorObject;
 use property::Filling;
 use property::OwnProperty;
@@ -41,8 +39,8 @@ fn read(bytes: &[u8]) -> Reading
     if bytes.len() != 29 {
         return Reading::Malformed;
     }
-    if descriptor::is_descriptor_at(bytes, 0) {
-        return Reading::Record(descriptor::descriptor_at(bytes, 0));
+    if descriptor_bytes::is_descriptor_at(bytes, 0) {
+        return Reading::Record(descriptor_bytes::descriptor_at(bytes, 0));
     }
     Reading::Malformed
 }
@@ -66,17 +64,17 @@ fn first_failing(made: bool, known: bool, usable: bool) -> Refusal
 fn one_refusal(n: Counts, d: DescriptorObject) -> Refusal
     ensures { λ r. ⌜ r ≡ refusal (laterOne n d) ⌝ }
 {
-    let made = tests::descriptor_passes(Test::Made, n, d);
-    let known = tests::descriptor_passes(Test::Known, n, d);
-    let usable = tests::is_descriptor(d);
+    let made = value_tests::descriptor_passes(Test::Made, n, d);
+    let known = value_tests::descriptor_passes(Test::Known, n, d);
+    let usable = value_tests::is_descriptor(d);
     first_failing(made, known, usable)
 }
 
 fn both_pass(test: Test, n: Counts, a: DescriptorObject, b: DescriptorObject) -> bool
     ensures { λ r. ⌜ r ≡ (descriptorPasses (asks test n) a && descriptorPasses (asks test n) b) ⌝ }
 {
-    if tests::descriptor_passes(test, n, a) {
-        return tests::descriptor_passes(test, n, b);
+    if value_tests::descriptor_passes(test, n, a) {
+        return value_tests::descriptor_passes(test, n, b);
     }
     false
 }
@@ -84,8 +82,8 @@ fn both_pass(test: Test, n: Counts, a: DescriptorObject, b: DescriptorObject) ->
 fn are_descriptors(a: DescriptorObject, b: DescriptorObject) -> bool
     ensures { λ r. ⌜ r ≡ (isDescriptor a && isDescriptor b) ⌝ }
 {
-    if tests::is_descriptor(a) {
-        return tests::is_descriptor(b);
+    if value_tests::is_descriptor(a) {
+        return value_tests::is_descriptor(b);
     }
     false
 }
@@ -107,7 +105,9 @@ fn complete_read(n: Counts, d: DescriptorObject) -> DescriptorAnswer
     match refusal {
         Refusal::Failed(i) => DescriptorAnswer::Refused(i),
         Refusal::Passed => {
-            let made = property::complete_property_descriptor(property::to_property_descriptor(d));
+            let made = completion::complete_property_descriptor(descriptors::to_property_descriptor(
+                d,
+            ));
             DescriptorAnswer::Property(made)
         }
     }
@@ -129,8 +129,8 @@ fn judge(extensible: bool, d: PropertyDescriptor, current: OwnProperty) -> Verdi
     ensures { λ r. ⌜ r ≡ judged current (validate extensible d current) ⌝ }
 {
     let v = validation::validate(extensible, d, current);
-    let accepted = validation::is_accepted(v);
-    let after = validation::settled(current, v);
+    let accepted = validation_outcome::is_accepted(v);
+    let after = validation_outcome::settled(current, v);
     Verdict::Verdict(accepted, after)
 }
 
@@ -143,7 +143,7 @@ fn validate_absent(n: Counts, extensible: bool, d: DescriptorObject) -> Verdict
         Refusal::Passed => {
             judge(
                 extensible,
-                property::to_property_descriptor(d),
+                descriptors::to_property_descriptor(d),
                 OwnProperty::Absent,
             )
         }
@@ -154,7 +154,7 @@ fn validate_absent(n: Counts, extensible: bool, d: DescriptorObject) -> Verdict
 fn validate_over(extensible: bool, d: PropertyDescriptor, current: PropertyDescriptor) -> Verdict
     ensures { λ r. ⌜ r ≡ validatedOver extensible d (propertyOf current) ⌝ }
 {
-    let over = validation::property_of(current);
+    let over = merging::property_of(current);
     match over {
         OwnProperty::Absent => Verdict::Refused(5),
         OwnProperty::Present(p) => judge(extensible, d, OwnProperty::Present(p)),
@@ -175,8 +175,8 @@ fn validate_read(
         Refusal::Passed => {
             validate_over(
                 extensible,
-                property::to_property_descriptor(d),
-                property::to_property_descriptor(current),
+                descriptors::to_property_descriptor(d),
+                descriptors::to_property_descriptor(current),
             )
         }
     }
@@ -206,11 +206,11 @@ pub fn validate_alone(n: Counts, extensible: bool, bytes: &[u8], current: &[u8])
 fn merge_over(d: PropertyDescriptor, current: PropertyDescriptor) -> DescriptorAnswer
     ensures { λ r. ⌜ r ≡ mergedOver d (propertyOf current) ⌝ }
 {
-    let over = validation::property_of(current);
+    let over = merging::property_of(current);
     match over {
         OwnProperty::Absent => DescriptorAnswer::Refused(5),
         OwnProperty::Present(p) => {
-            let filling = validation::fill_with(p, d);
+            let filling = merging::fill_with(p, d);
             match filling {
                 Filling::Filled(q) => DescriptorAnswer::Property(q),
                 Filling::Incompatible => DescriptorAnswer::Refused(6),
@@ -227,8 +227,8 @@ fn merge_read(n: Counts, current: DescriptorObject, d: DescriptorObject) -> Desc
         Refusal::Failed(i) => DescriptorAnswer::Refused(i),
         Refusal::Passed => {
             merge_over(
-                property::to_property_descriptor(d),
-                property::to_property_descriptor(current),
+                descriptors::to_property_descriptor(d),
+                descriptors::to_property_descriptor(current),
             )
         }
     }

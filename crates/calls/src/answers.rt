@@ -55,7 +55,10 @@ pub fn next_boolean(strings: &[u16], sheet: &[u8], s: Progress) -> BooleanOut
 {
     match next_value(sheet, s) {
         ValueOut::Failed(f, t) => BooleanOut::Failed(f, t),
-        ValueOut::Done(v, t) => BooleanOut::Done(value::to_boolean(v, text_length(strings, v)), t),
+        ValueOut::Done(v, t) => BooleanOut::Done(
+            conversions::to_boolean(v, text_length(strings, v)),
+            t,
+        ),
     }
 }
 

@@ -40,7 +40,7 @@ fn write_property(
     ensures { λ r. ⌜ ((bytes cells : List ℕ) → toldWrite bytes (storeOf (now (words .entry))) r ≡ applyValidation (context (now (words .entry)) cells allowance) o key (own (storeOf (now (words .entry))) o key) (Validation.Becomes p) .run (stateOf bytes s)) ⌝ }
     ensures { λ r. ⌜ Fitting (now (words .entry)) r ⌝ }
 {
-    match store_read::find(words, o, key) {
+    match property_read::find(words, o, key) {
         Place::At(i) => WriteOut::Done(true, Write::Change(i, p), s),
         Place::Nothing => {
             if store_write::room(words, allowance) {
@@ -107,8 +107,8 @@ fn fixes_configurable(d: PropertyDescriptor, target: Property) -> bool
     ensures { λ r. ⌜ r ≡ (isFalse (d .configurable) && configurable target) ⌝ }
 {
     let configurable = d.configurable;
-    if property::is_false(configurable) {
-        return property::is_configurable(target);
+    if flags::is_false(configurable) {
+        return attributes::is_configurable(target);
     }
     false
 }
@@ -118,11 +118,11 @@ fn fixes_writable(d: PropertyDescriptor, target: Property) -> bool
     ensures { λ r. ⌜ r ≡ (not (configurable target) && (isWritable (OwnProperty.Present target) && isFalse (writableField (d .kind)))) ⌝ }
 {
     let k = d.kind;
-    if property::is_configurable(target) {
+    if attributes::is_configurable(target) {
         return false;
     }
     if target_checks::is_writable(OwnProperty::Present(target)) {
-        return property::is_false(property::writable_field(k));
+        return flags::is_false(kind_fields::writable_field(k));
     }
     false
 }
@@ -135,7 +135,7 @@ fn definition_message(extensible: bool, d: PropertyDescriptor, current: OwnPrope
     match current {
         OwnProperty::Absent => {
             if extensible {
-                if property::is_false(configurable) {
+                if flags::is_false(configurable) {
                     return 13; // 14.b
                 }
                 return 0;

@@ -43,7 +43,7 @@ fn ordinary_delete(
         OwnPropertyOut::Done(desc, t) => match desc {
             OwnProperty::Absent => WriteOut::Done(true, Write::Nothing, t), // 2
             OwnProperty::Present(property) => {
-                if property::is_configurable(property) {
+                if attributes::is_configurable(property) {
                     WriteOut::Done(true, Write::Remove(o, key), t) // 3
                 } else {
                     WriteOut::Done(false, Write::Nothing, t) // 4
@@ -68,7 +68,7 @@ fn delete_present(
     ensures { λ r. ⌜ toldWrite (now (sheet .entry)) (storeOf (now (words .entry))) r ≡ deletePresent (context (now (words .entry)) (now (strings .entry)) allowance) (methods depth (context (now (words .entry)) (now (strings .entry)) allowance)) target property .run (stateOf (now (sheet .entry)) s) ⌝ }
     ensures { λ r. ⌜ Fitting (now (words .entry)) r ⌝ }
 {
-    if property::is_configurable(property) {
+    if attributes::is_configurable(property) {
         match is_extensible(words, strings, allowance, sheet, target, depth, s) {
             BooleanOut::Failed(f, t) => WriteOut::Failed(f, t), // 12
             BooleanOut::Done(extensible, t) => {

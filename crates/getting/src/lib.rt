@@ -139,7 +139,7 @@ fn ordinary_get(
                     ) {
                         ValueOut::Failed(f, u) => ValueOut::Failed(f, u), // 2.a
                         ValueOut::Done(parent, u) => {
-                            match value::object_of(parent) {
+                            match conversions::object_of(parent) {
                                 ObjectResult::NotObject => ValueOut::Done(Value::Undefined, u), // 2.b
                                 ObjectResult::Object(q) => {
                                     get(
@@ -162,7 +162,7 @@ fn ordinary_get(
                     match desc {
                         Property::Data(v, _, _, _) => ValueOut::Done(v, t), // 3
                         Property::Accessor(getter, _, _, _) => {
-                            if value::is_undefined(getter) {
+                            if conversions::is_undefined(getter) {
                                 ValueOut::Done(Value::Undefined, t) // 6
                             } else {
                                 calls::next_value(sheet, t) // 7

@@ -53,7 +53,7 @@ fn has_property_trap(
                     match own {
                         OwnProperty::Absent => BooleanOut::Done(false, u),
                         OwnProperty::Present(current) => {
-                            if property::is_configurable(current) {
+                            if attributes::is_configurable(current) {
                                 match extensibility::is_extensible(
                                     words,
                                     strings,
@@ -139,7 +139,7 @@ fn ordinary_has_property(
                     ) {
                         ValueOut::Failed(f, u) => BooleanOut::Failed(f, u), // 3
                         ValueOut::Done(parent, u) => {
-                            match value::object_of(parent) {
+                            match conversions::object_of(parent) {
                                 ObjectResult::Object(q) => {
                                     has_property(words, strings, allowance, sheet, q, key, depth, u) // 4
                                 }

@@ -22,9 +22,9 @@ use Rattle.record.specs.Bytes.{byteAt, numberAt, valueAt, valueBytes}
 use Rattle.record.specs.Tests.{isKnown}
 use Rattle.record.specs.Step.{isSome}
 use Rattle.record.specs.Sheet.{valuesAt, valuesPass}
-use Rattle.parts.proofs.ByteLaws.{length-value}
+use Rattle.byte_numbers.proofs.ByteLaws.{length-value}
 use Rattle.store_read.specs.Answers.{keyFromWord, Listed}
-use Rattle.store_read.proofs.ListLaws.{Listing, listing-start, listing-more, listing-end}
+use Rattle.own_key_order.proofs.ListLaws.{Listing, listing-start, listing-more, listing-end}
 use Rattle.lasting.specs.Step.{keysBytes}
 use Rattle.key_bytes.specs.Keys.{keysHeld, greatest}
 

@@ -1,5 +1,4 @@
 // Keys between bytes, 9 to a key, and words, one to a key: string s is 2 s, and symbol s is 2 s + 1.
-use parts::bytes;
 ghost use mathlib.Core.Path.{_≡_};
 ghost use mathlib.Core.Bool.{true};
 ghost use mathlib.Core.Option.{some};
@@ -50,7 +49,7 @@ fn key_word_at(sheet: &[u8], at: usize) -> u64
     requires { ⌜ (at + 9 ≤ length (now sheet)) × ((isSome (keyOf (valueAt (now sheet) at)) ≡ true) × (isKnown greatest (valueAt (now sheet) at) ≡ true)) ⌝ }
     ensures { λ r. ⌜ (keyOf (valueAt (now (sheet .entry)) at) ≡ some (keyFromWord r)) × (r < 512) ⌝ }
 {
-    let number = bytes::word_at(sheet, at + 1);
+    let number = byte_numbers::word_at(sheet, at + 1);
     if sheet[at] == 5 {
         2 * number
     } else {
@@ -80,7 +79,7 @@ pub fn write_keys(list: &[u64], n: usize, out: &mut [u8])
     let mut i: usize = 0;
     while i < n {
         let key = store_read::key_from_word(list[i]);
-        bytes::put_value(out, 9 * i, value::key_value(key));
+        value_writing::put_value(out, 9 * i, property_keys::key_value(key));
         i += 1;
     }
 }

@@ -27,7 +27,7 @@ use Rattle.store.specs.Words.{isStore, storeOf}
 use Rattle.store.specs.OwnKeys.{ordinaryOwnPropertyKeys}
 use Rattle.store_read.specs.Answers.{Listed}
 use Rattle.store_read.proofs.ReadLaws.{sized}
-use Rattle.store_read.proofs.ListLaws.{listed-length, length-ascending, classes-fit, ordered-keys}
+use Rattle.own_key_order.proofs.ListLaws.{listed-length, length-ascending, classes-fit, ordered-keys}
 use Rattle.sheet.specs.declared.NextAnswer.{NextAnswer}
 use Rattle.sheet.specs.declared.NextAnswer.the-variants as next
 use Rattle.sheet.specs.Next.{Next}

@@ -117,7 +117,7 @@ pub fn load_list(
             key_bytes::load_keys(sheet, first, n, out);
             n
         }
-        KeyList::Own(o) => store_read::list_own_keys(words, strings, o, out),
+        KeyList::Own(o) => own_key_order::list_own_keys(words, strings, o, out),
     }
 }
 

@@ -24,16 +24,16 @@ fn ordinary_get_own_property(words: &[u64], o: u64, key: PropertyKey) -> OwnProp
     requires { ⌜ isStore (now words) ≡ true ⌝ }
     ensures { λ r. ⌜ r ≡ ordinaryGetOwnProperty (storeOf (now (words .entry))) o key ⌝ }
 {
-    store_read::own(words, o, key)
+    property_read::own(words, o, key)
 }
 
 // The TypeError of 10.5.5 steps 14 to 16 by its number, or 0.
 fn result_message(extensible: bool, desc: Property, target: OwnProperty) -> u64
     ensures { λ r. ⌜ r ≡ resultMessage extensible desc target ⌝ }
 {
-    let d = property::descriptor_of(desc);
+    let d = completion::descriptor_of(desc);
     if validation::is_compatible_property_descriptor(extensible, d, target) {
-        if property::is_configurable(desc) {
+        if attributes::is_configurable(desc) {
             return 0;
         }
         if target_checks::absent_or_configurable(target) {
@@ -66,7 +66,7 @@ fn undefined_result(
     match current {
         OwnProperty::Absent => OwnPropertyOut::Done(OwnProperty::Absent, s), // a
         OwnProperty::Present(p) => {
-            if property::is_configurable(p) {
+            if attributes::is_configurable(p) {
                 match extensibility::is_extensible(
                     words,
                     strings,
@@ -112,17 +112,17 @@ fn descriptor_result(
     match extensibility::is_extensible(words, strings, allowance, sheet, target, depth, s) {
         BooleanOut::Failed(f, t) => OwnPropertyOut::Failed(f, t), // 11
         BooleanOut::Done(extensible, t) => {
-            if property::is_uncallable(get) {
+            if descriptor_tests::is_uncallable(get) {
                 return OwnPropertyOut::Failed(Failure::TypeError(27), t); // 12
             }
-            if property::is_uncallable(set) {
+            if descriptor_tests::is_uncallable(set) {
                 return OwnPropertyOut::Failed(Failure::TypeError(28), t); // 12
             }
-            if property::is_mixed(object) {
+            if descriptor_tests::is_mixed(object) {
                 return OwnPropertyOut::Failed(Failure::TypeError(29), t); // 12
             }
-            let d = property::to_property_descriptor(object); // 12
-            let desc = property::complete_property_descriptor(d); // 13
+            let d = descriptors::to_property_descriptor(object); // 12
+            let desc = completion::complete_property_descriptor(d); // 13
             let message = result_message(extensible, desc, current);
             if message == 0 {
                 return OwnPropertyOut::Done(OwnProperty::Present(desc), t); // 17

@@ -62,7 +62,7 @@ fn own_property_result(out: OwnPropertyOut) -> Performed
 pub fn key_or_first(v: Value) -> PropertyKey
     ensures { λ r. ⌜ r ≡ keyOrFirst (keyOf v) ⌝ }
 {
-    match value::key_of(v) {
+    match property_keys::key_of(v) {
         KeyResult::Key(k) => k,
         KeyResult::NotKey => PropertyKey::String(0),
     }

@@ -73,7 +73,7 @@ pub fn perform_writing(
             write_result(out)
         }
         9 => {
-            let d = property::to_property_descriptor(descriptor);
+            let d = descriptors::to_property_descriptor(descriptor);
             let out = definition::define_own_property(
                 words,
                 strings,

@@ -2,7 +2,6 @@
 use lasting::Completion;
 use lasting::Outcome;
 use lasting::Report;
-use parts::bytes;
 use property::Property;
 use value::Value;
 ghost use Prim.Native.Nat.{_+_, _*_, _<_, _≤_};
@@ -106,7 +105,7 @@ fn print_key(output: &[u8], i: usize)
     if 0 < i {
         print(b", ");
     }
-    print_value(bytes::value_at(output, 9 * i));
+    print_value(value_bytes::value_at(output, 9 * i));
 }
 
 fn print_keys(output: &[u8], n: usize) {

@@ -1,35 +1,6 @@
 // Property descriptors, and the properties that they describe.
 use value::Value;
 
-mod descriptor;
-mod fields;
-
-pub use descriptor::complete_property_descriptor;
-pub use descriptor::descriptor_message;
-pub use descriptor::descriptor_of;
-pub use descriptor::from_property_descriptor;
-pub use descriptor::is_accessor_descriptor;
-pub use descriptor::is_data_descriptor;
-pub use descriptor::is_generic_descriptor;
-pub use descriptor::is_mixed;
-pub use descriptor::is_uncallable;
-pub use descriptor::to_property_descriptor;
-pub use fields::get_field;
-pub use fields::has_field;
-pub use fields::has_flag;
-pub use fields::is_accessor;
-pub use fields::is_configurable;
-pub use fields::is_enumerable;
-pub use fields::is_false;
-pub use fields::is_true;
-pub use fields::is_unlike;
-pub use fields::is_unlike_flag;
-pub use fields::or_else;
-pub use fields::or_else_flag;
-pub use fields::set_field;
-pub use fields::value_field;
-pub use fields::writable_field;
-
 // boa's Option<bool>
 pub enum Flag {
     Absent,

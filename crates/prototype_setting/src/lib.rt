@@ -41,7 +41,7 @@ fn next_link(words: &[u64], o: u64, v: Value) -> Link
     requires { ⌜ isStore (now words) ≡ true ⌝ }
     ensures { λ r. ⌜ ((n : ℕ) → ordinary.reaches (suc n) (storeOf (now (words .entry))) o v ≡ reachesPast n (storeOf (now (words .entry))) o r) ⌝ }
 {
-    match value::object_of(v) {
+    match conversions::object_of(v) {
         ObjectResult::NotObject => Link::Ended, // 7.a
         ObjectResult::Object(p) => {
             if p == o {
@@ -91,7 +91,7 @@ fn ordinary_set_prototype_of(words: &[u64], o: u64, object: OrdinaryObject, v: V
     ensures { λ r. ⌜ Writes (now (words .entry)) r (ordinary.ordinarySetPrototypeOf (storeOf (now (words .entry))) o object v) ⌝ }
 {
     let current = object.prototype; // 1
-    if value::same_value(v, current) {
+    if equality::same_value(v, current) {
         return Written {
             accepted: true,
             write: Write::Nothing,
@@ -149,7 +149,7 @@ fn set_prototype_of_trap(
                         match get_prototype_of(words, strings, allowance, sheet, target, depth, u) {
                             ValueOut::Failed(f, w) => WriteOut::Failed(f, w), // 11
                             ValueOut::Done(prototype, w) => {
-                                if value::same_value(v, prototype) {
+                                if equality::same_value(v, prototype) {
                                     WriteOut::Done(true, Write::Nothing, w) // 13
                                 } else {
                                     WriteOut::Failed(Failure::TypeError(4), w) // 12

@@ -77,7 +77,7 @@ fn proxy_exotic_get_prototype_of(
                         match get_prototype_of(words, strings, allowance, sheet, target, depth, u) {
                             ValueOut::Failed(f, w) => ValueOut::Failed(f, w), // 11
                             ValueOut::Done(prototype, w) => {
-                                if value::same_value(answer, prototype) {
+                                if equality::same_value(answer, prototype) {
                                     ValueOut::Done(answer, w) // 13
                                 } else {
                                     ValueOut::Failed(Failure::TypeError(3), w) // 12

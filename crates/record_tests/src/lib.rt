@@ -1,5 +1,4 @@
 // The refusals over a call's records, in their order: 1 to 4 over the step, then 1 to 3 over the sheet.
-use parts::tests;
 use record::Counts;
 use record::Refusal;
 use record::Step;
@@ -59,7 +58,7 @@ fn step_refusal(words: &[u64], n: Counts, s: Step) -> Refusal
     let d = s.descriptor;
     if steps::are_objects_made(n, s) {
         if steps::are_kinds_usable(is_proxy(words, s.object), n, s) {
-            if tests::is_descriptor(d) {
+            if value_tests::is_descriptor(d) {
                 return Refusal::Passed;
             }
             return Refusal::Failed(4);
@@ -74,8 +73,8 @@ fn sheet_refusal(n: Counts, sheet: &[u8]) -> Refusal
     ensures { λ r. ⌜ r ≡ refusal (firstFailing (sheetTests n (now (sheet .entry)))) ⌝ }
 {
     if sheet::is_sheet(sheet) {
-        if sheet::sheet_made(sheet, n) {
-            if sheet::sheet_known(sheet, n) {
+        if sheet_tests::sheet_made(sheet, n) {
+            if sheet_tests::sheet_known(sheet, n) {
                 return Refusal::Passed;
             }
             return Refusal::Failed(3);
@@ -92,7 +91,7 @@ pub fn record_refusal(words: &[u64], strings: &[u16], bytes: &[u8], sheet: &[u8]
 {
     if steps::is_step(bytes) {
         let n = counts_of(words, strings);
-        let first = step_refusal(words, n, steps::step_of(bytes));
+        let first = step_refusal(words, n, step_reading::step_of(bytes));
         match first {
             Refusal::Failed(i) => Refusal::Failed(i),
             Refusal::Passed => sheet_refusal(n, sheet),

@@ -110,7 +110,7 @@ pub fn finish(words: &mut [u64], sheet: &[u8], p: Performed) -> Report
     match p {
         Performed::Failed(f, s) => failed(sheet, f, s),
         Performed::Done(c, w, s) => {
-            store_write::commit(words, w);
+            store_commit::commit(words, w);
             completed(sheet, c, s)
         }
     }

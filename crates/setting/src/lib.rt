@@ -91,7 +91,7 @@ fn set_on_receiver(
                 }
             },
             OwnProperty::Absent => {
-                let d = property::descriptor_of(Property::Data(v, true, true, true)); // 2.e, 7.3.5 CreateDataProperty
+                let d = completion::descriptor_of(Property::Data(v, true, true, true)); // 2.e, 7.3.5 CreateDataProperty
                 definition::define_own_property(
                     words,
                     strings,
@@ -126,7 +126,7 @@ fn set_data(
     ensures { λ r. ⌜ Fitting (now (words .entry)) r ⌝ }
 {
     if writable {
-        match value::object_of(receiver) {
+        match conversions::object_of(receiver) {
             ObjectResult::Object(o) => {
                 set_on_receiver(words, strings, allowance, sheet, key, v, o, depth, s) // 2.c to 2.e
             }
@@ -142,7 +142,7 @@ fn set_accessor(sheet: &[u8], setter: Value, s: Progress) -> WriteOut
     ensures { λ r. ⌜ ((σ : Store) → toldWrite (now (sheet .entry)) σ r ≡ setAccessor σ setter .run (stateOf (now (sheet .entry)) s)) ⌝ }
     ensures { λ r. ⌜ ((words : List ℕ) → isStore words ≡ true → Fitting words r) ⌝ }
 {
-    if value::is_undefined(setter) {
+    if conversions::is_undefined(setter) {
         WriteOut::Done(false, Write::Nothing, s) // 5
     } else {
         match calls::next_value(sheet, s) {
@@ -273,7 +273,7 @@ fn ordinary_set(
             OwnProperty::Absent => {
                 match prototypes::get_prototype_of(words, strings, allowance, sheet, o, depth, t) {
                     ValueOut::Failed(f, u) => WriteOut::Failed(f, u), // 1.a
-                    ValueOut::Done(parent, u) => match value::object_of(parent) {
+                    ValueOut::Done(parent, u) => match conversions::object_of(parent) {
                         ObjectResult::Object(q) => {
                             set(
                                 words,

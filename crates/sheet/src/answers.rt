@@ -1,19 +1,13 @@
 // An answer sheet: a count, then that many answers.
 use crate::AnswerEnd;
 use crate::NextAnswer;
-use parts::bytes;
-use parts::descriptor;
-use parts::tests;
-use record::Counts;
-use record::Test;
 ghost use mathlib.Core.Path.{_≡_};
 ghost use mathlib.Core.Bool.{_&&_};
 ghost use Prim.Native.Nat.{_+_, _*_, _<_, _≤_};
 ghost use lib.Dec.{leb};
 ghost use lib.ListN.{length};
-ghost use Rattle.record.specs.Tests.{isMade, isKnown, asks};
-ghost use Rattle.record.specs.Sheet.{valuesAt, areValuesAt, keyCountAt, answerEnd, isBodyAt, areAnswersAt, sheetOf, isSheet, valuesPass, sheetPasses};
-ghost use Rattle.sheet.specs.Next.{endWithin, placeAfter, KeysWithin, Next, nextPasses};
+ghost use Rattle.record.specs.Sheet.{areValuesAt, keyCountAt, answerEnd, isBodyAt, areAnswersAt, isSheet};
+ghost use Rattle.sheet.specs.Next.{endWithin, Next};
 
 // Where `size` bytes from `at` on end.
 fn end_after(bytes: &[u8], at: usize, size: usize) -> AnswerEnd
@@ -31,7 +25,7 @@ fn key_count_at(bytes: &[u8], at: usize) -> usize
     requires { ⌜ at + 3 ≤ length (now bytes) ⌝ }
     ensures { λ r. ⌜ (r ≡ keyCountAt (now (bytes .entry)) at) × (r < 65536) ⌝ }
 {
-    bytes::short_at(bytes, at + 1) as usize
+    byte_numbers::short_at(bytes, at + 1) as usize
 }
 
 fn keys_end(bytes: &[u8], at: usize) -> AnswerEnd
@@ -66,7 +60,7 @@ fn are_values_at(bytes: &[u8], at: usize, n: usize) -> bool
     let mut i: usize = at;
     let mut left: usize = n;
     while 0 < left {
-        if bytes::is_value_at(bytes, i) {
+        if value_bytes::is_value_at(bytes, i) {
             i += 9;
             left -= 1;
         } else {
@@ -93,10 +87,10 @@ fn is_body_at(bytes: &[u8], at: usize) -> bool
 {
     let tag = bytes[at];
     match tag {
-        1 => bytes::is_value_at(bytes, at + 1),
-        2 => descriptor::is_descriptor_at(bytes, at + 1),
+        1 => value_bytes::is_value_at(bytes, at + 1),
+        2 => descriptor_bytes::is_descriptor_at(bytes, at + 1),
         3 => are_keys_at(bytes, at),
-        4 => bytes::is_value_at(bytes, at + 1),
+        4 => value_bytes::is_value_at(bytes, at + 1),
         _ => false,
     }
 }
@@ -153,90 +147,9 @@ pub fn next_answer(bytes: &[u8], at: usize, left: usize) -> NextAnswer
     };
     let tag = bytes[at];
     match tag {
-        1 => NextAnswer::Value(bytes::value_at(bytes, at + 1), end),
-        2 => NextAnswer::Descriptor(descriptor::descriptor_at(bytes, at + 1), end),
+        1 => NextAnswer::Value(value_bytes::value_at(bytes, at + 1), end),
+        2 => NextAnswer::Descriptor(descriptor_bytes::descriptor_at(bytes, at + 1), end),
         3 => NextAnswer::Keys(at + 3, key_count_at(bytes, at), end),
-        _ => NextAnswer::Throw(bytes::value_at(bytes, at + 1), end),
+        _ => NextAnswer::Throw(value_bytes::value_at(bytes, at + 1), end),
     }
-}
-
-// Whether n values pass.
-fn values_pass(test: Test, counts: Counts, bytes: &[u8], at: usize, n: usize) -> bool
-    requires { ⌜ at + 9 * n ≤ length (now bytes) ⌝ }
-    ensures { λ r. ⌜ r ≡ valuesPass (asks test counts) (valuesAt (now (bytes .entry)) at n) ⌝ }
-{
-    let mut i: usize = at;
-    let mut left: usize = n;
-    while 0 < left {
-        if tests::passes(test, counts, bytes::value_at(bytes, i)) {
-            i += 9;
-            left -= 1;
-        } else {
-            return false;
-        }
-    }
-    true
-}
-
-fn next_passes(test: Test, counts: Counts, bytes: &[u8], next: NextAnswer) -> bool
-    requires { ⌜ KeysWithin (now bytes) next ⌝ }
-    ensures { λ r. ⌜ r ≡ nextPasses (asks test counts) (now (bytes .entry)) next ⌝ }
-{
-    match next {
-        NextAnswer::NoAnswer => true,
-        NextAnswer::Value(v, _) => tests::passes(test, counts, v),
-        NextAnswer::Descriptor(d, _) => tests::descriptor_passes(test, counts, d),
-        NextAnswer::Keys(first, n, _) => values_pass(test, counts, bytes, first, n),
-        NextAnswer::Throw(v, _) => tests::passes(test, counts, v),
-    }
-}
-
-fn place_after(next: NextAnswer) -> AnswerEnd
-    ensures { λ r. ⌜ r ≡ placeAfter next ⌝ }
-{
-    match next {
-        NextAnswer::NoAnswer => AnswerEnd::Past,
-        NextAnswer::Value(_, e) => AnswerEnd::At(e),
-        NextAnswer::Descriptor(_, e) => AnswerEnd::At(e),
-        NextAnswer::Keys(_, _, e) => AnswerEnd::At(e),
-        NextAnswer::Throw(_, e) => AnswerEnd::At(e),
-    }
-}
-
-// Whether all values of the sheet pass.
-fn sheet_passes(test: Test, counts: Counts, bytes: &[u8]) -> bool
-    ensures { λ r. ⌜ r ≡ sheetPasses (asks test counts) (sheetOf (now (bytes .entry))) ⌝ }
-{
-    if bytes.len() == 0 {
-        return true;
-    }
-    let mut at: usize = 1;
-    let mut left: usize = size_of(bytes[0]);
-    while 0 < left {
-        let next = next_answer(bytes, at, left);
-        if next_passes(test, counts, bytes, next) {
-            let AnswerEnd::At(end) = place_after(next) else {
-                return true;
-            };
-            at = end;
-            left -= 1;
-        } else {
-            return false;
-        }
-    }
-    true
-}
-
-// Refusal 2 over the sheet.
-pub fn sheet_made(bytes: &[u8], counts: Counts) -> bool
-    ensures { λ r. ⌜ r ≡ sheetPasses (isMade counts) (sheetOf (now (bytes .entry))) ⌝ }
-{
-    sheet_passes(Test::Made, counts, bytes)
-}
-
-// Refusal 3 over the sheet.
-pub fn sheet_known(bytes: &[u8], counts: Counts) -> bool
-    ensures { λ r. ⌜ r ≡ sheetPasses (isKnown counts) (sheetOf (now (bytes .entry))) ⌝ }
-{
-    sheet_passes(Test::Known, counts, bytes)
 }

@@ -6,8 +6,6 @@ mod answers;
 
 pub use answers::is_sheet;
 pub use answers::next_answer;
-pub use answers::sheet_known;
-pub use answers::sheet_made;
 
 // Where an answer ends, or that it would end past the sheet.
 pub enum AnswerEnd {

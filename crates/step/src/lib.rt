@@ -35,7 +35,7 @@ fn run(words: &mut [u64], strings: &[u16], bytes: &[u8], sheet: &[u8], output: &
     ensures { λ r. ⌜ shown r (now (words .exit)) (now (strings .entry)) (now (output .exit)) ≡ shownBy (ended (worldOf (now (words .entry)) (now (strings .entry))) (sheetOf (now (sheet .entry))) (now (output .entry)) (ran (worldOf (now (words .entry)) (now (strings .entry))) (now (bytes .entry)) (now (sheet .entry)))) ⌝ }
     ensures { λ r. ⌜ WordsAfter (r .outcome) (now (words .entry)) (now (words .exit)) ⌝ }
 {
-    let step = step_record::steps::step_of(bytes);
+    let step = step_reading::step_of(bytes);
     if step.code == 14 {
         return listing::list(words, strings, sheet, step.object, output);
     }
@@ -84,5 +84,5 @@ pub fn enter_string(strings: &mut [u16], units: &[u16]) -> Report
     ensures { λ r. ⌜ ((σ : Store) → shownEntry r σ (now (strings .exit)) ≡ shownBy (enterOver σ (now (strings .entry)) (now (units .entry)))) ⌝ }
     ensures { λ _. ⌜ now (strings .exit) ≡ cellsAfter (now (strings .entry)) (now (units .entry)) (enterCells (now (strings .entry)) (now (units .entry))) ⌝ }
 {
-    entered(text::enter(strings, units))
+    entered(string_entry::enter(strings, units))
 }

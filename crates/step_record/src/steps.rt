@@ -1,7 +1,4 @@
 // A step is 58 bytes: code, object, key, value, receiver, descriptor.
-use parts::bytes;
-use parts::descriptor;
-use parts::tests;
 use record::Counts;
 use record::Step;
 use record::Test;
@@ -14,7 +11,7 @@ ghost use lib.ListN.{length};
 ghost use Rattle.value.specs.PropertyKey.{keyOf};
 ghost use Rattle.value.specs.Words.{kindOf};
 ghost use Rattle.record.specs.Tests.{asks};
-ghost use Rattle.record.specs.Step.{stepOf, usesObject, usesKey, usesPrototype, usesMask, usesValue, usesReceiver, usesDescriptor, isMask, isCode, isObjectFormed, areValuesFormed, isDescriptorFormed, isMaskFormed, isStep, stepPasses, areObjectsMade, isSome, isNullOrObject, isKeyUsable, isPrototypeUsable, isMaskUsable, isObjectUsable, isReceiverUsable, areKindsUsable};
+ghost use Rattle.record.specs.Step.{usesObject, usesKey, usesPrototype, usesValue, usesReceiver, isMask, isCode, isObjectFormed, areValuesFormed, isDescriptorFormed, isMaskFormed, isStep, stepPasses, areObjectsMade, isSome, isNullOrObject, isKeyUsable, isPrototypeUsable, isMaskUsable, isObjectUsable, isReceiverUsable, areKindsUsable};
 
 fn uses_object(code: u64) -> bool
     ensures { λ r. ⌜ r ≡ usesObject code ⌝ }
@@ -83,9 +80,9 @@ fn are_values_formed(code: u64, bytes: &[u8]) -> bool
     requires { ⌜ 58 ≤ length (now bytes) ⌝ }
     ensures { λ r. ⌜ r ≡ areValuesFormed code (now (bytes .entry)) ⌝ }
 {
-    if bytes::is_part_at(uses_key(code), bytes, 2) {
-        if bytes::is_part_at(uses_value(code), bytes, 11) {
-            return bytes::is_part_at(uses_receiver(code), bytes, 20);
+    if value_bytes::is_part_at(uses_key(code), bytes, 2) {
+        if value_bytes::is_part_at(uses_value(code), bytes, 11) {
+            return value_bytes::is_part_at(uses_receiver(code), bytes, 20);
         }
     }
     false
@@ -96,9 +93,9 @@ fn is_descriptor_formed(code: u64, bytes: &[u8]) -> bool
     ensures { λ r. ⌜ r ≡ isDescriptorFormed code (now (bytes .entry)) ⌝ }
 {
     if code == 9 {
-        descriptor::is_descriptor_at(bytes, 29)
+        descriptor_bytes::is_descriptor_at(bytes, 29)
     } else {
-        bytes::are_zero(bytes, 29, 29)
+        value_bytes::are_zero(bytes, 29, 29)
     }
 }
 
@@ -133,7 +130,7 @@ fn is_mask_formed(code: u64, bytes: &[u8]) -> bool
     ensures { λ r. ⌜ r ≡ isMaskFormed code (now (bytes .entry)) ⌝ }
 {
     if code == 2 {
-        return is_mask(bytes::value_at(bytes, 11));
+        return is_mask(value_bytes::value_at(bytes, 11));
     }
     true
 }
@@ -145,8 +142,8 @@ pub fn is_step(bytes: &[u8]) -> bool
     if bytes.len() != 58 {
         return false;
     }
-    let code = bytes::wide(bytes[0]);
-    let object = bytes::wide(bytes[1]);
+    let code = byte_numbers::wide(bytes[0]);
+    let object = byte_numbers::wide(bytes[1]);
     if is_code(code) {
         if is_object_formed(code, object) {
             if are_values_formed(code, bytes) {
@@ -159,20 +156,6 @@ pub fn is_step(bytes: &[u8]) -> bool
     false
 }
 
-pub fn step_of(bytes: &[u8]) -> Step
-    requires { ⌜ 58 ≤ length (now bytes) ⌝ }
-    ensures { λ r. ⌜ r ≡ stepOf (now (bytes .entry)) ⌝ }
-{
-    Step {
-        code: bytes::wide(bytes[0]),
-        object: bytes::wide(bytes[1]),
-        key: bytes::value_at(bytes, 2),
-        value: bytes::value_at(bytes, 11),
-        receiver: bytes::value_at(bytes, 20),
-        descriptor: descriptor::descriptor_at(bytes, 29),
-    }
-}
-
 // Whether all values of the step pass.
 fn step_passes(test: Test, n: Counts, s: Step) -> bool
     ensures { λ r. ⌜ r ≡ stepPasses (asks test n) s ⌝ }
@@ -181,10 +164,10 @@ fn step_passes(test: Test, n: Counts, s: Step) -> bool
     let value = s.value;
     let receiver = s.receiver;
     let descriptor = s.descriptor;
-    if tests::passes(test, n, key) {
-        if tests::passes(test, n, value) {
-            if tests::passes(test, n, receiver) {
-                return tests::descriptor_passes(test, n, descriptor);
+    if value_tests::passes(test, n, key) {
+        if value_tests::passes(test, n, value) {
+            if value_tests::passes(test, n, receiver) {
+                return value_tests::descriptor_passes(test, n, descriptor);
             }
         }
     }
@@ -207,7 +190,7 @@ pub fn are_objects_made(n: Counts, s: Step) -> bool
 fn is_key(v: Value) -> bool
     ensures { λ r. ⌜ r ≡ isSome (keyOf v) ⌝ }
 {
-    match value::key_of(v) {
+    match property_keys::key_of(v) {
         KeyResult::Key(_) => true,
         KeyResult::NotKey => false,
     }

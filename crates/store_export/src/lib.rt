@@ -28,7 +28,7 @@ pub extern "C" fn store_find(words: &[u64], o: u64, key: u64) -> u64
     ensures { λ r. ⌜ r ≡ findAnswer (now (words .entry)) o key ⌝ }
 {
     if store_read::is_store(words) {
-        place_number(store_read::find(words, o, store_read::key_from_word(key)))
+        place_number(property_read::find(words, o, store_read::key_from_word(key)))
     } else {
         REFUSED
     }
@@ -53,7 +53,7 @@ pub extern "C" fn store_own_keys(words: &[u64], strings: &[u16], o: u64, out: &m
     ensures { λ _. ⌜ now (out .exit) ≡ listed (now (words .entry)) (now (strings .entry)) o (now (out .entry)) ⌝ }
 {
     if is_listable(words, strings, out.len()) {
-        store_read::list_own_keys(words, strings, o, out) as u64
+        own_key_order::list_own_keys(words, strings, o, out) as u64
     } else {
         REFUSED
     }
@@ -72,7 +72,7 @@ fn is_new(words: &[u64], o: u64, key: u64) -> bool
     requires { ⌜ isStore (now words) ≡ true ⌝ }
     ensures { λ r. ⌜ r ≡ isNew (now (words .entry)) o key ⌝ }
 {
-    match store_read::find(words, o, store_read::key_from_word(key)) {
+    match property_read::find(words, o, store_read::key_from_word(key)) {
         Place::At(_) => false,
         Place::Nothing => true,
     }
@@ -118,7 +118,7 @@ pub extern "C" fn store_append(words: &mut [u64], o: u64, key: u64, row: &[u64; 
     ensures { λ _. ⌜ now (words .exit) ≡ added (now (words .entry)) o key (now (row .entry)) ⌝ }
 {
     if is_addable(words, o, key) {
-        store_write::add_property(words, o, store_read::key_from_word(key), property_of(row));
+        property_write::add_property(words, o, store_read::key_from_word(key), property_of(row));
         words[1]
     } else {
         REFUSED
@@ -141,7 +141,7 @@ pub extern "C" fn store_remove(words: &mut [u64], o: u64, key: u64) -> u64
     ensures { λ _. ⌜ now (words .exit) ≡ removed (now (words .entry)) o key ⌝ }
 {
     if is_removable(words, o, key) {
-        store_write::remove_property(words, o, store_read::key_from_word(key));
+        property_removal::remove_property(words, o, store_read::key_from_word(key));
         words[1]
     } else {
         REFUSED

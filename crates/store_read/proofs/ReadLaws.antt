@@ -15,7 +15,8 @@ use Rattle.value.specs.PropertyKey.{sameKey}
 use Rattle.value.specs.Words.{pick}
 use Rattle.value.proofs.Bools.{and-true, bool-ext}
 use Rattle.property.specs.declared.OwnProperty.the-variants.{Absent, Present}
-use Rattle.text.specs.Table.{tabulate}
+use Rattle.text.specs.Table.{tabulate, stringsOf, isTable}
+use Rattle.text.specs.Answers.{readTable}
 use Rattle.text.proofs.TableLaws.{length-tabulate}
 use Rattle.store.specs.declared.Entry.{Entry}
 use Rattle.store_read.specs.declared.Place.the-variants.{Nothing, At}
@@ -225,3 +226,9 @@ odd-flag n e = eq-eqb _ _ (let z : n / 1 % 2 ≡ 1 = omega arith in z)
 
 pub even-flag : (n : ℕ) → (n % 2 ≡ 1 → ⊥) → flag n 0 ≡ false
 even-flag n e = ne-eqb _ _ (λ (z : n / 1 % 2 ≡ 1). omega arith)
+
+-- The strings of a table -----------------------------------------------------------------------
+
+pub read-table : (cells : List ℕ) → isTable cells ≡ true → readTable cells ≡ stringsOf cells
+unfolding readTable
+read-table cells h = rw h

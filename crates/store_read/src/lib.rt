@@ -1,15 +1,10 @@
-// Reading the store's words, and listing an object's own keys.
-mod list;
+// Reading the store's words.
 mod read;
 
-pub use list::key_from_word;
-pub use list::list_own_keys;
-pub use read::find;
 pub use read::is_store;
+pub use read::key_from_word;
 pub use read::object_at;
 pub use read::object_count;
-pub use read::own;
-pub use read::property_at;
 pub use read::property_count;
 use store::Object;
 
@@ -26,7 +21,7 @@ pub enum Place {
 }
 
 // An array index and its key in one word, while they are sorted.
-enum IndexWord {
+pub enum IndexWord {
     Other,
     Joined(u64),
 }

@@ -12,7 +12,7 @@ pub fn absent_or_configurable(target: OwnProperty) -> bool
 {
     match target {
         OwnProperty::Absent => true,
-        OwnProperty::Present(p) => property::is_configurable(p),
+        OwnProperty::Present(p) => attributes::is_configurable(p),
     }
 }
 
@@ -47,7 +47,7 @@ fn is_other(w: Value, writable: bool, configurable: bool, v: Value) -> bool
     if writable {
         return false;
     }
-    !value::same_value(v, w)
+    !equality::same_value(v, w)
 }
 
 // 10.5.8 step 9.a and 10.5.9 step 10.a: the target's property fixes another value.
@@ -71,8 +71,8 @@ fn is_ungettable(get: Value, configurable: bool, v: Value) -> bool
     if configurable {
         return false;
     }
-    if value::is_undefined(get) {
-        return !value::is_undefined(v);
+    if conversions::is_undefined(get) {
+        return !conversions::is_undefined(v);
     }
     false
 }
@@ -96,7 +96,7 @@ fn is_unsettable(set: Value, configurable: bool) -> bool
     if configurable {
         return false;
     }
-    value::is_undefined(set)
+    conversions::is_undefined(set)
 }
 
 // 10.5.9 step 10.b: there is no setter.

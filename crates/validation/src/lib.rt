@@ -1,79 +1,13 @@
-// 10.1.6.3 ValidateAndApplyPropertyDescriptor, 10.1.6.2, and the merging of two descriptors.
-use property::DescriptorKind;
-use property::Field;
-use property::Filling;
-use property::Flag;
+// 10.1.6.3 ValidateAndApplyPropertyDescriptor, and 10.1.6.2.
 use property::OwnProperty;
 use property::Property;
 use property::PropertyDescriptor;
 use property::Validation;
-use value::Value;
 ghost use mathlib.Core.Path.{_≡_};
 ghost use mathlib.Core.Bool.{not, _&&_, Bool·beq};
 ghost use Rattle.property.specs.Fields.{isAccessor};
 ghost use Rattle.property.specs.Descriptor.{isAccessorDescriptor, isGenericDescriptor};
-ghost use Rattle.property.specs.Validate.{hasNoFields, applied, validateKind, validateFixed, validate, isAccepted, isCompatible, settled, dataOf, accessorOf, propertyOf, unmergeable};
-ghost use Rattle.property.specs.Answers.{ownProperty, fillWith};
-
-// Step 6 over a data property.
-fn applied_to_data(d: PropertyDescriptor, v: Value, w: bool, e: bool, c: bool) -> Property
-    ensures { λ r. ⌜ r ≡ applied d (Property.Data v w e c) ⌝ }
-{
-    let k = d.kind;
-    let enumerable = d.enumerable;
-    let configurable = d.configurable;
-    // 6.a
-    if property::is_accessor_descriptor(d) {
-        return Property::Accessor(
-            property::or_else(property::get_field(k), Value::Undefined),
-            property::or_else(property::set_field(k), Value::Undefined),
-            property::or_else_flag(enumerable, e),
-            property::or_else_flag(configurable, c),
-        );
-    }
-    // 6.c
-    Property::Data(
-        property::or_else(property::value_field(k), v),
-        property::or_else_flag(property::writable_field(k), w),
-        property::or_else_flag(enumerable, e),
-        property::or_else_flag(configurable, c),
-    )
-}
-
-// Step 6 over an accessor property.
-fn applied_to_accessor(d: PropertyDescriptor, g: Value, s: Value, e: bool, c: bool) -> Property
-    ensures { λ r. ⌜ r ≡ applied d (Property.Accessor g s e c) ⌝ }
-{
-    let k = d.kind;
-    let enumerable = d.enumerable;
-    let configurable = d.configurable;
-    // 6.b
-    if property::is_data_descriptor(d) {
-        return Property::Data(
-            property::or_else(property::value_field(k), Value::Undefined),
-            property::or_else_flag(property::writable_field(k), false),
-            property::or_else_flag(enumerable, e),
-            property::or_else_flag(configurable, c),
-        );
-    }
-    // 6.c
-    Property::Accessor(
-        property::or_else(property::get_field(k), g),
-        property::or_else(property::set_field(k), s),
-        property::or_else_flag(enumerable, e),
-        property::or_else_flag(configurable, c),
-    )
-}
-
-// Step 6: what the descriptor makes of the property.
-pub fn applied(d: PropertyDescriptor, p: Property) -> Property
-    ensures { λ r. ⌜ r ≡ applied d p ⌝ }
-{
-    match p {
-        Property::Data(v, w, e, c) => applied_to_data(d, v, w, e, c),
-        Property::Accessor(g, s, e, c) => applied_to_accessor(d, g, s, e, c),
-    }
-}
+ghost use Rattle.property.specs.Validate.{hasNoFields, applied, validateKind, validateFixed, validate, isCompatible};
 
 // Step 4.
 fn has_no_fields(d: PropertyDescriptor) -> bool
@@ -81,11 +15,11 @@ fn has_no_fields(d: PropertyDescriptor) -> bool
 {
     let enumerable = d.enumerable;
     let configurable = d.configurable;
-    if property::is_generic_descriptor(d) {
-        if property::has_flag(enumerable) {
+    if descriptor_kinds::is_generic_descriptor(d) {
+        if flags::has_flag(enumerable) {
             return false;
         }
-        return !property::has_flag(configurable);
+        return !flags::has_flag(configurable);
     }
     false
 }
@@ -94,10 +28,10 @@ fn has_no_fields(d: PropertyDescriptor) -> bool
 fn is_other_kind(d: PropertyDescriptor, current: Property) -> bool
     ensures { λ r. ⌜ r ≡ (not (isGenericDescriptor d) && not (Bool·beq (isAccessorDescriptor d) (isAccessor current))) ⌝ }
 {
-    if property::is_generic_descriptor(d) {
+    if descriptor_kinds::is_generic_descriptor(d) {
         return false;
     }
-    property::is_accessor_descriptor(d) != property::is_accessor(current)
+    descriptor_kinds::is_accessor_descriptor(d) != attributes::is_accessor(current)
 }
 
 // Steps 5.d and 5.e, where `next` is what step 6 makes of the property.
@@ -107,10 +41,10 @@ fn validate_kind(d: PropertyDescriptor, current: Property, next: Validation) -> 
     let k = d.kind;
     match current {
         Property::Accessor(g, s, _, _) => {
-            if property::is_unlike(property::get_field(k), g) {
+            if fields::is_unlike(kind_fields::get_field(k), g) {
                 return Validation::Rejected; // 5.d.i
             }
-            if property::is_unlike(property::set_field(k), s) {
+            if fields::is_unlike(kind_fields::set_field(k), s) {
                 return Validation::Rejected; // 5.d.ii
             }
             next
@@ -119,12 +53,12 @@ fn validate_kind(d: PropertyDescriptor, current: Property, next: Validation) -> 
             if w {
                 return next;
             }
-            if property::is_true(property::writable_field(k)) {
+            if flags::is_true(kind_fields::writable_field(k)) {
                 return Validation::Rejected; // 5.e.i
             }
-            let value = property::value_field(k);
-            if property::has_field(value) {
-                if property::is_unlike(value, v) {
+            let value = kind_fields::value_field(k);
+            if fields::has_field(value) {
+                if fields::is_unlike(value, v) {
                     return Validation::Rejected; // 5.e.iii
                 }
                 return Validation::Unchanged; // 5.e.iii
@@ -140,10 +74,10 @@ fn validate_fixed(d: PropertyDescriptor, current: Property, next: Validation) ->
 {
     let enumerable = d.enumerable;
     let configurable = d.configurable;
-    if property::is_true(configurable) {
+    if flags::is_true(configurable) {
         return Validation::Rejected; // 5.a
     }
-    if property::is_unlike_flag(enumerable, property::is_enumerable(current)) {
+    if flags::is_unlike_flag(enumerable, attributes::is_enumerable(current)) {
         return Validation::Rejected; // 5.b
     }
     if is_other_kind(d, current) {
@@ -159,7 +93,7 @@ pub fn validate(extensible: bool, d: PropertyDescriptor, current: OwnProperty) -
     match current {
         OwnProperty::Absent => {
             if extensible {
-                return Validation::Becomes(property::complete_property_descriptor(d)); // 2.c to 2.e
+                return Validation::Becomes(completion::complete_property_descriptor(d)); // 2.c to 2.e
             }
             Validation::Rejected // 2.a
         }
@@ -167,22 +101,12 @@ pub fn validate(extensible: bool, d: PropertyDescriptor, current: OwnProperty) -
             if has_no_fields(d) {
                 return Validation::Unchanged; // 4
             }
-            let next = Validation::Becomes(applied(d, p)); // 6, 7
-            if property::is_configurable(p) {
+            let next = Validation::Becomes(applying::applied(d, p)); // 6, 7
+            if attributes::is_configurable(p) {
                 return next;
             }
             validate_fixed(d, p, next) // 5
         }
-    }
-}
-
-pub fn is_accepted(v: Validation) -> bool
-    ensures { λ r. ⌜ r ≡ isAccepted v ⌝ }
-{
-    match v {
-        Validation::Rejected => false,
-        Validation::Unchanged => true,
-        Validation::Becomes(_) => true,
     }
 }
 
@@ -194,86 +118,5 @@ pub fn is_compatible_property_descriptor(
 ) -> bool
     ensures { λ r. ⌜ r ≡ isCompatible extensible d current ⌝ }
 {
-    is_accepted(validate(extensible, d, current))
-}
-
-// The property after validation.
-pub fn settled(current: OwnProperty, validation: Validation) -> OwnProperty
-    ensures { λ r. ⌜ r ≡ settled current validation ⌝ }
-{
-    match validation {
-        Validation::Rejected => current,
-        Validation::Unchanged => current,
-        Validation::Becomes(p) => OwnProperty::Present(p),
-    }
-}
-
-fn data_of(value: Field, writable: Flag, enumerable: Flag, configurable: Flag) -> OwnProperty
-    ensures { λ r. ⌜ r ≡ ownProperty (dataOf value writable enumerable configurable) ⌝ }
-{
-    let Field::Present(v) = value else {
-        return OwnProperty::Absent;
-    };
-    let Flag::Present(w) = writable else {
-        return OwnProperty::Absent;
-    };
-    let Flag::Present(e) = enumerable else {
-        return OwnProperty::Absent;
-    };
-    let Flag::Present(c) = configurable else {
-        return OwnProperty::Absent;
-    };
-    OwnProperty::Present(Property::Data(v, w, e, c))
-}
-
-fn accessor_of(get: Field, set: Field, enumerable: Flag, configurable: Flag) -> OwnProperty
-    ensures { λ r. ⌜ r ≡ ownProperty (accessorOf get set enumerable configurable) ⌝ }
-{
-    let Field::Present(g) = get else {
-        return OwnProperty::Absent;
-    };
-    let Field::Present(s) = set else {
-        return OwnProperty::Absent;
-    };
-    let Flag::Present(e) = enumerable else {
-        return OwnProperty::Absent;
-    };
-    let Flag::Present(c) = configurable else {
-        return OwnProperty::Absent;
-    };
-    OwnProperty::Present(Property::Accessor(g, s, e, c))
-}
-
-// The property that a descriptor is, if it has all the fields that its kind needs.
-pub fn property_of(d: PropertyDescriptor) -> OwnProperty
-    ensures { λ r. ⌜ r ≡ ownProperty (propertyOf d) ⌝ }
-{
-    let enumerable = d.enumerable;
-    let configurable = d.configurable;
-    let k = d.kind;
-    match k {
-        DescriptorKind::Data(v, w) => data_of(v, w, enumerable, configurable),
-        DescriptorKind::Accessor(g, s) => accessor_of(g, s, enumerable, configurable),
-        DescriptorKind::Generic => OwnProperty::Absent,
-    }
-}
-
-fn is_unmergeable(current: Property, d: PropertyDescriptor) -> bool
-    ensures { λ r. ⌜ r ≡ unmergeable current d ⌝ }
-{
-    match current {
-        Property::Data(_, _, _, _) => property::is_accessor_descriptor(d),
-        Property::Accessor(_, _, _, _) => property::is_data_descriptor(d),
-    }
-}
-
-// boa's fill_with, which panics where the two cannot be merged.
-pub fn fill_with(current: Property, d: PropertyDescriptor) -> Filling
-    ensures { λ r. ⌜ r ≡ fillWith current d ⌝ }
-{
-    if is_unmergeable(current, d) {
-        return Filling::Incompatible;
-    }
-    let merged = applied(d, current);
-    Filling::Filled(merged)
+    validation_outcome::is_accepted(validate(extensible, d, current))
 }

@@ -1,17 +1,4 @@
 // ECMAScript language values and property keys. Strings, symbols, objects and functions are numbers.
-mod conversions;
-mod equality;
-mod keys;
-
-pub use conversions::is_callable;
-pub use conversions::is_undefined;
-pub use conversions::object_of;
-pub use conversions::to_boolean;
-pub use equality::same_number;
-pub use equality::same_value;
-pub use keys::key_of;
-pub use keys::key_value;
-pub use keys::same_key;
 
 pub enum Value {
     Undefined,

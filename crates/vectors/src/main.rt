@@ -1,7 +1,5 @@
 // Runs the outside vectors of the leaves, and counts those whose answer is another than the engine's.
 // A record of the input is 192 bytes: an operation, its inputs and the expected answer; tests/vectors.mjs makes them.
-use parts::bytes;
-use parts::tests;
 use property::ArrayIndex;
 use property::Filling;
 use property::OwnProperty;
@@ -31,25 +29,25 @@ fn same_bool(a: bool, b: bool) -> bool {
 fn same_value(r: &[u8]) -> bool
     requires { ⌜ length (now r) ≡ 192 ⌝ }
 {
-    let a = bytes::value_at(r, 1);
-    let b = bytes::value_at(r, 10);
-    same_bool(value::same_value(a, b), truth(r[19]))
+    let a = value_bytes::value_at(r, 1);
+    let b = value_bytes::value_at(r, 10);
+    same_bool(equality::same_value(a, b), truth(r[19]))
 }
 
 // 2: ToBoolean
 fn to_boolean(r: &[u8]) -> bool
     requires { ⌜ length (now r) ≡ 192 ⌝ }
 {
-    let v = bytes::value_at(r, 1);
+    let v = value_bytes::value_at(r, 1);
     let n = place(r[10]);
-    same_bool(value::to_boolean(v, n), truth(r[11]))
+    same_bool(conversions::to_boolean(v, n), truth(r[11]))
 }
 
 // The code unit in two bytes
 fn unit(r: &[u8], at: usize) -> u16
     requires { ⌜ at + 2 ≤ length (now r) ⌝ }
 {
-    (bytes::short_at(r, at) % 65536) as u16
+    (byte_numbers::short_at(r, at) % 65536) as u16
 }
 
 fn units(r: &[u8]) -> [u16; 32]
@@ -83,7 +81,7 @@ fn is_index(r: &[u8], answer: ArrayIndex) -> bool
     match answer {
         ArrayIndex::Index(k) => {
             if r[100] == 1 {
-                k == bytes::word_at(r, 101)
+                k == byte_numbers::word_at(r, 101)
             } else {
                 false
             }
@@ -105,7 +103,7 @@ fn same_data(p: Property, q: Property) -> bool {
     match p {
         Property::Data(v, w, e, c) => match q {
             Property::Data(v2, w2, e2, c2) => {
-                if value::same_value(v, v2) {
+                if equality::same_value(v, v2) {
                     if same_bool(w, w2) {
                         if same_bool(e, e2) {
                             return same_bool(c, c2);
@@ -126,8 +124,8 @@ fn same_accessor(p: Property, q: Property) -> bool {
         Property::Accessor(g, s, e, c) => match q {
             Property::Data(_, _, _, _) => false,
             Property::Accessor(g2, s2, e2, c2) => {
-                if value::same_value(g, g2) {
-                    if value::same_value(s, s2) {
+                if equality::same_value(g, g2) {
+                    if equality::same_value(s, s2) {
                         if same_bool(e, e2) {
                             return same_bool(c, c2);
                         }
@@ -163,7 +161,7 @@ fn same_own(p: OwnProperty, q: OwnProperty) -> bool {
 fn descriptor(r: &[u8], at: usize) -> PropertyDescriptor
     requires { ⌜ at + 29 ≤ length (now r) ⌝ }
 {
-    property::to_property_descriptor(parts::descriptor::descriptor_at(r, at))
+    descriptors::to_property_descriptor(descriptor_bytes::descriptor_at(r, at))
 }
 
 // The property that a complete record stands for; `present` says whether there is one.
@@ -171,7 +169,7 @@ fn own_at(r: &[u8], present: bool, at: usize) -> OwnProperty
     requires { ⌜ at + 29 ≤ length (now r) ⌝ }
 {
     if present {
-        validation::property_of(descriptor(r, at))
+        merging::property_of(descriptor(r, at))
     } else {
         OwnProperty::Absent
     }
@@ -181,7 +179,7 @@ fn own_at(r: &[u8], present: bool, at: usize) -> OwnProperty
 fn complete(r: &[u8]) -> bool
     requires { ⌜ length (now r) ≡ 192 ⌝ }
 {
-    let p = property::complete_property_descriptor(descriptor(r, 1));
+    let p = completion::complete_property_descriptor(descriptor(r, 1));
     same_own(OwnProperty::Present(p), own_at(r, true, 30))
 }
 
@@ -191,8 +189,11 @@ fn validate(r: &[u8]) -> bool
 {
     let current = own_at(r, truth(r[2]), 32);
     let v = validation::validate(truth(r[1]), descriptor(r, 3), current);
-    if same_bool(validation::is_accepted(v), truth(r[61])) {
-        same_own(validation::settled(current, v), own_at(r, truth(r[62]), 63))
+    if same_bool(validation_outcome::is_accepted(v), truth(r[61])) {
+        same_own(
+            validation_outcome::settled(current, v),
+            own_at(r, truth(r[62]), 63),
+        )
     } else {
         false
     }
@@ -202,11 +203,11 @@ fn validate(r: &[u8]) -> bool
 fn step_refusal(bytes: &[u8], n: Counts, proxy: bool) -> u8 {
     if steps::is_step(bytes) {
         if bytes.len() == 58 {
-            let s = steps::step_of(bytes);
+            let s = step_reading::step_of(bytes);
             let d = s.descriptor;
             if steps::are_objects_made(n, s) {
                 if steps::are_kinds_usable(proxy, n, s) {
-                    if tests::is_descriptor(d) {
+                    if value_tests::is_descriptor(d) {
                         return 0;
                     }
                     return 4;
@@ -224,8 +225,8 @@ fn step_tests(r: &[u8]) -> bool
     requires { ⌜ length (now r) ≡ 192 ⌝ }
 {
     let n = Counts {
-        objects: bytes::wide(r[1]),
-        strings: bytes::wide(r[2]),
+        objects: byte_numbers::wide(r[1]),
+        strings: byte_numbers::wide(r[2]),
     };
     let end = 5 + place(r[4]);
     if end <= 80 {
@@ -238,8 +239,8 @@ fn step_tests(r: &[u8]) -> bool
 // The first of refusals 1 to 3 over a sheet, or 0
 fn sheet_refusal(bytes: &[u8], n: Counts) -> u8 {
     if sheet::is_sheet(bytes) {
-        if sheet::sheet_made(bytes, n) {
-            if sheet::sheet_known(bytes, n) {
+        if sheet_tests::sheet_made(bytes, n) {
+            if sheet_tests::sheet_known(bytes, n) {
                 return 0;
             }
             return 3;
@@ -254,8 +255,8 @@ fn sheet_tests(r: &[u8]) -> bool
     requires { ⌜ length (now r) ≡ 192 ⌝ }
 {
     let n = Counts {
-        objects: bytes::wide(r[1]),
-        strings: bytes::wide(r[2]),
+        objects: byte_numbers::wide(r[1]),
+        strings: byte_numbers::wide(r[2]),
     };
     let end = 4 + place(r[3]);
     if end <= 180 {
@@ -271,7 +272,7 @@ fn merge(r: &[u8]) -> bool
 {
     match own_at(r, true, 1) {
         OwnProperty::Absent => false,
-        OwnProperty::Present(current) => match validation::fill_with(current, descriptor(r, 30)) {
+        OwnProperty::Present(current) => match merging::fill_with(current, descriptor(r, 30)) {
             Filling::Incompatible => r[59] == 6,
             Filling::Filled(p) => {
                 if r[59] == 0 {

@@ -27,8 +27,8 @@ use Rattle.calls.proofs.has_trap.Reads as has-trap-reads
 use Rattle.getting.proofs.get_trap.Reads as get-trap-reads
 use Rattle.own_property.proofs.get_own_property.Reads as get-own-property-reads
 use Rattle.prototypes.proofs.get_prototype_of.Reads as get-prototype-of-reads
-use Rattle.value.proofs.is_undefined.Reads as is-undefined-reads
-use Rattle.value.proofs.object_of.Reads as object-of-reads
+use Rattle.conversions.proofs.is_undefined.Reads as is-undefined-reads
+use Rattle.conversions.proofs.object_of.Reads as object-of-reads
 use Rattle.getting.proofs.+get+ordinary_get+proxy_exotic_get.{statement}
 use Rattle.getting.proofs.+get+ordinary_get+proxy_exotic_get.Tie.{close}
 

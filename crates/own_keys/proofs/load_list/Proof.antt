@@ -7,7 +7,7 @@ use Rattle.own_keys.proofs.load_list.Tie as tie
 use Rattle.own_keys.proofs.load_list.Reads as reads
 use Rattle.own_keys.proofs.load_list.Lts as lts
 use Rattle.key_bytes.proofs.load_keys.Reads as load-keys-reads
-use Rattle.store_read.proofs.list_own_keys.Reads as list-own-keys-reads
+use Rattle.own_key_order.proofs.list_own_keys.Reads as list-own-keys-reads
 
 -- src/lib.rt:116:27
 enum-known-list : tie.Need-enum-known-list

@@ -5,7 +5,7 @@ use Rattle.performing_reads.proofs.key_or_first.Statement.{statement}
 use Rattle.performing_reads.proofs.key_or_first.Tie as tie
 use Rattle.performing_reads.proofs.key_or_first.Reads as reads
 use Rattle.performing_reads.proofs.key_or_first.Lts as lts
-use Rattle.value.proofs.key_of.Reads as key-of-reads
+use Rattle.property_keys.proofs.key_of.Reads as key-of-reads
 
 -- src/lib.rt:65:11
 key-of-requires : tie.Need-key-of-requires

@@ -17,7 +17,7 @@ use Rattle.deletion.proofs.delete.Reads as delete-reads
 use Rattle.performing_reads.proofs.key_or_first.Reads as key-or-first-reads
 use Rattle.performing_writes.proofs.write_result.Reads as write-result-reads
 use Rattle.prevention.proofs.prevent_extensions.Reads as prevent-extensions-reads
-use Rattle.property.proofs.to_property_descriptor.Reads as to-property-descriptor-reads
+use Rattle.descriptors.proofs.to_property_descriptor.Reads as to-property-descriptor-reads
 use Rattle.prototype_setting.proofs.set_prototype_of.Reads as set-prototype-of-reads
 use Rattle.setting.proofs.set.Reads as set-reads
 

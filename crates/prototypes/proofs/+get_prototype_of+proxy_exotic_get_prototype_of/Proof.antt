@@ -20,7 +20,7 @@ use Rattle.calls.proofs.enter.Reads as enter-reads
 use Rattle.calls.proofs.has_trap.Reads as has-trap-reads
 use Rattle.extensibility.proofs.is_extensible.Reads as is-extensible-reads
 use Rattle.prototypes.proofs.ordinary_get_prototype_of.Reads as ordinary-get-prototype-of-reads
-use Rattle.value.proofs.same_value.Reads as same-value-reads
+use Rattle.equality.proofs.same_value.Reads as same-value-reads
 use Rattle.prototypes.proofs.+get_prototype_of+proxy_exotic_get_prototype_of.{statement}
 use Rattle.prototypes.proofs.+get_prototype_of+proxy_exotic_get_prototype_of.Tie.{close}
 

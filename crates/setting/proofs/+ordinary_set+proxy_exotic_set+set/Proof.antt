@@ -29,7 +29,7 @@ use Rattle.prototypes.proofs.get_prototype_of.Reads as get-prototype-of-reads
 use Rattle.setting.proofs.set_accessor.Reads as set-accessor-reads
 use Rattle.setting.proofs.set_data.Reads as set-data-reads
 use Rattle.setting.proofs.set_trap.Reads as set-trap-reads
-use Rattle.value.proofs.object_of.Reads as object-of-reads
+use Rattle.conversions.proofs.object_of.Reads as object-of-reads
 use Rattle.setting.proofs.+ordinary_set+proxy_exotic_set+set.{statement}
 use Rattle.setting.proofs.+ordinary_set+proxy_exotic_set+set.Tie.{close}
 

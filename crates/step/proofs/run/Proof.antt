@@ -3,7 +3,7 @@ use native.Mathlib.Omega.{arith}
 use mathlib.Core.Path.{sym, _∙_}
 use Rattle.store.specs.Words.{worldOf}
 use Rattle.lasting.specs.Step.{countsOf}
-use Rattle.store_read.proofs.ListLaws.{few-strings}
+use Rattle.own_key_order.proofs.ListLaws.{few-strings}
 use Rattle.record_tests.proofs.PassedLaws.{step-formed, step-length, sheet-there, sheet-formed, sheet-known, key-fits, code-low, code-high}
 use Rattle.listing.proofs.FitLaws.{sheet-fits}
 use Rattle.reporting.proofs.EndLaws.{finished-words, kept-words}
@@ -17,7 +17,7 @@ use Rattle.listing.proofs.list.Reads as list-reads
 use Rattle.performing.proofs.perform.Reads as perform-reads
 use Rattle.reporting.proofs.finish.Reads as finish-reads
 use Rattle.reporting.proofs.start.Reads as start-reads
-use Rattle.step_record.proofs.steps.step_of.Reads as step-of-reads
+use Rattle.step_reading.proofs.step_of.Reads as step-of-reads
 
 -- src/lib.rt:38:9
 step-of-requires : tie.Need-step-of-requires

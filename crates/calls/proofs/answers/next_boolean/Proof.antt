@@ -11,7 +11,7 @@ use Rattle.calls.proofs.answers.next_boolean.Reads as reads
 use Rattle.calls.proofs.answers.next_boolean.Lts as lts
 use Rattle.calls.proofs.answers.next_value.Reads as next-value-reads
 use Rattle.calls.proofs.answers.text_length.Reads as text-length-reads
-use Rattle.value.proofs.to_boolean.Reads as to-boolean-reads
+use Rattle.conversions.proofs.to_boolean.Reads as to-boolean-reads
 
 -- src/answers.rt:56:11
 next-value-requires : tie.Need-next-value-requires

@@ -1,7 +1,7 @@
 use denote.Ref.{now}
 use Rattle.text.specs.Table.{stringsOf}
 use mathlib.Core.Path.{sym, _∙_}
-use Rattle.store_read.proofs.ListLaws.{read-table}
+use Rattle.store_read.proofs.ReadLaws.{read-table}
 use Rattle.calls.proofs.AnswerLaws.{no-text}
 use borrow.Author.Needs.{needs}
 use Rattle.calls.proofs.answers.text_length.Statement.{statement}

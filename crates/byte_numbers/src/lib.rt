@@ -1,0 +1,35 @@
+// Numbers in bytes, little-endian.
+ghost use mathlib.Core.Path.{_≡_};
+ghost use Prim.Native.Nat.{_+_, _<_, _≤_};
+ghost use lib.ListN.{length};
+ghost use Rattle.record.specs.Bytes.{numberAt};
+
+pub fn wide(b: u8) -> u64
+    ensures { λ r. ⌜ (r ≡ b) × (r < 256) ⌝ }
+{
+    b as u64
+}
+
+// The number in 2 bytes.
+pub fn short_at(bytes: &[u8], at: usize) -> u64
+    requires { ⌜ at + 2 ≤ length (now bytes) ⌝ }
+    ensures { λ r. ⌜ (r ≡ numberAt (now (bytes .entry)) at 2) × (r < 65536) ⌝ }
+{
+    wide(bytes[at]) + 256 * wide(bytes[at + 1])
+}
+
+// The number in 4 bytes.
+fn half_at(bytes: &[u8], at: usize) -> u64
+    requires { ⌜ at + 4 ≤ length (now bytes) ⌝ }
+    ensures { λ r. ⌜ (r ≡ numberAt (now (bytes .entry)) at 4) × (r < 4294967296) ⌝ }
+{
+    short_at(bytes, at) + 65536 * short_at(bytes, at + 2)
+}
+
+// The number in 8 bytes.
+pub fn word_at(bytes: &[u8], at: usize) -> u64
+    requires { ⌜ at + 8 ≤ length (now bytes) ⌝ }
+    ensures { λ r. ⌜ r ≡ numberAt (now (bytes .entry)) at 8 ⌝ }
+{
+    half_at(bytes, at) + 4294967296 * half_at(bytes, at + 4)
+}
