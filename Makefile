@@ -1,10 +1,10 @@
 # rt is Rattle's command: it proves the crates of crates.txt and runs their programs.
 .PHONY: run test bench vectors messages
 
-# What can be run today: the leaves against the outside vectors.
+# A day of steps and string entries over one store, a line for each.
 run:
-	rt check vectors
-	target/bin/vectors < crates/vectors/stdin
+	rt check day
+	target/bin/day < crates/day/stdin
 
 # The gate. rt ci comes last: it starts from nothing and ends in 'N passed, 0 failed'.
 test:
@@ -17,9 +17,10 @@ bench:
 	rustc --edition 2021 -O -C target-cpu=x86-64 -L target/staticlib -o target/bench bench/bench.rs
 	target/bench
 
-# The outside vectors, made anew: the same bytes, unless tests/vectors.mjs changed.
+# The outside vectors and the day's calls, made anew: the same bytes, unless the scripts changed.
 vectors:
 	node tests/vectors.mjs > crates/vectors/stdin
+	node tests/day.mjs > crates/day/stdin
 
 # The message table against boa_engine's source, which lies in the folder BOA.
 messages:
