@@ -5,7 +5,7 @@ use mathlib.Core.Bool.{Bool, true, false}
 use mathlib.Core.List.{List}
 use Rattle.value.specs.declared.Value.{Value}
 use Rattle.store.specs.Store.{Store, World}
-use Rattle.store.specs.Words.{storeOf, worldOf}
+use Rattle.store.specs.Words.{storeOf, isStore, worldOf}
 use Rattle.store_write.specs.declared.write.Write.{Write}
 use Rattle.store_write.specs.Write.{applied, writtenTo, Becomes}
 use Rattle.internal_methods.specs.declared.Failure.{Failure}
@@ -58,11 +58,11 @@ module _ (words : List ℕ) (sheet : List ℕ) where
 
   pub finished-words : (after : List ℕ) (p : Performed) → Finished words after p → WordsAfter (performedReport sheet p .outcome) words after
   finished-words after (Failed f s) e = failing-words f (stateOf sheet s) after e
-  finished-words after (Done c w s) e = record { write = w; words = e .words }
+  finished-words after (Done c w s) e = record { write = w; words = e .words; kept = e .kept }
 
 -- words that were not written
-pub kept-words : (words : List ℕ) (o : Outcome) → WordsAfter o words words
-kept-words words (outcome.Refused n) = refl
-kept-words words (outcome.Result c) = record { write = Nothing; words = refl }
-kept-words words (outcome.TypeError n) = refl
-kept-words words (outcome.Thrown v) = refl
+pub kept-words : (words : List ℕ) (o : Outcome) → isStore words ≡ true → WordsAfter o words words
+kept-words words (outcome.Refused n) h = refl
+kept-words words (outcome.Result c) h = record { write = Nothing; words = refl; kept = h }
+kept-words words (outcome.TypeError n) h = refl
+kept-words words (outcome.Thrown v) h = refl

@@ -44,10 +44,11 @@ enterOver σ cells units =
     (enterString (record { store = σ; strings = stringsOf cells }) units)
     (refusing 1 (record { store = σ; strings = stringsOf cells }) [])
 
--- one write: the words that it names have changed, and no others
+-- one write: the words that it names have changed, and no others; they are a store still
 pub record Committed (before after : List ℕ) : Type 0 where
   pub write : Write
   pub words : after ≡ writtenTo write before
+  pub kept : isStore after ≡ true
 
 -- the words themselves: only a result may change them, by one write
 abbrev pub WordsAfter : Outcome → List ℕ → List ℕ → Type 0

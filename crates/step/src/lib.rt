@@ -8,6 +8,7 @@ use value::Value;
 ghost use mathlib.Core.Path.{_≡_};
 ghost use mathlib.Core.Bool.{true};
 ghost use mathlib.Core.Option.{none};
+ghost use Rattle.text.specs.Table.{isTable};
 ghost use Rattle.text.specs.Answers.{enterCells, cellsAfter};
 ghost use Rattle.store.specs.Store.{Store};
 ghost use Rattle.store.specs.Words.{isStore, worldOf};
@@ -83,6 +84,7 @@ fn entered(answer: EntryAnswer) -> Report
 pub fn enter_string(strings: &mut [u16], units: &[u16]) -> Report
     ensures { λ r. ⌜ ((σ : Store) → shownEntry r σ (now (strings .exit)) ≡ shownBy (enterOver σ (now (strings .entry)) (now (units .entry)))) ⌝ }
     ensures { λ _. ⌜ now (strings .exit) ≡ cellsAfter (now (strings .entry)) (now (units .entry)) (enterCells (now (strings .entry)) (now (units .entry))) ⌝ }
+    ensures { λ _. ⌜ isTable (now (strings .exit)) ≡ isTable (now (strings .entry)) ⌝ }
 {
     entered(string_entry::enter(strings, units))
 }

@@ -22,7 +22,7 @@ same-length c = search needs
 
 -- src/lib.rt:83:1
 returns : tie.Need-returns
-returns c = ((λ σ. entry-shown σ (now (c .before .before .before .before .before .before .before .args .strings)) (now (c .before .before .before .before .before .before .before .args .units)) _ (c .before .before .before .enter .result) _ (c .before .before .before .enter .ensures .0) (c .before .before .before .enter .ensures .1 .0) (c .entered .ensures)), c .before .before .before .enter .ensures .1 .0)
+returns c = ((λ σ. entry-shown σ (now (c .before .before .before .before .before .before .before .args .strings)) (now (c .before .before .before .before .before .before .before .args .units)) _ (c .before .before .before .enter .result) _ (c .before .before .before .enter .ensures .0) (c .before .before .before .enter .ensures .1 .0) (c .entered .ensures)), (c .before .before .before .enter .ensures .1 .0, c .before .before .before .enter .ensures .1 .1))
 
 pub enter-string-spec : {M : Type 1} → statement M
 enter-string-spec = tie.close (tie.spec enter-requires entered-requires same-length returns)

@@ -37,7 +37,7 @@ same-length-2 c = search needs
 
 -- src/lib.rt:40:9
 returns : tie.Need-returns
-returns c = (run-listed (now (c .before .before .before .before .before .before .before .before .before .before .before .before .before .args .words)) (now (c .before .before .before .before .before .before .before .before .before .before .before .before .before .args .strings)) (now (c .before .before .before .before .before .before .before .before .before .before .before .before .before .args .bytes)) (now (c .before .before .before .before .before .before .before .before .before .before .before .before .before .args .sheet)) (now (c .before .before .before .before .before .before .before .before .before .before .before .before .before .args .output)) (c .before .before .before .before .before .before .before .step-of .result) _ (c .before .before .before .before .before .before .before .step-of .ensures) (c .before .before .before .before .before .if1 .taken) (c .before .before .list .ensures), kept-words (now (c .before .before .before .before .before .before .before .before .before .before .before .before .before .args .words)) (c .before .before .list .result .outcome))
+returns c = (run-listed (now (c .before .before .before .before .before .before .before .before .before .before .before .before .before .args .words)) (now (c .before .before .before .before .before .before .before .before .before .before .before .before .before .args .strings)) (now (c .before .before .before .before .before .before .before .before .before .before .before .before .before .args .bytes)) (now (c .before .before .before .before .before .before .before .before .before .before .before .before .before .args .sheet)) (now (c .before .before .before .before .before .before .before .before .before .before .before .before .before .args .output)) (c .before .before .before .before .before .before .before .step-of .result) _ (c .before .before .before .before .before .before .before .step-of .ensures) (c .before .before .before .before .before .if1 .taken) (c .before .before .list .ensures), kept-words (now (c .before .before .before .before .before .before .before .before .before .before .before .before .before .args .words)) (c .before .before .list .result .outcome) (c .before .before .before .before .before .before .before .before .before .before .before .before .before .pre .0 .store))
 
 -- src/lib.rt:42:9
 start-requires : tie.Need-start-requires

@@ -1,10 +1,9 @@
 use denote.Ref.{now}
-use mathlib.Core.Path.{sym, _∙_}
+use mathlib.Core.Path.{refl, sym, _∙_}
 use Rattle.store.specs.Words.{worldOf}
 use Rattle.record.specs.Tests.{firstFailing}
 use Rattle.record.proofs.RefusalLaws.{is-failed, is-passed}
 use Rattle.lasting.specs.Step.{recordTests}
-use Rattle.reporting.proofs.EndLaws.{kept-words}
 use Rattle.step.proofs.StepLaws.{memory-readable, step-refused, step-ran, step-unread}
 use borrow.Author.Needs.{needs}
 use Rattle.step.proofs.step.Statement.{statement}
@@ -50,7 +49,7 @@ same-length c = search needs
 
 -- src/lib.rt:48:1
 returns : tie.Need-returns
-returns c = (step-refused (now (c .before .before .before .before .before .before .before .before .before .before .before .before .before .before .args .words)) (now (c .before .before .before .before .before .before .before .before .before .before .before .before .before .before .args .strings)) (now (c .before .before .before .before .before .before .before .before .before .before .before .before .before .before .args .bytes)) (now (c .before .before .before .before .before .before .before .before .before .before .before .before .before .before .args .sheet)) (now (c .before .before .before .before .before .before .before .before .before .before .before .before .before .before .args .output)) _ _ (sym (c .before .before .before .before .before .before .before .is-memory .ensures) ∙ c .before .before .before .before .before .before .if1 .taken) (is-failed (firstFailing (recordTests (worldOf (now (c .before .before .before .before .before .before .before .before .before .before .before .before .before .before .args .words)) (now (c .before .before .before .before .before .before .before .before .before .before .before .before .before .before .args .strings))) (now (c .before .before .before .before .before .before .before .before .before .before .before .before .before .before .args .bytes)) (now (c .before .before .before .before .before .before .before .before .before .before .before .before .before .before .args .sheet)))) _ _ (c .before .before .before .before .record-refusal .ensures) (c .before .before .n .given .1)) (c .refused .ensures), kept-words (now (c .before .before .before .before .before .before .before .before .before .before .before .before .before .before .args .words)) (c .refused .result .outcome))
+returns c = (step-refused (now (c .before .before .before .before .before .before .before .before .before .before .before .before .before .before .args .words)) (now (c .before .before .before .before .before .before .before .before .before .before .before .before .before .before .args .strings)) (now (c .before .before .before .before .before .before .before .before .before .before .before .before .before .before .args .bytes)) (now (c .before .before .before .before .before .before .before .before .before .before .before .before .before .before .args .sheet)) (now (c .before .before .before .before .before .before .before .before .before .before .before .before .before .before .args .output)) _ _ (sym (c .before .before .before .before .before .before .before .is-memory .ensures) ∙ c .before .before .before .before .before .before .if1 .taken) (is-failed (firstFailing (recordTests (worldOf (now (c .before .before .before .before .before .before .before .before .before .before .before .before .before .before .args .words)) (now (c .before .before .before .before .before .before .before .before .before .before .before .before .before .before .args .strings))) (now (c .before .before .before .before .before .before .before .before .before .before .before .before .before .before .args .bytes)) (now (c .before .before .before .before .before .before .before .before .before .before .before .before .before .before .args .sheet)))) _ _ (c .before .before .before .before .record-refusal .ensures) (c .before .before .n .given .1)) (c .refused .ensures), rw (c .refused .ensures) refl)
 
 -- src/lib.rt:48:1
 same-length-2 : tie.Need-same-length-2
@@ -70,7 +69,7 @@ same-length-4 c = search needs
 
 -- src/lib.rt:48:1
 returns-3 : tie.Need-returns-3
-returns-3 c = (step-unread (now (c .before .before .before .before .before .before .before .before .before .args .words)) (now (c .before .before .before .before .before .before .before .before .before .args .strings)) (now (c .before .before .before .before .before .before .before .before .before .args .bytes)) (now (c .before .before .before .before .before .before .before .before .before .args .sheet)) (now (c .before .before .before .before .before .before .before .before .before .args .output)) _ (sym (c .before .before .is-memory .ensures) ∙ c .before .if1 .left) (c .refused2 .ensures), kept-words (now (c .before .before .before .before .before .before .before .before .before .args .words)) (c .refused2 .result .outcome))
+returns-3 c = (step-unread (now (c .before .before .before .before .before .before .before .before .before .args .words)) (now (c .before .before .before .before .before .before .before .before .before .args .strings)) (now (c .before .before .before .before .before .before .before .before .before .args .bytes)) (now (c .before .before .before .before .before .before .before .before .before .args .sheet)) (now (c .before .before .before .before .before .before .before .before .before .args .output)) _ (sym (c .before .before .is-memory .ensures) ∙ c .before .if1 .left) (c .refused2 .ensures), rw (c .refused2 .ensures) refl)
 
 pub step-spec : {M : Type 1} → statement M
 step-spec =

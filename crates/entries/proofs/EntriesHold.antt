@@ -1,0 +1,89 @@
+-- Demands 1 and 3 of every list of calls of the entries, from empty memory. Assumes nothing.
+use Prim.Native.Nat.{ℕ, zero, suc}
+use mathlib.Core.Path.{_≡_, refl, sym, ap, _∙_, subst}
+use mathlib.Core.Bool.{Bool, true, false, _&&_}
+use mathlib.Core.List.{List, [], _∷_, map}
+use lib.ListN.{length}
+use Rattle.value.proofs.Bools.{and-true}
+use Rattle.text.specs.Table.{isTable, stringsOf}
+use Rattle.store.specs.Store.{Store, World, empty}
+use Rattle.store.specs.Words.{isStore, storeOf, worldOf}
+use Rattle.lasting.specs.declared.Outcome.{Outcome}
+use Rattle.lasting.specs.declared.Outcome.the-variants.{Refused, Result, TypeError, Thrown}
+use Rattle.lasting.specs.declared.Report.{Report}
+use Rattle.lasting.specs.Response.{Effect, reportOf}
+use Rattle.lasting.specs.Run.{Call, Event, effect, runFrom, run, worldFrom}
+use Rattle.lasting.specs.Run as call
+use Rattle.lasting.specs.Refusals.{StepDecided}
+use Rattle.lasting.proofs.LastingHolds.{lasting}
+use Rattle.lasting.proofs.FurtherHold.{further}
+use Rattle.lasting.proofs.Decided.{step-decided}
+use Rattle.reporting.specs.Memory.{Shown, shown, shownBy, isMemory, stepOver, shownEntry, enterOver, WordsAfter}
+use Rattle.entries.specs.Entries.{Memory, Called, stepped, entered, Calls, none, more, reported, Kept}
+
+abbrev world : Memory → World
+world m = worldOf (m .words) (m .cells)
+
+-- what one call does, as the definitions have it
+record Does (m : Memory) (c : Call) (r : Report) (n : Memory) : Type 0 where
+  report : r ≡ reportOf (effect (world m) c .response)
+  after : world n ≡ effect (world m) c .world
+  memory : isMemory (n .words) (n .cells) ≡ true
+
+still : (o : Outcome) (before after : List ℕ) → isStore before ≡ true → WordsAfter o before after → isStore after ≡ true
+still (Refused n) before after h w = rw w h
+still (Result c) before after h w = w .kept
+still (TypeError n) before after h w = rw w h
+still (Thrown v) before after h w = rw w h
+
+both : (a b : Bool) → a ≡ true → b ≡ true → (a && b) ≡ true
+both a b e f = rw (e, f)
+
+over : (m : Memory) (bytes sheet output : List ℕ) → isMemory (m .words) (m .cells) ≡ true
+    → stepOver (m .words) (m .cells) bytes sheet output ≡ effect (world m) (call.step bytes sheet output)
+unfolding stepOver effect
+over m bytes sheet output h = rw h
+
+over-entry : (m : Memory) (units : List ℕ) → isTable (m .cells) ≡ true → enterOver (storeOf (m .words)) (m .cells) units ≡ effect (world m) (call.enter units)
+unfolding enterOver effect
+over-entry m units h = rw h
+
+does : (m : Memory) → isMemory (m .words) (m .cells) ≡ true → {n : Memory} {c : Call} {r : Report} {out : List ℕ} → Called m c r out n → Does m c r n
+unfolding isMemory
+does m h (stepped bytes sheet output r after out q w) =
+    let p = and-true (isStore (m .words)) (isTable (m .cells)) h in
+    let s = q ∙ ap (λ (e : Effect). shownBy e) (over m bytes sheet output h) in
+    record { report = ap (λ (x : Shown). x .report) s; after = ap (λ (x : Shown). x .world) s; memory = both _ _ (still (r .outcome) (m .words) after (p .0) w) (p .1) }
+does m h (entered units r after q t) =
+    let p = and-true (isStore (m .words)) (isTable (m .cells)) h in
+    let s = q (storeOf (m .words)) ∙ ap (λ (e : Effect). shownBy e) (over-entry m units (p .1)) in
+    record { report = ap (λ (x : Shown). x .report) s; after = ap (λ (x : Shown). x .world) s; memory = both _ _ (p .0) (t ∙ p .1) }
+
+record Follows (m : Memory) (cs : List Call) (rs : List Report) (n : Memory) : Type 0 where
+  reports : rs ≡ map reported (runFrom (world m) cs)
+  after : world n ≡ worldFrom (world m) cs (length cs)
+
+follows : {m n : Memory} {cs : List Call} {rs : List Report} → isMemory (m .words) (m .cells) ≡ true → Calls m cs rs n → Follows m cs rs n
+unfolding runFrom worldFrom
+follows h (none m) = record { reports = refl; after = refl }
+follows h (more m k n c cs r rs out d ds) =
+    let e = does m h d in
+    let f = follows (e .memory) ds in
+    record {
+      reports = ap (λ (x : Report). x ∷ rs) (e .report) ∙ ap (λ (x : List Report). reportOf (effect (world m) c .response) ∷ x) (f .reports ∙ ap (λ (ω : World). map reported (runFrom ω cs)) (e .after));
+      after = f .after ∙ ap (λ (ω : World). worldFrom ω cs (length cs)) (e .after);
+    }
+
+-- from memory that `make_empty` has emptied
+pub kept : (m n : Memory) (cs : List Call) (rs : List Report) → isMemory (m .words) (m .cells) ≡ true → storeOf (m .words) ≡ empty .store → stringsOf (m .cells) ≡ []
+    → Calls m cs rs n → Kept cs rs n
+unfolding run
+kept m n cs rs h s t ds =
+    let z : world m ≡ empty = rw (s, t) in
+    let f = follows h ds in
+    record {
+      reports-are = f .reports ∙ ap (λ (ω : World). map reported (runFrom ω cs)) z;
+      lasting = lasting cs;
+      further = further cs;
+      decided = λ bytes sheet output. subst (λ (ω : World). StepDecided ω bytes sheet output) (sym (f .after ∙ ap (λ (ω : World). worldFrom ω cs (length cs)) z)) (step-decided cs (length cs) bytes sheet output);
+    }

@@ -1,0 +1,46 @@
+-- Calls of the entries one after another, nothing else writing their memory. Assumes nothing.
+use Prim.Native.Nat.{ℕ}
+use mathlib.Core.Path.{_≡_}
+use mathlib.Core.List.{List, [], _∷_, map}
+use Rattle.text.specs.Table.{isTable}
+use Rattle.store.specs.Store.{Store}
+use Rattle.lasting.specs.declared.Report.{Report}
+use Rattle.lasting.specs.Response.{reportOf}
+use Rattle.lasting.specs.Run.{Call, Event, run}
+use Rattle.lasting.specs.Run as call
+use Rattle.lasting.specs.Lasting.{Lasting}
+use Rattle.lasting.specs.Further.{Further}
+use Rattle.lasting.specs.Refusals.{StepDecided}
+use Rattle.store.specs.Words.{worldOf}
+use Rattle.reporting.specs.Memory.{shown, shownBy, stepOver, shownEntry, enterOver, WordsAfter}
+
+-- the store's words and the string table's cells
+pub record Memory : Type 0 where
+  pub words : List ℕ
+  pub cells : List ℕ
+
+-- one call: the memory that it found, its report, the output after it, and the memory that it left, as its contract has them
+pub data Called (m : Memory) : Call → Report → List ℕ → Memory → Type 0 where
+  stepped : (bytes sheet output : List ℕ) (r : Report) (after out : List ℕ)
+      → shown r after (m .cells) out ≡ shownBy (stepOver (m .words) (m .cells) bytes sheet output)
+      → WordsAfter (r .outcome) (m .words) after
+      → Called m (call.step bytes sheet output) r out (record { words = after; cells = m .cells })
+  entered : (units : List ℕ) (r : Report) (after : List ℕ)
+      → ((σ : Store) → shownEntry r σ after ≡ shownBy (enterOver σ (m .cells) units))
+      → isTable after ≡ isTable (m .cells)
+      → Called m (call.enter units) r [] (record { words = m .words; cells = after })
+
+-- each call finds exactly what its predecessor left; the last memory is what all of them left
+pub data Calls : Memory → List Call → List Report → Memory → Type 0 where
+  none : (m : Memory) → Calls m [] [] m
+  more : (m n l : Memory) (c : Call) (cs : List Call) (r : Report) (rs : List Report) (out : List ℕ) → Called m c r out n → Calls n cs rs l → Calls m (c ∷ cs) (r ∷ rs) l
+
+abbrev pub reported : Event → Report
+reported e = reportOf (e .response)
+
+-- what holds of calls of the entries from memory that holds nothing
+pub record Kept (calls : List Call) (reports : List Report) (m : Memory) : Type 0 where
+  pub reports-are : reports ≡ map reported (run calls)  -- they report what the definitions' run tells
+  pub lasting : Lasting (run calls)  -- demand 3
+  pub further : Further (run calls)
+  pub decided : (bytes sheet output : List ℕ) → StepDecided (worldOf (m .words) (m .cells)) bytes sheet output  -- demand 1, of the step that comes next
