@@ -11,11 +11,14 @@ test:
 	rt fmt --check
 	rt ci
 
-# The store beside a Vec of structs in Rust, in ns: docs/BENCHMARKS.md. It needs rustc.
+# The store beside a Vec of structs in Rust, and steps beside node, in ns: docs/BENCHMARKS.md. It needs rustc and node.
 bench:
 	rt staticlib store_export
 	rustc --edition 2021 -O -C target-cpu=x86-64 -L target/staticlib -o target/bench bench/bench.rs
 	target/bench
+	rt staticlib demnyaluz
+	rustc --edition 2021 -O -C target-cpu=x86-64 -L target/staticlib -o target/steps bench/steps.rs
+	target/steps
 
 # The outside vectors and the day's calls, made anew: the same bytes, unless the scripts changed.
 vectors:

@@ -1,0 +1,168 @@
+// Steps through the C interface beside node's own objects, in ns: one line for each kind of work, with the ratio.
+use std::hint::black_box;
+use std::process::Command;
+use std::time::Instant;
+
+#[link(name = "demnyaluz", kind = "static")]
+extern "C" {
+    fn demnyaluz_step(words: *mut u64, words_size: usize, strings: *const u16, strings_size: usize, bytes: *const u8, size: usize, sheet: *const u8, sheet_size: usize, output: *mut u8, room: usize, report: *mut u64);
+    fn demnyaluz_enter_string(strings: *mut u16, strings_size: usize, units: *const u16, size: usize, report: *mut u64);
+}
+
+struct Memory {
+    words: Vec<u64>,
+    strings: Vec<u16>,
+    output: Vec<u8>,
+    report: [u64; 10],
+}
+
+type Bytes = Vec<u8>;
+
+fn value(kind: u8, payload: u64) -> Bytes {
+    let mut b = vec![kind];
+    b.extend(payload.to_le_bytes());
+    b
+}
+
+const NONE: [u8; 9] = [0; 9];
+
+// enumerable 1, configurable 2, writable 4, value 8
+fn descriptor(mask: u8, flags: u8, v: &[u8]) -> Bytes {
+    let mut b = vec![mask, flags];
+    b.extend(v);
+    b.extend([0; 18]);
+    b
+}
+
+fn step(code: u8, o: u8, key: &[u8], v: &[u8], receiver: &[u8], d: &[u8]) -> Bytes {
+    let mut b = vec![code, o];
+    for part in [key, v, receiver, d] {
+        b.extend(part);
+    }
+    b
+}
+
+fn sheet(answers: &[Bytes]) -> Bytes {
+    let mut b = vec![answers.len() as u8];
+    for a in answers {
+        b.extend(a);
+    }
+    b
+}
+
+fn answer(v: &[u8]) -> Bytes {
+    let mut b = vec![1];
+    b.extend(v);
+    b
+}
+
+impl Memory {
+    fn new() -> Self {
+        Memory { words: vec![0; 1634], strings: vec![0; 8449], output: vec![0; 4096], report: [0; 10] }
+    }
+
+    fn run(&mut self, bytes: &[u8], sheet: &[u8]) -> u64 {
+        unsafe {
+            demnyaluz_step(self.words.as_mut_ptr(), self.words.len(), self.strings.as_ptr(), self.strings.len(), bytes.as_ptr(), bytes.len(), sheet.as_ptr(), sheet.len(), self.output.as_mut_ptr(), self.output.len(), self.report.as_mut_ptr());
+        }
+        self.report[0]
+    }
+
+    // A step that must end in a result.
+    fn must(&mut self, bytes: &[u8], sheet: &[u8]) {
+        assert_eq!(self.run(bytes, sheet), 1, "report {:?}", self.report);
+    }
+
+    fn enter(&mut self, text: &str) {
+        let units: Vec<u16> = text.encode_utf16().collect();
+        unsafe { demnyaluz_enter_string(self.strings.as_mut_ptr(), self.strings.len(), units.as_ptr(), units.len(), self.report.as_mut_ptr()) }
+        assert_eq!(self.report[0], 1);
+    }
+}
+
+// The least ns of 40 rounds for one turn.
+fn best(turns: u32, mut work: impl FnMut()) -> f64 {
+    for _ in 0..turns {
+        work();
+    }
+    let mut least = f64::INFINITY;
+    for _ in 0..40 {
+        let start = Instant::now();
+        for _ in 0..turns {
+            work();
+        }
+        least = least.min(start.elapsed().as_nanos() as f64 / turns as f64);
+    }
+    least
+}
+
+fn main() {
+    let node = Command::new("node").arg("bench/steps.mjs").output().expect("node");
+    assert!(node.status.success());
+    let theirs: Vec<(String, f64)> = String::from_utf8(node.stdout).unwrap().lines().map(|l| { let (n, x) = l.split_once('\t').unwrap(); (n.to_string(), x.parse().unwrap()) }).collect();
+
+    let none = descriptor(0, 0, &NONE);
+    let visits = value(5, 0);
+    let count = value(3, 70000);
+    let empty = sheet(&[]);
+    let get = |o: u8| step(11, o, &visits, &NONE, &value(7, o as u64), &none);
+    let proxy = |target: u8, mask: u64| step(2, target, &NONE, &value(3, mask), &NONE, &none);
+    let make = step(1, 0, &NONE, &value(1, 0), &NONE, &none);
+
+    let mut m = Memory::new();
+    m.enter("visits");
+    m.enter("name");
+    m.must(&make, &empty); // 0: the sealed count
+    m.must(&step(9, 0, &visits, &NONE, &NONE, &descriptor(15, 1, &count)), &empty);
+    m.must(&proxy(0, 128), &empty); // 1: a get trap
+    for i in 0..8 {
+        m.must(&proxy(1 + i, 0), &empty); // 2 to 9: forwarding
+    }
+    m.must(&proxy(0, 16), &empty); // 10: a getOwnPropertyDescriptor trap
+    m.must(&make, &empty); // 11
+    m.must(&proxy(11, 4), &empty); // 12: an isExtensible trap
+    m.must(&step(9, 11, &visits, &NONE, &NONE, &descriptor(15, 7, &value(3, 7))), &empty);
+
+    let mut listing = Memory::new();
+    for i in 0..256 {
+        listing.enter(&format!("key{i}"));
+    }
+    listing.must(&make, &empty);
+    for i in 0..144 {
+        listing.must(&step(9, 0, &value(5, i), &NONE, &NONE, &descriptor(15, 7, &value(3, i))), &empty);
+    }
+    listing.must(&proxy(0, 1024), &empty);
+    let mut keys = vec![3, 0, 1];
+    for i in 0..256 {
+        keys.extend(value(5, i));
+    }
+
+    let told = sheet(&[answer(&count)]);
+    let described = sheet(&[{ let mut b = vec![2]; b.extend(descriptor(15, 1, &count)); b }]);
+    let yes = sheet(&[answer(&value(2, 1))]);
+    let name = value(5, 1);
+    let define = step(9, 11, &name, &NONE, &NONE, &descriptor(15, 7, &value(3, 1)));
+    let delete = step(13, 11, &name, &NONE, &NONE, &none);
+    let own_keys = step(14, 1, &NONE, &NONE, &NONE, &none);
+    let all = sheet(&[keys]);
+    let (get0, get1, get9, own10, ext12) = (get(11), get(1), get(9), step(8, 10, &visits, &NONE, &NONE, &none), step(6, 12, &NONE, &NONE, &NONE, &none));
+
+    let ours = [
+        best(20000, || { black_box(m.run(black_box(&get1), &told)); }),
+        best(20000, || { black_box(m.run(black_box(&get9), &told)); }),
+        best(20000, || { black_box(m.run(black_box(&own10), &described)); }),
+        best(20000, || { black_box(m.run(black_box(&ext12), &yes)); }),
+        best(20000, || { black_box(m.run(black_box(&get0), &empty)); }),
+        best(20000, || { m.run(black_box(&define), &empty); black_box(m.run(black_box(&delete), &empty)); }),
+        best(300, || { black_box(listing.run(black_box(&own_keys), &all)); }),
+    ];
+    for (bytes, answers) in [(&get1, &told), (&get9, &told), (&own10, &described), (&ext12, &yes), (&get0, &empty), (&define, &empty), (&delete, &empty)] {
+        m.must(bytes, answers);
+    }
+    listing.must(&own_keys, &all);
+
+    println!("{:<46}{:>12}{:>12}{:>8}", "ns for one turn", "here", "node", "ratio");
+    for ((name, theirs), ours) in theirs.iter().zip(ours) {
+        println!("{name:<46}{ours:>12.1}{theirs:>12.1}{:>8.2}", ours / theirs);
+    }
+}
