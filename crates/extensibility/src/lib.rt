@@ -1,4 +1,4 @@
-// 10.1.3 and 10.5.3 [[IsExtensible]], 10.1.4 and 10.5.4 [[PreventExtensions]].
+// 10.1.3 and 10.5.3 [[IsExtensible]].
 use calls::BooleanOut;
 use calls::Entered;
 use calls::Progress;
