@@ -24,7 +24,7 @@ use Rattle.getting.proofs.+get+ordinary_get+proxy_exotic_get.Lts-proxy_
 use Rattle.calls.proofs.next_value.Reads as next-value-reads
 use Rattle.calls.proofs.enter.Reads as enter-reads
 use Rattle.calls.proofs.has_trap.Reads as has-trap-reads
-use Rattle.getting.proofs.get_trap.Reads as get-trap-reads
+use Rattle.getting_trap.proofs.get_trap.Reads as get-trap-reads
 use Rattle.own_property.proofs.get_own_property.Reads as get-own-property-reads
 use Rattle.prototypes.proofs.get_prototype_of.Reads as get-prototype-of-reads
 use Rattle.conversions.proofs.is_undefined.Reads as is-undefined-reads

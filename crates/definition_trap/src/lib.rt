@@ -1,0 +1,138 @@
+// 10.5.6 steps 7 to 16: [[DefineOwnProperty]] with a trap.
+use calls::BooleanOut;
+use calls::OwnPropertyOut;
+use calls::Progress;
+use calls::WriteOut;
+use internal_methods::Failure;
+use property::OwnProperty;
+use property::Property;
+use property::PropertyDescriptor;
+use store_write::Write;
+use value::PropertyKey;
+ghost use mathlib.Core.Path.{_≡_};
+ghost use mathlib.Core.Bool.{true, not, _&&_};
+ghost use Rattle.property.specs.Fields.{isFalse, writableField, configurable};
+ghost use Rattle.store.specs.Words.{storeOf};
+ghost use Rattle.internal_methods.specs.Proxy.{isWritable};
+ghost use Rattle.internal_methods.specs.Internal.{methods};
+ghost use Rattle.calls.specs.Told.{context, stateOf, toldWrite, Fitting};
+ghost use Rattle.definition_trap.specs.Define.{Definable, definedByTrap, definitionMessage};
+
+// 10.5.6 step 15.b: what is configurable is set to be so no more.
+fn fixes_configurable(d: PropertyDescriptor, target: Property) -> bool
+    ensures { λ r. ⌜ r ≡ (isFalse (d .configurable) && configurable target) ⌝ }
+{
+    let configurable = d.configurable;
+    if flags::is_false(configurable) {
+        return attributes::is_configurable(target);
+    }
+    false
+}
+
+// 10.5.6 step 15.c: what is writable and not configurable is set to be writable no more.
+fn fixes_writable(d: PropertyDescriptor, target: Property) -> bool
+    ensures { λ r. ⌜ r ≡ (not (configurable target) && (isWritable (OwnProperty.Present target) && isFalse (writableField (d .kind)))) ⌝ }
+{
+    let k = d.kind;
+    if attributes::is_configurable(target) {
+        return false;
+    }
+    if target_checks::is_writable(OwnProperty::Present(target)) {
+        return flags::is_false(kind_fields::writable_field(k));
+    }
+    false
+}
+
+// The TypeError of 10.5.6 steps 14 and 15 by its number, or 0.
+fn definition_message(extensible: bool, d: PropertyDescriptor, current: OwnProperty) -> u64
+    ensures { λ r. ⌜ r ≡ definitionMessage extensible d current ⌝ }
+{
+    let configurable = d.configurable;
+    match current {
+        OwnProperty::Absent => {
+            if extensible {
+                if flags::is_false(configurable) {
+                    return 13; // 14.b
+                }
+                return 0;
+            }
+            13 // 14.a
+        }
+        OwnProperty::Present(target) => {
+            if validation::is_compatible_property_descriptor(
+                extensible,
+                d,
+                OwnProperty::Present(target),
+            ) {
+                if fixes_configurable(d, target) {
+                    return 15; // 15.b
+                }
+                if fixes_writable(d, target) {
+                    return 16; // 15.c
+                }
+                return 0;
+            }
+            14 // 15.a
+        }
+    }
+}
+
+// 10.5.6 steps 7 to 16
+pub fn define_own_property_trap(
+    words: &[u64],
+    strings: &[u16],
+    allowance: usize,
+    sheet: &[u8],
+    target: u64,
+    key: PropertyKey,
+    d: PropertyDescriptor,
+    depth: usize,
+    s: Progress,
+) -> WriteOut
+    requires { ⌜ Definable (now words) (now strings) allowance key ⌝ }
+    ensures { λ r. ⌜ toldWrite (now (sheet .entry)) (storeOf (now (words .entry))) r ≡ definedByTrap (context (now (words .entry)) (now (strings .entry)) allowance) (methods depth (context (now (words .entry)) (now (strings .entry)) allowance)) target key d .run (stateOf (now (sheet .entry)) s) ⌝ }
+    ensures { λ r. ⌜ Fitting (now (words .entry)) r ⌝ }
+{
+    match calls::next_boolean(strings, sheet, s) {
+        BooleanOut::Failed(f, t) => WriteOut::Failed(f, t), // 7, 8
+        BooleanOut::Done(answer, t) => {
+            if answer {
+                match own_property::get_own_property(
+                    words,
+                    strings,
+                    allowance,
+                    sheet,
+                    target,
+                    key,
+                    depth,
+                    t,
+                ) {
+                    OwnPropertyOut::Failed(f, u) => WriteOut::Failed(f, u), // 10
+                    OwnPropertyOut::Done(current, u) => {
+                        match extensibility::is_extensible(
+                            words,
+                            strings,
+                            allowance,
+                            sheet,
+                            target,
+                            depth,
+                            u,
+                        ) {
+                            BooleanOut::Failed(f, w) => WriteOut::Failed(f, w), // 11
+                            BooleanOut::Done(extensible, w) => {
+                                let message = definition_message(extensible, d, current);
+                                if message == 0 {
+                                    WriteOut::Done(true, Write::Nothing, w) // 16
+                                } else {
+                                    WriteOut::Failed(Failure::TypeError(message), w) // 14, 15
+                                }
+                            }
+                        }
+                    }
+                }
+            } else {
+                WriteOut::Done(false, Write::Nothing, t) // 9
+            }
+        }
+    }
+}
