@@ -93,7 +93,7 @@ pub fn define_own_property_trap(
     ensures { λ r. ⌜ toldWrite (now (sheet .entry)) (storeOf (now (words .entry))) r ≡ definedByTrap (context (now (words .entry)) (now (strings .entry)) allowance) (methods depth (context (now (words .entry)) (now (strings .entry)) allowance)) target key d .run (stateOf (now (sheet .entry)) s) ⌝ }
     ensures { λ r. ⌜ Fitting (now (words .entry)) r ⌝ }
 {
-    match calls::next_boolean(strings, sheet, s) {
+    match answers::next_boolean(strings, sheet, s) {
         BooleanOut::Failed(f, t) => WriteOut::Failed(f, t), // 7, 8
         BooleanOut::Done(answer, t) => {
             if answer {

@@ -118,7 +118,7 @@ fn ordinary_get(
                             if conversions::is_undefined(getter) {
                                 ValueOut::Done(Value::Undefined, t) // 6
                             } else {
-                                calls::next_value(sheet, t) // 7
+                                answers::next_value(sheet, t) // 7
                             }
                         }
                     }

@@ -29,7 +29,7 @@ pub fn get_trap(
     ensures { λ r. ⌜ toldValue (now (sheet .entry)) r ≡ proxyGet (methods depth (context (now (words .entry)) (now (strings .entry)) allowance)) p key receiver .run (stateOf (now (sheet .entry)) s) ⌝ }
 {
     let target = p.target;
-    match calls::next_value(sheet, s) {
+    match answers::next_value(sheet, s) {
         ValueOut::Failed(f, t) => ValueOut::Failed(f, t), // 7
         ValueOut::Done(answer, t) => {
             match own_property::get_own_property(

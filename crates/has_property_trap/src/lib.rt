@@ -28,7 +28,7 @@ pub fn has_property_trap(
     ensures { λ r. ⌜ toldBoolean (now (sheet .entry)) r ≡ proxyHasProperty (context (now (words .entry)) (now (strings .entry)) allowance) (methods depth (context (now (words .entry)) (now (strings .entry)) allowance)) p key .run (stateOf (now (sheet .entry)) s) ⌝ }
 {
     let target = p.target;
-    match calls::next_boolean(strings, sheet, s) {
+    match answers::next_boolean(strings, sheet, s) {
         BooleanOut::Failed(f, t) => BooleanOut::Failed(f, t), // 7
         BooleanOut::Done(answer, t) => {
             if answer {

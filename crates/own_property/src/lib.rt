@@ -63,7 +63,7 @@ fn proxy_exotic_get_own_property(
 {
     let target = p.target;
     if calls::has_trap(p, 16) {
-        match calls::next_descriptor(sheet, s) {
+        match answers::next_descriptor(sheet, s) {
             DescriptorOut::Failed(f, t) => OwnPropertyOut::Failed(f, t), // 7, 8
             DescriptorOut::Undefined(t) => {
                 match get_own_property(words, strings, allowance, sheet, target, key, depth, t) {

@@ -71,7 +71,7 @@ fn set_accessor(sheet: &[u8], setter: Value, s: Progress) -> WriteOut
     if conversions::is_undefined(setter) {
         WriteOut::Done(false, Write::Nothing, s) // 5
     } else {
-        match calls::next_value(sheet, s) {
+        match answers::next_value(sheet, s) {
             ValueOut::Failed(f, t) => WriteOut::Failed(f, t), // 6
             ValueOut::Done(_, t) => WriteOut::Done(true, Write::Nothing, t), // 7
         }

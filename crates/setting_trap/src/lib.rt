@@ -31,7 +31,7 @@ pub fn set_trap(
     ensures { λ r. ⌜ toldWrite (now (sheet .entry)) (storeOf (now (words .entry))) r ≡ setByTrap (context (now (words .entry)) (now (strings .entry)) allowance) (methods depth (context (now (words .entry)) (now (strings .entry)) allowance)) target key v .run (stateOf (now (sheet .entry)) s) ⌝ }
     ensures { λ r. ⌜ Fitting (now (words .entry)) r ⌝ }
 {
-    match calls::next_boolean(strings, sheet, s) {
+    match answers::next_boolean(strings, sheet, s) {
         BooleanOut::Failed(f, t) => WriteOut::Failed(f, t), // 7
         BooleanOut::Done(answer, t) => {
             if answer {

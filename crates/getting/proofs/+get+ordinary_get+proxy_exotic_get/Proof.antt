@@ -21,7 +21,7 @@ use Rattle.getting.proofs.+get+ordinary_get+proxy_exotic_get.Lts-ordina
 use Rattle.getting.proofs.proxy_exotic_get.Reads as proxy-exotic-get
 use Rattle.getting.proofs.proxy_exotic_get.Kinds as proxy-exotic-get-kinds
 use Rattle.getting.proofs.+get+ordinary_get+proxy_exotic_get.Lts-proxy_exotic_get as proxy-exotic-get-lts
-use Rattle.calls.proofs.next_value.Reads as next-value-reads
+use Rattle.answers.proofs.next_value.Reads as next-value-reads
 use Rattle.calls.proofs.enter.Reads as enter-reads
 use Rattle.calls.proofs.has_trap.Reads as has-trap-reads
 use Rattle.getting_trap.proofs.get_trap.Reads as get-trap-reads

@@ -4,7 +4,7 @@ use denote.Ref.{now}
 use mathlib.Core.Path.{sym, _∙_}
 use Rattle.internal_methods.specs.Monad.{pure, fails, next, _>>=_}
 use Rattle.internal_methods.specs.Answers.{askKeys, asKeys}
-use Rattle.calls.proofs.AnswerLaws.{asked-none, asked-value, asked-descriptor, asked-keys, asked-throw, left-value, left-descriptor, left-keys, left-throw}
+use Rattle.answers.proofs.AnswerLaws.{asked-none, asked-value, asked-descriptor, asked-keys, asked-throw, left-value, left-descriptor, left-keys, left-throw}
 use Rattle.own_keys.proofs.ListLaws.{keys-within, loadable, listed-keys, listed-others}
 use borrow.Author.Needs.{needs}
 use Rattle.own_keys.proofs.next_keys.Statement.{statement}

@@ -16,7 +16,7 @@ use Rattle.own_property.proofs.+get_own_property+proxy_exotic_get_own_p
 use Rattle.own_property.proofs.proxy_exotic_get_own_property.Reads as proxy-exotic-get-own-property
 use Rattle.own_property.proofs.proxy_exotic_get_own_property.Kinds as proxy-exotic-get-own-property-kinds
 use Rattle.own_property.proofs.+get_own_property+proxy_exotic_get_own_property.Lts-proxy_exotic_get_own_property as proxy-exotic-get-own-property-lts
-use Rattle.calls.proofs.next_descriptor.Reads as next-descriptor-reads
+use Rattle.answers.proofs.next_descriptor.Reads as next-descriptor-reads
 use Rattle.calls.proofs.enter.Reads as enter-reads
 use Rattle.calls.proofs.has_trap.Reads as has-trap-reads
 use Rattle.own_property_results.proofs.descriptor_result.Reads as descriptor-result-reads

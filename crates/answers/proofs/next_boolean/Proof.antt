@@ -3,42 +3,35 @@ use Rattle.text.specs.Table.{stringsOf}
 use mathlib.Core.Path.{sym, _∙_}
 use Rattle.internal_methods.specs.Monad.{pure, fails, next, _>>=_}
 use Rattle.internal_methods.specs.Answers.{askBoolean, askPrototype}
-use Rattle.calls.proofs.AnswerLaws.{same-boolean}
+use Rattle.answers.proofs.AnswerLaws.{same-boolean}
 use borrow.Author.Needs.{needs}
-use Rattle.calls.proofs.answers.next_boolean.Statement.{statement}
-use Rattle.calls.proofs.answers.next_boolean.Tie as tie
-use Rattle.calls.proofs.answers.next_boolean.Reads as reads
-use Rattle.calls.proofs.answers.next_boolean.Lts as lts
-use Rattle.calls.proofs.answers.next_value.Reads as next-value-reads
-use Rattle.calls.proofs.answers.text_length.Reads as text-length-reads
+use Rattle.answers.proofs.next_boolean.Statement.{statement}
+use Rattle.answers.proofs.next_boolean.Tie as tie
+use Rattle.answers.proofs.next_boolean.Reads as reads
+use Rattle.answers.proofs.next_boolean.Lts as lts
+use Rattle.answers.proofs.next_value.Reads as next-value-reads
+use Rattle.answers.proofs.text_length.Reads as text-length-reads
 use Rattle.conversions.proofs.to_boolean.Reads as to-boolean-reads
 
--- src/answers.rt:56:11
 next-value-requires : tie.Need-next-value-requires
 next-value-requires c κs = search needs
 
--- src/answers.rt:57:26
 enum-known-f : tie.Need-enum-known-f
 enum-known-f c = search needs
 
--- src/answers.rt:58:24
 enum-known-v : tie.Need-enum-known-v
 enum-known-v c = search needs
 
--- src/answers.rt:58:71
 text-length-requires : tie.Need-text-length-requires
 text-length-requires c κs = search needs
 
--- src/answers.rt:58:50
 to-boolean-requires : tie.Need-to-boolean-requires
 to-boolean-requires c κs = search needs
 
--- src/answers.rt:52:1
 returns : tie.Need-returns
 unfolding pure fails next _>>=_ askBoolean askPrototype
 returns c = rw (sym (c .before .before .before .next-value .ensures), c .before .f .given .1)
 
--- src/answers.rt:52:1
 returns-2 : tie.Need-returns-2
 unfolding pure fails next _>>=_ askBoolean askPrototype
 returns-2 c = rw (sym (c .before .before .before .before .before .next-value .ensures), c .before .before .before .v .given .1, c .to-boolean .ensures, c .before .text-length .ensures, same-boolean (stringsOf (now (c .before .before .before .before .before .before .before .before .args .strings))) (c .before .before .before .v .given .0 .0))

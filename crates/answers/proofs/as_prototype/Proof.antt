@@ -1,42 +1,35 @@
 use Rattle.calls.specs.Told.{stateOf}
 use mathlib.Core.Path.{sym, _∙_}
 use Rattle.internal_methods.specs.Monad.{pure, fails}
 use Rattle.internal_methods.specs.Answers.{asPrototype}
-use Rattle.calls.proofs.AnswerLaws.{no-prototype, no-descriptor}
+use Rattle.answers.proofs.AnswerLaws.{no-prototype, no-descriptor}
 use borrow.Author.Needs.{needs}
-use Rattle.calls.proofs.answers.as_prototype.Statement.{statement}
-use Rattle.calls.proofs.answers.as_prototype.Tie as tie
-use Rattle.calls.proofs.answers.as_prototype.Reads as reads
-use Rattle.calls.proofs.answers.as_prototype.Lts as lts
+use Rattle.answers.proofs.as_prototype.Statement.{statement}
+use Rattle.answers.proofs.as_prototype.Tie as tie
+use Rattle.answers.proofs.as_prototype.Reads as reads
+use Rattle.answers.proofs.as_prototype.Lts as lts
 
--- src/answers.rt:67:24
 enum-told : tie.Need-enum-told
 enum-told c = search needs
 
--- src/answers.rt:68:29
 enum-told-2 : tie.Need-enum-told-2
 enum-told-2 c = search needs
 
--- src/answers.rt:69:48
 enum-told-3 : tie.Need-enum-told-3
 enum-told-3 c = search needs
 
--- src/answers.rt:63:1
 returns : tie.Need-returns
 unfolding pure fails asPrototype
 returns c = λ bytes. rw (c .enum-told .given .1)
 
--- src/answers.rt:63:1
 returns-2 : tie.Need-returns-2
 unfolding pure fails asPrototype
 returns-2 c = λ bytes. rw (c .enum-told2 .given .1)
 
--- src/answers.rt:63:1
 returns-3 : tie.Need-returns-3
 unfolding pure fails asPrototype
 returns-3 c = λ bytes. rw (c .enum-told3 .given .1)
 
--- src/answers.rt:63:1
 returns-4 : tie.Need-returns-4
 unfolding pure fails asPrototype
 returns-4 c = λ bytes. no-prototype (stateOf bytes (c .before .args .s)) (c .before .args .v) (c .match .keys4)

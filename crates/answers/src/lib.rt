@@ -1,8 +1,8 @@
 // What each trap, getter and setter takes of the sheet. What cannot be read is refusal 9.
-use crate::BooleanOut;
-use crate::DescriptorOut;
-use crate::Progress;
-use crate::ValueOut;
+use calls::BooleanOut;
+use calls::DescriptorOut;
+use calls::Progress;
+use calls::ValueOut;
 use internal_methods::Failure;
 use sheet::NextAnswer;
 use value::Value;
@@ -12,10 +12,10 @@ ghost use Prim.Native.Nat.{ℕ, _<_};
 ghost use Rattle.text.specs.Table.{isTable, stringsOf};
 ghost use Rattle.internal_methods.specs.Answers.{askValue, askBoolean, askPrototype, askDescriptor, asPrototype, undefinedDescriptor};
 ghost use mathlib.Core.List.{List};
 ghost use Rattle.calls.specs.Told.{stateOf, afterAnswer, textLength, toldValue, toldBoolean, toldDescriptor};
 
 // Past the answer that ends at `end`.
-fn past(s: Progress, end: usize) -> Progress
+pub fn past(s: Progress, end: usize) -> Progress
     requires { ⌜ 0 < s .left ⌝ }
     ensures { λ r. ⌜ r ≡ afterAnswer s end ⌝ }
 {
