@@ -1,1 +1,2 @@
 pub mod KeyWordLaws
+pub mod MessageLaws

@@ -17,7 +17,7 @@ use Rattle.record.specs.Bytes.{byteAt}
 use Rattle.record.specs.Tests.{Counts, isKnown}
 use Rattle.record.specs.Sheet.{valuesAt, areValuesAt, keyCountAt, answerAt, answerEnd, answersAt, isBodyAt, isAnswerAt, areAnswersAt, sheetOf, isSheet, valuesPass, answerPasses, sheetPasses}
 use Rattle.key_bytes.specs.Keys.{greatest}
-use Rattle.own_keys.specs.Keys.{isListFit, areListsFit}
+use Rattle.key_answers.specs.Lists.{isListFit, areListsFit}
 
 both : (a b : Bool) → a ≡ true → b ≡ true → (a && b) ≡ true
 both a b e f = rw (e, f)

@@ -1,9 +1,9 @@
 // A step of [[OwnPropertyKeys]]: its keys stand at the output's start, 9 bytes each.
 use calls::Progress;
+use key_loading::KeyList;
+use key_loading::KeysOut;
 use lasting::Completion;
 use lasting::Report;
-use own_keys::KeyList;
-use own_keys::KeysOut;
 ghost use mathlib.Core.Path.{_≡_};
 ghost use mathlib.Core.Bool.{true};
 ghost use Prim.Native.Nat.{_<_, _≤_};
@@ -14,7 +14,8 @@ ghost use Rattle.store.specs.Words.{storeOf, worldOf};
 ghost use Rattle.internal_methods.specs.Monad.{done};
 ghost use Rattle.record.specs.Sheet.{sheetOf};
 ghost use Rattle.calls.specs.Told.{Readable, context, stateOf};
-ghost use Rattle.own_keys.specs.Keys.{listedKeys, Loadable, areListsFit};
+ghost use Rattle.key_answers.specs.Lists.{areListsFit};
+ghost use Rattle.key_loading.specs.Loading.{listedKeys, Loadable};
 ghost use Rattle.lasting.specs.Operation.{ownPropertyKeys};
 ghost use Rattle.lasting.specs.Perform.{perform, maximumCalls};
 ghost use Rattle.lasting.specs.Perform as result;
@@ -39,7 +40,7 @@ fn write_out(
     requires { ⌜ Readable (now words) (now strings) × ((0 < length (now sheet)) × (Loadable (now sheet) found × (256 ≤ length (now keys)))) ⌝ }
     ensures { λ r. ⌜ shown r (now (words .entry)) (now (strings .entry)) (now (output .exit)) ≡ shownBy (ended (worldOf (now (words .entry)) (now (strings .entry))) (sheetOf (now (sheet .entry))) (now (output .entry)) (done (result.keys (listedKeys (now (sheet .entry)) (stringsOf (now (strings .entry))) (storeOf (now (words .entry))) found), storeOf (now (words .entry))) (stateOf (now (sheet .entry)) s))) ⌝ }
 {
-    let n = own_keys::load_list(words, strings, sheet, found, keys);
+    let n = key_loading::load_list(words, strings, sheet, found, keys);
     if 9 * n <= output.len() {
         key_bytes::write_keys(keys, n, output);
         return reporting::completed(sheet, Completion::Keys(n as u64), s);

@@ -1,3 +1,1 @@
-pub mod ListLaws
-pub mod MarkLaws
 pub mod PartLaws

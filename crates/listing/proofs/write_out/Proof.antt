@@ -8,7 +8,7 @@ use Rattle.listing.proofs.write_out.Tie as tie
 use Rattle.listing.proofs.write_out.Reads as reads
 use Rattle.listing.proofs.write_out.Lts as lts
 use Rattle.key_bytes.proofs.write_keys.Reads as write-keys-reads
-use Rattle.own_keys.proofs.load_list.Reads as load-list-reads
+use Rattle.key_loading.proofs.load_list.Reads as load-list-reads
 use Rattle.reporting.proofs.completed.Reads as completed-reads
 use Rattle.reporting.proofs.refused.Reads as refused-reads
 
