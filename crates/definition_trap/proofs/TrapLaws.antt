@@ -8,7 +8,8 @@ use Rattle.property.specs.declared.OwnProperty.the-variants.{Absent, Present}
 use Rattle.internal_methods.specs.declared.Failure.the-variants.{TypeError}
 use Rattle.internal_methods.specs.Monad.{State, failed, done, pure, fails, next, _>>=_, throwIf}
 use Rattle.internal_methods.specs.Methods.{Context}
-use Rattle.definition_trap.specs.Define.{testedNew, tested, checkedDefinition, newMessage, testedMessage, definitionMessage}
+use Rattle.definition_trap.specs.Define.{testedNew, tested, checkedDefinition}
+use Rattle.definition_checks.specs.DefineMessages.{newMessage, testedMessage, definitionMessage}
 
 module _ (x : Context) (s : State) where
   new-passes : (a b : Bool) → newMessage a b ≡ 0 → testedNew x a b .run s ≡ done (true, x .store) s

@@ -1,7 +1,7 @@
 -- What defining a property asks, and 10.5.6 [[DefineOwnProperty]] ( P, Desc ) with a trap: the lines of
 -- `proxyDefineOwnProperty`, in parts. Assumes nothing.
 use Prim.Native.Nat.{ℕ, _<_, _≤_, _^_}
-use mathlib.Core.Bool.{Bool, true, false, not, _&&_, cond}
+use mathlib.Core.Bool.{Bool, true, false, not, _&&_}
 use mathlib.Core.Option.{Option, none, some}
 use mathlib.Core.List.{List}
 use Rattle.value.specs.declared.PropertyKey.{PropertyKey}
@@ -66,20 +66,3 @@ definedByTrap c call o k d = do
         targetDesc ← call .getOwnProperty o k  -- 10
         extensibleTarget ← call .isExtensible o  -- 11
         checkedDefinition c extensibleTarget d targetDesc
-
-abbrev pub newMessage : Bool → Bool → ℕ
-newMessage inextensible settingConfigFalse = cond inextensible 13 (cond settingConfigFalse 13 0)
-
-abbrev pub testedMessage : Bool → Bool → Bool → ℕ
-testedMessage incompatible unlikeTarget writableTarget = cond incompatible 14 (cond unlikeTarget 15 (cond writableTarget 16 0))
-
--- the TypeError of steps 14 and 15 by its number, and 0 where there is none
-unfoldable pub definitionMessage : Bool → PropertyDescriptor → OwnProperty → ℕ
-definitionMessage extensibleTarget d targetDesc = elim targetDesc [
-  | Absent ↦ newMessage (not extensibleTarget) (isFalse (d .configurable))  -- 14
-  | Present target ↦
-      testedMessage  -- 15
-      (not (isCompatible extensibleTarget d (Present target)))  -- 15.a
-      (isFalse (d .configurable) && configurable target)  -- 15.b
-      (not (configurable target) && (isWritable (Present target) && isFalse (writableField (d .kind))))  -- 15.c
-]

@@ -3,7 +3,7 @@ use native.Mathlib.Omega.{arith}
 use mathlib.Core.Path.{sym, _∙_}
 use Rattle.store.specs.Words.{worldOf}
 use Rattle.lasting.specs.Step.{countsOf}
-use Rattle.own_key_order.proofs.ListLaws.{few-strings}
+use Rattle.sorted_words.proofs.ListLaws.{few-strings}
 use Rattle.record_tests.proofs.PassedLaws.{step-formed, step-length, sheet-there, sheet-formed, sheet-known, key-fits, code-low, code-high}
 use Rattle.listing.proofs.FitLaws.{sheet-fits}
 use Rattle.reporting.proofs.EndLaws.{finished-words, kept-words}

@@ -1,9 +1,9 @@
 -- The tests in code, one by one, pick the definition's message. Assumes nothing.
 use mathlib.Core.Path.{sym, _∙_}
-use Rattle.definition_trap.specs.Define.{definitionMessage}
+use Rattle.definition_checks.specs.DefineMessages.{definitionMessage}
 use borrow.Author.Needs.{needs}
-use Rattle.definition_trap.proofs.definition_message.Statement.{statement}
-use Rattle.definition_trap.proofs.definition_message.Tie as tie
+use Rattle.definition_checks.proofs.definition_message.Statement.{statement}
+use Rattle.definition_checks.proofs.definition_message.Tie as tie
 
 returns : tie.Need-returns
 unfolding definitionMessage
