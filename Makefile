@@ -1,5 +1,5 @@
 # rt is Rattle's command: it proves the crates of crates.txt and runs their programs.
-.PHONY: run test bench vectors messages
+.PHONY: run test edits bench vectors messages
 
 # A day of steps and string entries over one store, a line for each.
 run:
@@ -10,6 +10,10 @@ run:
 test:
 	rt fmt --check
 	rt ci
+
+# The must-fail edits that the gate leaves out, of all crates or of CRATES="NAME NAME".
+edits:
+	tests/edits.sh $(CRATES)
 
 # The store beside a Vec of structs in Rust, and steps beside node, in ns: docs/BENCHMARKS.md. It needs rustc and node.
 bench:
