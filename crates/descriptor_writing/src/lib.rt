@@ -5,7 +5,8 @@ ghost use mathlib.Core.Path.{_≡_};
 ghost use Prim.Native.Nat.{_+_, _<_, _≤_};
 ghost use lib.ListN.{length};
 ghost use lib.Seq.{sets};
-ghost use Rattle.record.specs.Descriptor.{weight, maskOf, flagsOf, descriptorBytes};
+ghost use Rattle.value.specs.Bits.{weight};
+ghost use Rattle.record.specs.Descriptor.{maskOf, flagsOf, descriptorBytes};
 
 fn weight_of(used: bool, n: u64) -> u64
     ensures { λ r. ⌜ (r ≡ weight used n) × (r ≤ n) ⌝ }

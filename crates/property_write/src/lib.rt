@@ -6,8 +6,9 @@ ghost use mathlib.Core.Path.{_≡_};
 ghost use mathlib.Core.Bool.{true};
 ghost use Prim.Native.Nat.{_<_, _≤_};
 ghost use lib.ListN.{length};
+ghost use Rattle.value.specs.Bits.{weight};
 ghost use Rattle.store.specs.Store.{withProperty, withChange};
-ghost use Rattle.store.specs.Words.{storeSize, wordAt, weight, keyWord, storeOf, isStore, withRow, withNewRow};
+ghost use Rattle.store.specs.Words.{storeSize, wordAt, keyWord, storeOf, isStore, withRow, withNewRow};
 ghost use Rattle.store_write.specs.Write.{PropertyCells, FitsProperty, Joins, New, Becomes};
 
 fn weight(b: bool, n: u64) -> u64

@@ -7,7 +7,8 @@ use property::Property;
 use value::Value;
 ghost use mathlib.Core.Path.{_≡_};
 ghost use Prim.Native.Nat.{_≤_};
-ghost use Rattle.store.specs.Words.{weight, flagsOf, primary, secondary};
+ghost use Rattle.value.specs.Bits.{weight};
+ghost use Rattle.store.specs.Words.{flagsOf, primary, secondary};
 ghost use Rattle.lasting.specs.Response.{outcomeNumber, refusalOrMessage};
 ghost use Rattle.report_words.specs.ReportWords.{completionForm, completionDetail, completionFirst, completionSecond, outcomeForm, outcomeDetail, outcomeFirst, outcomeSecond, reportWords};
 

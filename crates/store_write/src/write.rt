@@ -7,8 +7,9 @@ ghost use mathlib.Core.Bool.{true};
 ghost use Prim.Native.Nat.{_<_, _≤_};
 ghost use lib.Dec.{eqb, ltb};
 ghost use lib.ListN.{length};
+ghost use Rattle.value.specs.Bits.{weight};
 ghost use Rattle.store.specs.Store.{empty, put, add};
-ghost use Rattle.store.specs.Words.{storeSize, wordAt, weight, storeOf, isStore, withObject, withNewObject};
+ghost use Rattle.store.specs.Words.{storeSize, wordAt, storeOf, isStore, withObject, withNewObject};
 ghost use Rattle.store_write.specs.Write.{ObjectCells, FitsObject, Becomes, emptied};
 
 // One change of the store. An object and an entry are given by their numbers.

@@ -8,7 +8,7 @@ use Rattle.internal_methods.specs.Monad.{pure, fails, next, _>>=_, throwIf, if_
 use Rattle.internal_methods.specs.Ordinary.{ordinaryGet}
 use Rattle.internal_methods.specs.Proxy.{hasTrap, proxyGet}
 use Rattle.calls.proofs.EnterLaws.{get-goes-on, ordinary-deep, proxy-deep}
-use Rattle.prototypes.proofs.ParentLaws.{is-object, is-no-object}
+use Rattle.value.proofs.Objects.{is-object, is-no-object}
 use Prim.Native.Nat.{ℕ, _<_}
 use borrow.Fn.Kinds.{In}
 use borrow.Fn.PlainCycle.{Measures, is, falls, and}

@@ -7,7 +7,7 @@ use Rattle.store.specs.Store.{lookup}
 use Rattle.store.specs.Words.{storeOf}
 use Rattle.internal_methods.specs.Ordinary.{reaches}
 use Rattle.calls.proofs.EnterLaws.{objectless, objectful}
-use Rattle.prototype_chain.proofs.ChainLaws.{not-object, is-object}
+use Rattle.value.proofs.Objects.{is-no-object, is-object}
 use borrow.Author.Needs.{needs}
 use Rattle.prototype_chain.proofs.next_link.Statement.{statement}
 use Rattle.prototype_chain.proofs.next_link.Tie as tie
@@ -42,7 +42,7 @@ enum-known-x-2 c = search needs
 
 returns-2 : tie.Need-returns-2
 unfolding reaches
-returns-2 c = λ n. rw (not-object (objectOf (c .before .before .before .before .args .v)) (sym (c .before .before .object-of .ensures) ∙ c .enum-told .given .1))
+returns-2 c = λ n. rw (is-no-object (objectOf (c .before .before .before .before .args .v)) (sym (c .before .before .object-of .ensures) ∙ c .enum-told .given .1))
 
 returns-3 : tie.Need-returns-3
 unfolding reaches

@@ -8,7 +8,7 @@ use Rattle.internal_methods.specs.Monad.{pure, fails, next, _>>=_, throwIf, if_
 use Rattle.internal_methods.specs.Ordinary.{ordinarySet}
 use Rattle.internal_methods.specs.Proxy.{hasTrap, proxySet}
 use Rattle.calls.proofs.EnterLaws.{set-goes-on, ordinary-deep, proxy-deep}
-use Rattle.prototypes.proofs.ParentLaws.{is-object, is-no-object}
+use Rattle.value.proofs.Objects.{is-object, is-no-object}
 use Rattle.setting.specs.Set.{setAccessor}
 use Rattle.setting_trap.specs.SetByTrap.{setByTrap}
 use Prim.Native.Nat.{ℕ, _<_}
