@@ -95,8 +95,8 @@ enum demnyaluz_code {
     DEMNYALUZ_CODE_GET_OWN_PROPERTY = 8,    /* object, key */
     DEMNYALUZ_CODE_DEFINE_OWN_PROPERTY = 9, /* object, key, descriptor */
     DEMNYALUZ_CODE_HAS_PROPERTY = 10,       /* object, key */
-    DEMNYALUZ_CODE_GET = 11,           /* object, key, receiver */
-    DEMNYALUZ_CODE_SET = 12,           /* object, key, value, receiver */
+    DEMNYALUZ_CODE_GET = 11,                /* object, key, receiver */
+    DEMNYALUZ_CODE_SET = 12,                /* object, key, value, receiver */
     DEMNYALUZ_CODE_DELETE = 13,             /* object, key */
     DEMNYALUZ_CODE_OWN_PROPERTY_KEYS = 14   /* object */
 };
@@ -151,16 +151,16 @@ enum demnyaluz_flag {
 };
 
 enum demnyaluz_refusal {
-    DEMNYALUZ_REFUSAL_MALFORMED_RECORD = 1,   /* a wrong length, code, kind, mask, count or boolean, or a nonzero unused or absent part */
+    DEMNYALUZ_REFUSAL_MALFORMED_RECORD = 1,    /* a wrong length, code, kind, mask, count or boolean, or a nonzero unused or absent part */
     DEMNYALUZ_REFUSAL_OBJECT_NEVER_MADE = 2,
-    DEMNYALUZ_REFUSAL_UNUSABLE_PART = 3,      /* a string not entered or too long, a number above 255, a kind that its step cannot use */
+    DEMNYALUZ_REFUSAL_UNUSABLE_PART = 3,       /* a string not entered or too long, a number above 255, a kind that its step cannot use */
     DEMNYALUZ_REFUSAL_UNUSABLE_DESCRIPTOR = 4, /* mixed, or its get or set neither undefined nor a function */
-    DEMNYALUZ_REFUSAL_INCOMPLETE_CURRENT = 5, /* the current descriptor is generic or lacks a field that its kind needs */
-    DEMNYALUZ_REFUSAL_DIFFERENT_KINDS = 6,    /* to be merged: one data, one accessor */
-    DEMNYALUZ_REFUSAL_STORE_FULL = 7,         /* a 33rd object, 257th property or 257th string */
+    DEMNYALUZ_REFUSAL_INCOMPLETE_CURRENT = 5,  /* the current descriptor is generic or lacks a field that its kind needs */
+    DEMNYALUZ_REFUSAL_DIFFERENT_KINDS = 6,     /* to be merged: one data, one accessor */
+    DEMNYALUZ_REFUSAL_STORE_FULL = 7,          /* a 33rd object, 257th property or 257th string */
     DEMNYALUZ_REFUSAL_SHEET_SPENT = 8,
     DEMNYALUZ_REFUSAL_UNREADABLE_ANSWER = 9,
-    DEMNYALUZ_REFUSAL_TOO_MANY_CALLS = 10,    /* a 2,049th */
+    DEMNYALUZ_REFUSAL_TOO_MANY_CALLS = 10,     /* a 2,049th */
     DEMNYALUZ_REFUSAL_OUTPUT_TOO_SMALL = 11
 };
 

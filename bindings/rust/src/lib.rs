@@ -24,6 +24,7 @@
 #![deny(missing_docs)]
 
 mod descriptor;
+pub mod notation;
 pub mod raw;
 mod report;
 mod step;

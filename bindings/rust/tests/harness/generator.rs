@@ -25,6 +25,8 @@ pub struct Habits {
     pub keys: usize,
     /// One object in so many is a proxy (1: all that can be).
     pub proxies: usize,
+    /// Of so many flags of a descriptor one is left out, one is true and the others are false.
+    pub flags: usize,
 }
 
 pub struct Generator {
@@ -35,7 +37,7 @@ pub struct Generator {
 impl Generator {
     pub fn new(seed: u64) -> Self {
         let mut random = Random::new(seed);
-        let habits = Habits { damage: random.pick(&[3, 8, 30, 1000]), wild: random.pick(&[3, 6, 12]), keys: random.pick(&[2, 4, 12, 200]), proxies: random.pick(&[1, 2, 3]) };
+        let habits = Habits { damage: random.pick(&[3, 8, 30, 1000]), wild: random.pick(&[3, 6, 12]), keys: random.pick(&[2, 4, 12, 200]), proxies: random.pick(&[1, 2, 3]), flags: random.pick(&[3, 4, 6]) };
         Generator { random, habits }
     }
 
@@ -65,6 +67,15 @@ impl Generator {
         }
     }
 
+    /// A key for a step on an object: often one that it has.
+    fn key_at(&mut self, world: &World, o: usize) -> Key {
+        let properties = &world.ordinary(world.base(o)).properties;
+        if properties.is_empty() || self.random.once_in(3) {
+            return self.key(world);
+        }
+        properties[self.random.below(properties.len())].0
+    }
+
     fn value(&mut self, world: &World) -> Value {
         match self.random.below(12) {
             0 => Value::Undefined,
@@ -86,7 +97,7 @@ impl Generator {
     }
 
     fn flag(&mut self) -> Option<bool> {
-        match self.random.below(3) {
+        match self.random.below(self.habits.flags) {
             0 => None,
             n => Some(n == 1),
         }
@@ -127,8 +138,8 @@ impl Generator {
                 6 if d.is_accessor() => d.set = Some(self.callable()),
                 5 | 6 => d.writable = Some(false),
                 7 if d.is_data() => d.value = Some(self.value(world)),
-                8 if self.random.once_in(4) => d.get = Some(self.value(world)),
-                9 if self.random.once_in(4) => d.set = Some(self.value(world)),
+                8 if self.random.once_in(2) => d.get = Some(self.value(world)),
+                9 if self.random.once_in(2) => d.set = Some(self.value(world)),
                 _ => {}
             }
         }
@@ -202,7 +213,7 @@ impl Generator {
         let object = if code == 1 { 0 } else { self.object(world) as usize };
         let mut step = Step { code, object, key: Value::Undefined, value: Value::Undefined, receiver: Value::Undefined, descriptor: Descriptor::default() };
         if (8..=13).contains(&code) {
-            step.key = self.key(world).value();
+            step.key = self.key_at(world, object).value();
         }
         match code {
             1 | 5 => {
