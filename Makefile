@@ -1,5 +1,5 @@
 # rt is Rattle's command: it proves the crates of crates.txt and runs their programs.
-.PHONY: run test bench vectors messages
+.PHONY: run test edits bench vectors messages lib bindings example fuzz c-test
 
 # A day of steps and string entries over one store, a line for each.
 run:
@@ -10,6 +10,10 @@ run:
 test:
 	rt fmt --check
 	rt ci
+
+# The must-fail edits that the gate leaves out, of all crates or of CRATES="NAME NAME".
+edits:
+	tests/edits.sh $(CRATES)
 
 # The store beside a Vec of structs in Rust, and steps beside node, in ns: docs/BENCHMARKS.md. It needs rustc and node.
 bench:
@@ -28,3 +32,28 @@ vectors:
 # The message table against boa_engine's source, which lies in the folder BOA.
 messages:
 	python3 tests/messages.py $(BOA)
+
+# The library for C and Rust: target/lib/libdemnyaluz.a, and include/demnyaluz.h says how it is called.
+lib:
+	rt staticlib demnyaluz
+	mkdir -p target/lib
+	cp target/staticlib/libdemnyaluz.a target/lib/libdemnyaluz.a
+
+# The library through its header, by a C program. It needs gcc.
+c-test: lib
+	gcc -Wall -Wextra -Werror -std=c11 -O1 -Iinclude -o target/lib/sealed tests/c/sealed.c target/lib/libdemnyaluz.a
+	target/lib/sealed
+
+# The Rust crate's tests, against a plain implementation. It needs cargo, and no network.
+bindings: lib
+	cd bindings/rust && cargo test --offline
+
+# The sealed 70,000 through the Rust crate.
+example: lib
+	cd bindings/rust && cargo run --quiet --offline --example sealed
+
+# A million random and mutated records and sheets through the C interface, each held against the plain implementation.
+COUNT = 1000000
+SEED = 1
+fuzz: lib
+	cd bindings/rust && cargo run --quiet --release --offline --example fuzz -- $(COUNT) $(SEED)

@@ -23,9 +23,10 @@ use Rattle.alone.specs.declared.DescriptorAnswer.{DescriptorAnswer}
 use Rattle.alone.specs.declared.DescriptorAnswer.the-variants as answer
 use Rattle.alone.specs.declared.Verdict.{Verdict}
 use Rattle.alone.specs.declared.Verdict.the-variants as verdict
-use Rattle.alone.specs.declared.Reading.{Reading}
-use Rattle.alone.specs.declared.Reading.the-variants.{Malformed, Record}
-use Rattle.alone.specs.Alone.{isRecord, readOf, later, laterOne, laterTwo, completed, validated, validatedAbsent, merged, mergedWith, completeAlone, validateAlone, mergeAlone}
+use Rattle.alone_records.specs.declared.Reading.{Reading}
+use Rattle.alone_records.specs.declared.Reading.the-variants.{Malformed, Record}
+use Rattle.alone.specs.Alone.{completed, validated, validatedAbsent, merged, mergedWith, completeAlone, validateAlone, mergeAlone}
+use Rattle.alone_records.specs.Records.{isRecord, readOf, later, laterOne, laterTwo}
 
 pub is-absent : (o : Option Property) (r : OwnProperty) → r ≡ ownProperty o → r ≡ Absent → o ≡ none
 is-absent none r e f = refl

@@ -1,4 +1,4 @@
-// A call of an internal method: how it begins, what it takes of the answer sheet, and how it ends.
+// A call of an internal method: how it begins, and how it ends.
 use internal_methods::Failure;
 use property::DescriptorObject;
 use property::OwnProperty;
@@ -7,13 +7,8 @@ use store::ProxyObject;
 use store_write::Write;
 use value::Value;
 
-mod answers;
 mod entry;
 
-pub use answers::next_boolean;
-pub use answers::next_descriptor;
-pub use answers::next_prototype;
-pub use answers::next_value;
 pub use entry::enter;
 pub use entry::has_trap;
 

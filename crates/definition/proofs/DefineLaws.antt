@@ -1,27 +1,21 @@
 -- What an ordinary object's definition writes. Assumes nothing.
-use Prim.Native.Nat.{ℕ, zero, suc, _-_, _<_, _≤_}
+use Prim.Native.Nat.{ℕ, zero, suc, _-_, _<_}
 use native.Mathlib.Omega.{arith}
 use mathlib.Core.Path.{_≡_, refl, sym, _∙_}
 use mathlib.Core.Bool.{Bool, true, false, false≢true}
 use mathlib.Core.Option.{Option, none, some}
-use mathlib.Core.List.{List, [], _∷_}
+use mathlib.Core.List.{List}
 use borrow.Author.Tests.{ltb-true, ltb-false}
 use lib.Dec.{ltb}
 use Rattle.value.specs.declared.PropertyKey.{PropertyKey}
-use Rattle.property.specs.declared.Property.{Property}
 use Rattle.property.specs.declared.OwnProperty.{OwnProperty}
 use Rattle.property.specs.declared.Validation.{Validation}
 use Rattle.store.specs.declared.OrdinaryObject.{OrdinaryObject}
 use Rattle.store.specs.declared.ProxyObject.{ProxyObject}
 use Rattle.store.specs.declared.Object.{Object}
 use Rattle.store.specs.declared.Object.the-variants.{Ordinary, Proxy}
-use Rattle.store.specs.declared.Entry.{Entry}
-use Rattle.store.specs.Store.{Store, lookup, isAt, own, withChange, withProperty}
+use Rattle.store.specs.Store.{lookup, own}
 use Rattle.store.specs.Words.{storeOf, isStore, wordAt}
-use Rattle.store.proofs.FindLaws.{First, first-replaced}
-use Rattle.store.proofs.FindLaws.First.{here, later}
-use Rattle.store_read.specs.declared.Place.the-variants.{At}
-use Rattle.store_read.specs.Answers.{firstPlace, findPlace}
 use Rattle.store_read.proofs.ReadLaws.{sized, lookup-missing}
 use Rattle.internal_methods.specs.Monad.{State, Out, done, M, pure}
 use Rattle.internal_methods.specs.Methods.{Context}
@@ -33,37 +27,7 @@ use Rattle.calls.specs.declared.Entered.{Entered}
 use Rattle.calls.specs.Entering.{entering, counting, found, progress}
 use Rattle.calls.specs.Told.{stateOf}
 use Rattle.calls.proofs.EnterLaws.{after, get-own-property-goes-on}
-use Rattle.definition.specs.Define.{isOrdinary}
-
--- what is found at a place is the first there
-first-here : (o : ℕ) (k : PropertyKey) (es : List Entry) (s i : ℕ) → firstPlace (λ (e : Entry). isAt e o k) s es ≡ At i
-    → (s ≤ i) × First o k es (i - s)
-unfolding firstPlace
-first-here o k [] s i h = let z : _≡_ {A = ℕ} 0 1 = cc in absurd (omega arith)
-first-here o k (e ∷ es) s i h = go (isAt e o k) refl (first-here o k es (suc s) i)
-  where
-    go : (b : Bool) → isAt e o k ≡ b → (firstPlace (λ (e : Entry). isAt e o k) (suc s) es ≡ At i → (suc s ≤ i) × First o k es (i - suc s))
-        → (s ≤ i) × First o k (e ∷ es) (i - s)
-    go true q ih =
-        let p : At s ≡ At i = rw q at h in
-        let z : s ≡ i = cc in
-        let y : i - s ≡ 0 = omega arith in
-        (omega arith, rw y (here q))
-    go false q ih =
-        let p : firstPlace (λ (e : Entry). isAt e o k) (suc s) es ≡ At i = rw q at h in
-        let (l, f) = ih p in
-        let y : i - s ≡ suc (i - suc s) = omega arith in
-        (omega arith, rw y (later q f))
-
--- a change at the place is the property written
-pub place-changed : (σ : Store) (o : ℕ) (k : PropertyKey) (i : ℕ) (p : Property) → findPlace (σ .properties) o k ≡ At i
-    → withChange σ i p ≡ withProperty σ o k p
-unfolding findPlace withChange withProperty
-place-changed σ o k i p h =
-    let (l, f) = first-here o k (σ .properties) 0 i h in
-    let y : i - 0 ≡ i = omega arith in
-    let g : First o k (σ .properties) i = rw y at f in
-    rw (first-replaced o k (σ .properties) i p g)
+use Rattle.definition_trap.specs.Define.{isOrdinary}
 
 pub ordinary-known : (x : Option Object) (r : OrdinaryObject) → x ≡ some (Ordinary r) → isOrdinary x ≡ true
 ordinary-known x r e = rw e

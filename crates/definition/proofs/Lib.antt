@@ -1,2 +1,1 @@
 pub mod DefineLaws
-pub mod TrapLaws

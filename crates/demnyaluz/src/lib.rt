@@ -1,11 +1,21 @@
 // The interface for C and Rust to link. A report is ten words (crates/report_words). No function has a condition on what it is lent.
 ghost use mathlib.Core.Path.{_≡_};
+ghost use mathlib.Core.Bool.{true};
+ghost use mathlib.Core.List.{[]};
+ghost use lib.Dec.{eqb};
+ghost use lib.ListN.{length};
+ghost use Rattle.text.specs.Table.{tableSize, stringsOf, isTable};
 ghost use Rattle.text.specs.Answers.{enterCells, cellsAfter};
-ghost use Rattle.store.specs.Store.{Store};
-ghost use Rattle.store.specs.Words.{worldOf};
+ghost use Rattle.store.specs.Store.{Store, empty};
+ghost use Rattle.store.specs.Words.{storeSize, storeOf, isStore, worldOf};
+ghost use Rattle.store_write.specs.Write as store_writes;
+ghost use Rattle.text.specs.Answers as table_answers;
 ghost use Rattle.lasting.specs.Response.{reportOf};
 ghost use Rattle.report_words.specs.ReportWords.{reportWords};
 ghost use Rattle.reporting.specs.Memory.{stepOver, enterOver, WordsAfter};
+ghost use Rattle.descriptor_entries.specs.Entries.{completeOver, validateOver, mergeOver, verdictReport, isAccepted};
+ghost use Rattle.internal_methods.specs.Messages.{messageText};
+ghost use Rattle.message_writing.specs.Written.{written};
 
 // One step.
 #[no_mangle]
@@ -32,4 +42,79 @@ pub extern "C" fn demnyaluz_enter_string(strings: &mut [u16], units: &[u16], rep
     ensures cells { λ _. ⌜ now (strings .exit) ≡ cellsAfter (now (strings .entry)) (now (units .entry)) (enterCells (now (strings .entry)) (now (units .entry))) ⌝ }
 {
     *report = report_words::report_words(step::enter_string(strings, units));
+}
+
+// A descriptor is completed by itself.
+#[no_mangle]
+pub extern "C" fn demnyaluz_complete(
+    words: &[u64],
+    strings: &[u16],
+    bytes: &[u8],
+    report: &mut [u64; 10],
+)
+    ensures reported { λ _. ⌜ now (report .exit) ≡ reportWords (completeOver (now (words .entry)) (now (strings .entry)) (now (bytes .entry))) ⌝ }
+{
+    *report = report_words::report_words(descriptor_entries::complete(words, strings, bytes));
+}
+
+// A descriptor is validated by itself over a current one, or none: yes or no, and a report of the property after it.
+#[no_mangle]
+pub extern "C" fn demnyaluz_validate(
+    words: &[u64],
+    strings: &[u16],
+    extensible: bool,
+    bytes: &[u8],
+    current: &[u8],
+    report: &mut [u64; 10],
+) -> bool
+    ensures accepted { λ r. ⌜ r ≡ isAccepted (validateOver (now (words .entry)) (now (strings .entry)) extensible (now (bytes .entry)) (now (current .entry))) ⌝ }
+    ensures reported { λ _. ⌜ now (report .exit) ≡ reportWords (verdictReport (validateOver (now (words .entry)) (now (strings .entry)) extensible (now (bytes .entry)) (now (current .entry)))) ⌝ }
+{
+    let verdict = descriptor_entries::validate(words, strings, extensible, bytes, current);
+    *report = report_words::report_words(descriptor_entries::verdict_report(verdict));
+    descriptor_entries::is_accepted(verdict)
+}
+
+// A descriptor is merged into a current one by itself.
+#[no_mangle]
+pub extern "C" fn demnyaluz_merge(
+    words: &[u64],
+    strings: &[u16],
+    current: &[u8],
+    bytes: &[u8],
+    report: &mut [u64; 10],
+)
+    ensures reported { λ _. ⌜ now (report .exit) ≡ reportWords (mergeOver (now (words .entry)) (now (strings .entry)) (now (current .entry)) (now (bytes .entry))) ⌝ }
+{
+    *report = report_words::report_words(descriptor_entries::merge(words, strings, current, bytes));
+}
+
+// The text of message n, where it fits, and its length.
+#[no_mangle]
+pub extern "C" fn demnyaluz_message(n: u64, text: &mut [u8]) -> u64
+    ensures size { λ r. ⌜ r ≡ length (messageText n) ⌝ }
+    ensures after { λ _. ⌜ now (text .exit) ≡ written (messageText n) (now (text .entry)) ⌝ }
+{
+    message_writing::write_message(n, text)
+}
+
+// Words of the right length become an empty store; others are left.
+#[no_mangle]
+pub extern "C" fn demnyaluz_empty_store(words: &mut [u64]) -> bool
+    ensures answer { λ r. ⌜ r ≡ eqb (length (now (words .entry))) storeSize ⌝ }
+    ensures after { λ _. ⌜ now (words .exit) ≡ store_writes.emptied (now (words .entry)) ⌝ }
+    ensures empty { λ r. ⌜ (r ≡ true → (storeOf (now (words .exit)) ≡ empty .store) × (isStore (now (words .exit)) ≡ true)) ⌝ }
+{
+    store_write::make_empty(words)
+}
+
+// Cells of the right length become an empty table of strings; others are left.
+#[no_mangle]
+pub extern "C" fn demnyaluz_empty_strings(strings: &mut [u16]) -> bool
+    ensures answer { λ r. ⌜ r ≡ eqb (length (now (strings .entry))) tableSize ⌝ }
+    ensures after { λ _. ⌜ now (strings .exit) ≡ table_answers.emptied (now (strings .entry)) ⌝ }
+    ensures empty { λ r. ⌜ (r ≡ true → stringsOf (now (strings .exit)) ≡ []) ⌝ }
+    ensures table { λ r. ⌜ (r ≡ true → isTable (now (strings .exit)) ≡ true) ⌝ }
+{
+    text::make_empty(strings)
 }

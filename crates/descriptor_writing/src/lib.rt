@@ -5,13 +5,7 @@ ghost use mathlib.Core.Path.{_≡_};
 ghost use Prim.Native.Nat.{_+_, _<_, _≤_};
 ghost use lib.ListN.{length};
 ghost use lib.Seq.{sets};
-ghost use Rattle.record.specs.Descriptor.{weight, maskOf, flagsOf, descriptorBytes};
-
-fn weight_of(used: bool, n: u64) -> u64
-    ensures { λ r. ⌜ (r ≡ weight used n) × (r ≤ n) ⌝ }
-{
-    if used { n } else { 0 }
-}
+ghost use Rattle.record.specs.Descriptor.{maskOf, flagsOf, descriptorBytes};
 
 fn mask_of(d: DescriptorObject) -> u64
     ensures { λ r. ⌜ (r ≡ maskOf d) × (r < 64) ⌝ }
@@ -22,12 +16,12 @@ fn mask_of(d: DescriptorObject) -> u64
     let value = d.value;
     let get = d.get;
     let set = d.set;
-    weight_of(flags::has_flag(enumerable), 1)
-        + weight_of(flags::has_flag(configurable), 2)
-        + weight_of(flags::has_flag(writable), 4)
-        + weight_of(fields::has_field(value), 8)
-        + weight_of(fields::has_field(get), 16)
-        + weight_of(fields::has_field(set), 32)
+    bits::weight(flags::has_flag(enumerable), 1)
+        + bits::weight(flags::has_flag(configurable), 2)
+        + bits::weight(flags::has_flag(writable), 4)
+        + bits::weight(fields::has_field(value), 8)
+        + bits::weight(fields::has_field(get), 16)
+        + bits::weight(fields::has_field(set), 32)
 }
 
 fn flags_of(d: DescriptorObject) -> u64
@@ -36,9 +30,9 @@ fn flags_of(d: DescriptorObject) -> u64
     let enumerable = d.enumerable;
     let configurable = d.configurable;
     let writable = d.writable;
-    weight_of(flags::is_true(enumerable), 1)
-        + weight_of(flags::is_true(configurable), 2)
-        + weight_of(flags::is_true(writable), 4)
+    bits::weight(flags::is_true(enumerable), 1)
+        + bits::weight(flags::is_true(configurable), 2)
+        + bits::weight(flags::is_true(writable), 4)
 }
 
 // The 29 bytes of d from `at` on; all others stay.

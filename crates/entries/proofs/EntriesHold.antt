@@ -1,24 +1,24 @@
 -- Demands 1 and 3 of every list of calls of the entries, from empty memory. Assumes nothing.
-use Prim.Native.Nat.{ℕ, zero, suc}
+use Prim.Native.Nat.{ℕ}
 use mathlib.Core.Path.{_≡_, refl, sym, ap, _∙_, subst}
-use mathlib.Core.Bool.{Bool, true, false, _&&_}
+use mathlib.Core.Bool.{true}
 use mathlib.Core.List.{List, [], _∷_, map}
 use lib.ListN.{length}
-use Rattle.value.proofs.Bools.{and-true}
+use Rattle.value.proofs.Bools.{and-true, and-both}
 use Rattle.text.specs.Table.{isTable, stringsOf}
-use Rattle.store.specs.Store.{Store, World, empty}
+use Rattle.store.specs.Store.{World, empty}
 use Rattle.store.specs.Words.{isStore, storeOf, worldOf}
 use Rattle.lasting.specs.declared.Outcome.{Outcome}
 use Rattle.lasting.specs.declared.Outcome.the-variants.{Refused, Result, TypeError, Thrown}
 use Rattle.lasting.specs.declared.Report.{Report}
 use Rattle.lasting.specs.Response.{Effect, reportOf}
-use Rattle.lasting.specs.Run.{Call, Event, effect, runFrom, run, worldFrom}
+use Rattle.lasting.specs.Run.{Call, effect, runFrom, run, worldFrom}
 use Rattle.lasting.specs.Run as call
 use Rattle.lasting.specs.Refusals.{StepDecided}
 use Rattle.lasting.proofs.LastingHolds.{lasting}
 use Rattle.lasting.proofs.FurtherHold.{further}
 use Rattle.lasting.proofs.Decided.{step-decided}
-use Rattle.reporting.specs.Memory.{Shown, shown, shownBy, isMemory, stepOver, shownEntry, enterOver, WordsAfter}
+use Rattle.reporting.specs.Memory.{Shown, shownBy, isMemory, stepOver, enterOver, WordsAfter}
 use Rattle.entries.specs.Entries.{Memory, Called, stepped, entered, Calls, none, more, reported, Kept}
 
 abbrev world : Memory → World
@@ -36,9 +36,6 @@ still (Result c) before after h w = w .kept
 still (TypeError n) before after h w = rw w h
 still (Thrown v) before after h w = rw w h
 
-both : (a b : Bool) → a ≡ true → b ≡ true → (a && b) ≡ true
-both a b e f = rw (e, f)
-
 over : (m : Memory) (bytes sheet output : List ℕ) → isMemory (m .words) (m .cells) ≡ true
     → stepOver (m .words) (m .cells) bytes sheet output ≡ effect (world m) (call.step bytes sheet output)
 unfolding stepOver effect
@@ -53,11 +50,11 @@ unfolding isMemory
 does m h (stepped bytes sheet output r after out q w) =
     let p = and-true (isStore (m .words)) (isTable (m .cells)) h in
     let s = q ∙ ap (λ (e : Effect). shownBy e) (over m bytes sheet output h) in
-    record { report = ap (λ (x : Shown). x .report) s; after = ap (λ (x : Shown). x .world) s; memory = both _ _ (still (r .outcome) (m .words) after (p .0) w) (p .1) }
+    record { report = ap (λ (x : Shown). x .report) s; after = ap (λ (x : Shown). x .world) s; memory = and-both _ _ (still (r .outcome) (m .words) after (p .0) w) (p .1) }
 does m h (entered units r after q t) =
     let p = and-true (isStore (m .words)) (isTable (m .cells)) h in
     let s = q (storeOf (m .words)) ∙ ap (λ (e : Effect). shownBy e) (over-entry m units (p .1)) in
-    record { report = ap (λ (x : Shown). x .report) s; after = ap (λ (x : Shown). x .world) s; memory = both _ _ (p .0) (t ∙ p .1) }
+    record { report = ap (λ (x : Shown). x .report) s; after = ap (λ (x : Shown). x .world) s; memory = and-both _ _ (p .0) (t ∙ p .1) }
 
 record Follows (m : Memory) (cs : List Call) (rs : List Report) (n : Memory) : Type 0 where
   reports : rs ≡ map reported (runFrom (world m) cs)

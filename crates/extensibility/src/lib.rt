@@ -62,7 +62,7 @@ fn proxy_exotic_is_extensible(
 {
     let target = p.target;
     if calls::has_trap(p, 4) {
-        match calls::next_boolean(strings, sheet, s) {
+        match answers::next_boolean(strings, sheet, s) {
             BooleanOut::Failed(f, t) => BooleanOut::Failed(f, t), // 7
             BooleanOut::Done(answer, t) => {
                 match is_extensible(words, strings, allowance, sheet, target, depth, t) {

@@ -3,7 +3,6 @@ use calls::Entered;
 use calls::OwnPropertyOut;
 use calls::Progress;
 use calls::ValueOut;
-use internal_methods::Failure;
 use property::OwnProperty;
 use property::Property;
 use store::ProxyObject;
@@ -11,56 +10,10 @@ use value::ObjectResult;
 use value::PropertyKey;
 use value::Value;
 ghost use mathlib.Core.Path.{_≡_};
-ghost use mathlib.Core.Bool.{true};
 ghost use Rattle.internal_methods.specs.Ordinary.{ordinaryGet};
-ghost use Rattle.internal_methods.specs.Proxy.{hasTrap, proxyGet};
+ghost use Rattle.internal_methods.specs.Proxy.{proxyGet};
 ghost use Rattle.internal_methods.specs.Internal.{methods};
 ghost use Rattle.calls.specs.Told.{Readable, context, stateOf, toldValue};
-
-// 10.5.8 from step 7 on, where the trap is there.
-fn get_trap(
-    words: &[u64],
-    strings: &[u16],
-    allowance: usize,
-    sheet: &[u8],
-    p: ProxyObject,
-    key: PropertyKey,
-    receiver: Value,
-    depth: usize,
-    s: Progress,
-) -> ValueOut
-    requires { ⌜ Readable (now words) (now strings) ⌝ }
-    requires { ⌜ hasTrap p 7 ≡ true ⌝ }
-    ensures { λ r. ⌜ toldValue (now (sheet .entry)) r ≡ proxyGet (methods depth (context (now (words .entry)) (now (strings .entry)) allowance)) p key receiver .run (stateOf (now (sheet .entry)) s) ⌝ }
-{
-    let target = p.target;
-    match calls::next_value(sheet, s) {
-        ValueOut::Failed(f, t) => ValueOut::Failed(f, t), // 7
-        ValueOut::Done(answer, t) => {
-            match own_property::get_own_property(
-                words,
-                strings,
-                allowance,
-                sheet,
-                target,
-                key,
-                depth,
-                t,
-            ) {
-                OwnPropertyOut::Failed(f, u) => ValueOut::Failed(f, u), // 8
-                OwnPropertyOut::Done(own, u) => {
-                    if target_checks::fixes_other(own, answer) {
-                        return ValueOut::Failed(Failure::TypeError(17), u); // 9.a
-                    }
-                    if target_checks::lacks_getter(own, answer) {
-                        return ValueOut::Failed(Failure::TypeError(18), u); // 9.b
-                    }
-                    ValueOut::Done(answer, u) // 10
-                }
-            }
-        }
-    }
-}
 
 // O.[[Get]](P, Receiver)
 pub fn get(
@@ -165,7 +118,7 @@ fn ordinary_get(
                             if conversions::is_undefined(getter) {
                                 ValueOut::Done(Value::Undefined, t) // 6
                             } else {
-                                calls::next_value(sheet, t) // 7
+                                answers::next_value(sheet, t) // 7
                             }
                         }
                     }
@@ -192,7 +145,7 @@ fn proxy_exotic_get(
 {
     let target = p.target;
     if calls::has_trap(p, 128) {
-        get_trap(words, strings, allowance, sheet, p, key, receiver, depth, s)
+        getting_trap::get_trap(words, strings, allowance, sheet, p, key, receiver, depth, s)
     } else {
         get(
             words,

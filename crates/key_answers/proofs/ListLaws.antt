@@ -2,7 +2,7 @@
 use Prim.Native.Nat.{ℕ, zero, suc, _+_, _*_, _≤_}
 use native.Mathlib.Omega.{arith}
 use mathlib.Core.Path.{_≡_, refl, sym, ap}
-use mathlib.Core.Bool.{Bool, true, false, _&&_, false≢true}
+use mathlib.Core.Bool.{true, false, false≢true}
 use mathlib.Core.Option.{Option, none, some}
 use mathlib.Core.List.{List, [], _∷_}
 use lib.Dec.{leb}
@@ -10,6 +10,7 @@ use lib.ListN.{length}
 use borrow.Author.Tests.{leb-true}
 use types.Run.{OneOf, miss}
 use denote.Enum.Declared.{tagOf}
+use Rattle.value.proofs.Bools.{and-true}
 use Rattle.value.proofs.Value.{the-type}
 use Rattle.value.specs.declared.Value.{Value}
 use Rattle.value.specs.declared.Value.the-variants.{Undefined, Null, Boolean, Integer32, Float64, String, Symbol, Object, Function}
@@ -28,16 +29,11 @@ use Rattle.sheet.specs.Next.{Next}
 use Rattle.key_bytes.specs.Keys.{keysHeld, greatest}
 use Rattle.key_answers.specs.Lists.{LoadableAt, isListFit, areListsFit}
 
-both : (a b : Bool) → (a && b) ≡ true → (a ≡ true) × (b ≡ true)
-both true true h = (refl, refl)
-both true false h = absurd (false≢true h)
-both false b h = absurd (false≢true h)
-
 -- what is left of fit lists is fit
 pub fit-suffix : {a b : List Answer} → Suffix a b → areListsFit b ≡ true → areListsFit a ≡ true
 unfolding areListsFit
 fit-suffix same h = h
-fit-suffix (more {x = x} {b = b} s) h = fit-suffix s (both (isListFit x) (areListsFit b) h .1)
+fit-suffix (more {x = x} {b = b} s) h = fit-suffix s (and-true (isListFit x) (areListsFit b) h .1)
 
 length-values : (bytes : List ℕ) (i n : ℕ) → length (valuesAt bytes i n) ≡ n
 unfolding valuesAt
@@ -50,11 +46,11 @@ module _ (bytes : List ℕ) (at left : ℕ) (r : NextAnswer) (h : Next bytes at 
 
   list-fit : areListsFit (answersAt bytes at left) ≡ true → isListFit (keys (valuesAt bytes first n)) ≡ true
   unfolding areListsFit
-  list-fit f = both (isListFit (keys (valuesAt bytes first n))) _ (rw (h .tells, e) at f) .0
+  list-fit f = and-true (isListFit (keys (valuesAt bytes first n))) _ (rw (h .tells, e) at f) .0
 
   pub loadable : areListsFit (answersAt bytes at left) ≡ true → isSome (keysOf (valuesAt bytes first n)) ≡ true → LoadableAt bytes first n
   loadable f k =
-      let (few, known) = both (leb (length (valuesAt bytes first n)) 256) (valuesPass (isKnown greatest) (valuesAt bytes first n)) (list-fit f) in
+      let (few, known) = and-true (leb (length (valuesAt bytes first n)) 256) (valuesPass (isKnown greatest) (valuesAt bytes first n)) (list-fit f) in
       record {
         within = keys-within;
         few = omega (arith, leb-true (length (valuesAt bytes first n)) 256 few, length-values bytes first n);

@@ -5,29 +5,16 @@ use sheet::NextAnswer;
 use value::Value;
 ghost use mathlib.Core.Path.{_≡_};
 ghost use mathlib.Core.Bool.{true};
-ghost use Prim.Native.Nat.{_<_};
 ghost use Rattle.internal_methods.specs.Monad.{State, failed};
 ghost use Rattle.internal_methods.specs.Answers.{unlisted, askKeys};
 ghost use Rattle.record.specs.Sheet.{answersAt};
-ghost use Rattle.calls.specs.Told.{stateOf, afterAnswer};
+ghost use Rattle.calls.specs.Told.{stateOf};
 ghost use Rattle.key_answers.specs.Lists.{areListsFit, toldAnswered, LoadableAnswer};
 
 // The list that a trap answered, by the place of its first value and its count.
 pub enum AnsweredOut {
     Failed(Failure, Progress),
     Done(usize, usize, Progress),
-}
-
-// Past the answer that ends at `end`.
-fn past(s: Progress, end: usize) -> Progress
-    requires { ⌜ 0 < s .left ⌝ }
-    ensures { λ r. ⌜ r ≡ afterAnswer s end ⌝ }
-{
-    Progress {
-        at: end,
-        left: s.left - 1,
-        calls: s.calls,
-    }
 }
 
 // 10.5.11 step 8: a value is no list.
@@ -49,15 +36,21 @@ pub fn next_keys(sheet: &[u8], s: Progress) -> AnsweredOut
 {
     match sheet::next_answer(sheet, s.at, s.left) {
         NextAnswer::NoAnswer => AnsweredOut::Failed(Failure::Refused(8), s),
-        NextAnswer::Value(v, end) => AnsweredOut::Failed(unlisted_failure(v), past(s, end)),
-        NextAnswer::Descriptor(_, end) => AnsweredOut::Failed(Failure::Refused(9), past(s, end)),
+        NextAnswer::Value(v, end) => AnsweredOut::Failed(
+            unlisted_failure(v),
+            answers::past(s, end),
+        ),
+        NextAnswer::Descriptor(_, end) => AnsweredOut::Failed(
+            Failure::Refused(9),
+            answers::past(s, end),
+        ),
         NextAnswer::Keys(first, n, end) => {
             if key_bytes::are_keys(sheet, first, n) {
-                AnsweredOut::Done(first, n, past(s, end))
+                AnsweredOut::Done(first, n, answers::past(s, end))
             } else {
-                AnsweredOut::Failed(Failure::TypeError(30), past(s, end))
+                AnsweredOut::Failed(Failure::TypeError(30), answers::past(s, end))
             }
         }
-        NextAnswer::Throw(v, end) => AnsweredOut::Failed(Failure::Thrown(v), past(s, end)),
+        NextAnswer::Throw(v, end) => AnsweredOut::Failed(Failure::Thrown(v), answers::past(s, end)),
     }
 }

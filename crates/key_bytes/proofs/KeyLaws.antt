@@ -24,7 +24,7 @@ use Rattle.record.specs.Step.{isSome}
 use Rattle.record.specs.Sheet.{valuesAt, valuesPass}
 use Rattle.byte_numbers.proofs.ByteLaws.{length-value}
 use Rattle.store_read.specs.Answers.{keyFromWord, Listed}
-use Rattle.own_key_order.proofs.ListLaws.{Listing, listing-start, listing-more, listing-end}
+use Rattle.sorted_words.proofs.ListLaws.{Listing, listing-start, listing-more, listing-end}
 use Rattle.lasting.specs.Step.{keysBytes}
 use Rattle.key_bytes.specs.Keys.{keysHeld, greatest}
 

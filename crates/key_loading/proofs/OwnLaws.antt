@@ -10,7 +10,7 @@ use Rattle.store.specs.Words.{isStore, storeOf}
 use Rattle.store.specs.OwnKeys.{ordinaryOwnPropertyKeys}
 use Rattle.store_read.specs.Answers.{Listed}
 use Rattle.store_read.proofs.ReadLaws.{sized}
-use Rattle.own_key_order.proofs.ListLaws.{listed-length, length-ascending, classes-fit, ordered-keys}
+use Rattle.sorted_words.proofs.ListLaws.{listed-length, length-ascending, classes-fit, ordered-keys}
 
 -- a store has no more properties
 own-few : (strings : Strings) (words : List ℕ) (o : ℕ) → isStore words ≡ true → length (ordinaryOwnPropertyKeys strings (storeOf words) o) ≤ 256

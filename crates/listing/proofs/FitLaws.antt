@@ -1,26 +1,20 @@
 -- A sheet that passes its tests has key lists that can be loaded. Assumes nothing.
 use Prim.Native.Nat.{ℕ, zero, suc, _+_, _≤_}
 use native.Mathlib.Omega.{arith}
-use mathlib.Core.Path.{_≡_, refl, sym, ap, _∙_}
+use mathlib.Core.Path.{_≡_, refl, ap}
 use mathlib.Core.Bool.{Bool, true, false, _&&_}
 use mathlib.Core.List.{List, [], _∷_}
 use lib.Dec.{eqb, leb, ltb}
 use lib.ListN.{length}
 use borrow.Author.Tests.{ltb-true, lt-ltb}
-use Rattle.value.proofs.Bools.{and-true}
+use Rattle.value.proofs.Bools.{and-true, and-both}
 use Rattle.value.specs.declared.Value.{Value}
 use Rattle.value.specs.declared.Value.the-variants.{Undefined, Null, Boolean, Integer32, Float64, String, Symbol, Object, Function}
-use Rattle.value.specs.Words.{pick}
-use Rattle.internal_methods.specs.Monad.{Answer}
-use Rattle.internal_methods.specs.Monad as answer
 use Rattle.record.specs.Bytes.{byteAt}
 use Rattle.record.specs.Tests.{Counts, isKnown}
 use Rattle.record.specs.Sheet.{valuesAt, areValuesAt, keyCountAt, answerAt, answerEnd, answersAt, isBodyAt, isAnswerAt, areAnswersAt, sheetOf, isSheet, valuesPass, answerPasses, sheetPasses}
 use Rattle.key_bytes.specs.Keys.{greatest}
 use Rattle.key_answers.specs.Lists.{isListFit, areListsFit}
-
-both : (a b : Bool) → a ≡ true → b ≡ true → (a && b) ≡ true
-both a b e f = rw (e, f)
 
 module _ (n : Counts) (h : n .strings ≤ 256) where
   known-widens : (v : Value) → isKnown n v ≡ true → isKnown greatest v ≡ true
@@ -38,7 +32,7 @@ module _ (n : Counts) (h : n .strings ≤ 256) where
   values-widen : (vs : List Value) → valuesPass (isKnown n) vs ≡ true → valuesPass (isKnown greatest) vs ≡ true
   unfolding valuesPass
   values-widen [] e = refl
-  values-widen (v ∷ vs) e = let p = and-true (isKnown n v) (valuesPass (isKnown n) vs) e in both _ _ (known-widens v (p .0)) (values-widen vs (p .1))
+  values-widen (v ∷ vs) e = let p = and-true (isKnown n v) (valuesPass (isKnown n) vs) e in and-both _ _ (known-widens v (p .0)) (values-widen vs (p .1))
 
   length-values : (b : List ℕ) (i m : ℕ) → length (valuesAt b i m) ≡ m
   unfolding valuesAt
@@ -55,7 +49,7 @@ module _ (n : Counts) (h : n .strings ≤ 256) where
       let body : (leb (keyCountAt b i) 256 && areValuesAt b (i + 3) (keyCountAt b i)) ≡ true = rw (p, q, r) at e in
       let pass : valuesPass (isKnown n) (valuesAt b (i + 3) (keyCountAt b i)) ≡ true = rw (p, q, r) at f in
       let few : leb (length (valuesAt b (i + 3) (keyCountAt b i))) 256 ≡ true = rw (length-values b (i + 3) (keyCountAt b i)) (and-true (leb (keyCountAt b i) 256) _ body .0) in
-      rw (p, q, r) (both (leb (length (valuesAt b (i + 3) (keyCountAt b i))) 256) (valuesPass (isKnown greatest) (valuesAt b (i + 3) (keyCountAt b i))) few (values-widen (valuesAt b (i + 3) (keyCountAt b i)) pass))
+      rw (p, q, r) (and-both (leb (length (valuesAt b (i + 3) (keyCountAt b i))) 256) (valuesPass (isKnown greatest) (valuesAt b (i + 3) (keyCountAt b i))) few (values-widen (valuesAt b (i + 3) (keyCountAt b i)) pass))
   tagged b i false false false p q r e f = rw (p, q, r)
 
   lists-fit : (b : List ℕ) (i m : ℕ) → areAnswersAt b i m ≡ true → sheetPasses (isKnown n) (answersAt b i m) ≡ true → areListsFit (answersAt b i m) ≡ true
@@ -66,7 +60,7 @@ module _ (n : Counts) (h : n .strings ≤ 256) where
       let w = and-true (leb (answerEnd b i) (length b)) (isBodyAt b i) (a .0) in
       let g : (answerPasses (isKnown n) (answerAt b i) && sheetPasses (isKnown n) (answersAt b (answerEnd b i) m)) ≡ true = rw (w .0) at f in
       let k = and-true (answerPasses (isKnown n) (answerAt b i)) (sheetPasses (isKnown n) (answersAt b (answerEnd b i) m)) g in
-      rw (w .0) (both (isListFit (answerAt b i)) (areListsFit (answersAt b (answerEnd b i) m)) (tagged b i (eqb (byteAt b i) 1) (eqb (byteAt b i) 2) (eqb (byteAt b i) 3) refl refl refl (w .1) (k .0)) (lists-fit b (answerEnd b i) m (a .1) (k .1)))
+      rw (w .0) (and-both (isListFit (answerAt b i)) (areListsFit (answersAt b (answerEnd b i) m)) (tagged b i (eqb (byteAt b i) 1) (eqb (byteAt b i) 2) (eqb (byteAt b i) 3) refl refl refl (w .1) (k .0)) (lists-fit b (answerEnd b i) m (a .1) (k .1)))
 
   pub sheet-fits : (sheet : List ℕ) → isSheet sheet ≡ true → sheetPasses (isKnown n) (sheetOf sheet) ≡ true → areListsFit (sheetOf sheet) ≡ true
   unfolding sheetOf isSheet

@@ -9,7 +9,7 @@ use borrow.Author.Tests.{le-leb, lt-leb}
 use Rattle.value.specs.declared.PropertyKey.{PropertyKey}
 use Rattle.store.specs.Words.{storeOf, worldOf}
 use Rattle.store_read.specs.Answers.{keyFromWord, Listed}
-use Rattle.own_key_order.proofs.ListLaws.{listed-length}
+use Rattle.sorted_words.proofs.ListLaws.{listed-length}
 use Rattle.internal_methods.specs.declared.Failure.{Failure}
 use Rattle.internal_methods.specs.Monad.{Answer, State, failed, done, pure, next, _>>=_}
 use Rattle.internal_methods.specs.Methods.{Context}

@@ -1,7 +1,7 @@
 -- The operations that make no calls, as the definitions have them. Assumes nothing.
-use Prim.Native.Nat.{ℕ, _<_}
+use Prim.Native.Nat.{ℕ}
 use native.Mathlib.Omega.{arith}
-use mathlib.Core.Path.{_≡_, refl, sym, _∙_}
+use mathlib.Core.Path.{_≡_, refl}
 use mathlib.Core.Bool.{Bool, true, false, cond}
 use mathlib.Core.Option.{Option, none, some}
 use mathlib.Core.List.{List, [], _∷_}
@@ -13,7 +13,6 @@ use lib.Signed.{ltZ, nonNeg}
 use mir.Syntax.{w32, w64}
 use mir.Val.{SFits, Fits, ofZ, toZ}
 use mir.ValLaws.{toZ-ofZ}
-use borrow.Author.Tests.{ltb-false}
 use Rattle.value.proofs.Value.{the-type}
 use lib.Dec.{T, ltb}
 use lib.ListN.{length}
@@ -22,7 +21,7 @@ use Rattle.value.specs.declared.Value.the-variants as value
 use Rattle.store.specs.declared.Object.{Object}
 use Rattle.store.specs.declared.Object.the-variants.{Ordinary, Proxy}
 use Rattle.store.specs.Store.{Store, lookup, add, maximumObjects}
-use Rattle.internal_methods.specs.Monad.{State, done, pure, fails, if_then_else_}
+use Rattle.internal_methods.specs.Monad.{done, pure, fails, if_then_else_}
 use Rattle.internal_methods.specs.Methods.{Context}
 use Rattle.calls.specs.declared.Progress.{Progress}
 use Rattle.calls.specs.Told.{stateOf}
@@ -34,9 +33,9 @@ use Rattle.store_write.specs.declared.write.Write.the-variants as write
 use Rattle.internal_methods.specs.declared.Failure.the-variants.{Refused}
 use Rattle.making.specs.declared.Performed.the-variants.{Failed, Done}
 use Rattle.making.specs.Performed.{toldPerformed, makeOut, makeObjectOut, makeProxyOut, revokeOut, revocation}
-use Rattle.store.specs.Words.{storeOf, isStore, wordAt}
+use Rattle.store.specs.Words.{storeOf, isStore}
 use Rattle.store_write.specs.Write.{fitsIn}
-use Rattle.store_read.proofs.ReadLaws.{lookup-missing}
+use Rattle.store_read.proofs.ReadLaws.{lookup-below}
 
 module _ (sheet : List ℕ) (s : Progress) where
   making : (σ : Store) (x : Object) (b : Bool)
@@ -101,14 +100,6 @@ no-mask (value.Symbol s) h = refl
 no-mask (value.Object o) h = refl
 no-mask (value.Function f) h = refl
 
--- an object of the store stands below the count
-pub object-below : (words : List ℕ) (o : ℕ) (x : Object) → lookup (storeOf words) o ≡ some x → o < wordAt words 0
-object-below words o x e = go (ltb o (wordAt words 0)) refl
-  where
-    go : (b : Bool) → ltb o (wordAt words 0) ≡ b → o < wordAt words 0
-    go true q = ltb-true o (wordAt words 0) q
-    go false q = let z : none ≡ some x = sym (lookup-missing words o (ltb-false o (wordAt words 0) q)) ∙ e in let y : _≡_ {A = ℕ} 0 1 = cc in absurd (omega arith)
-
 pub revocation-fits : (words : List ℕ) (o : ℕ) (x : Object) → isStore words ≡ true → lookup (storeOf words) o ≡ some x → fitsIn (revocation o x) words
 revocation-fits words o (Ordinary r) s e = record { store = s; bounds = tt }
-revocation-fits words o (Proxy p) s e = record { store = s; bounds = object-below words o (Proxy p) e }
+revocation-fits words o (Proxy p) s e = record { store = s; bounds = lookup-below words o (Proxy p) e }

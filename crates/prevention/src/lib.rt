@@ -44,7 +44,7 @@ fn prevent_extensions_trap(
     ensures { λ r. ⌜ Fitting (now (words .entry)) r ⌝ }
 {
     let target = p.target;
-    match calls::next_boolean(strings, sheet, s) {
+    match answers::next_boolean(strings, sheet, s) {
         BooleanOut::Failed(f, t) => WriteOut::Failed(f, t), // 7
         BooleanOut::Done(answer, t) => {
             if answer {

@@ -4,17 +4,11 @@ use store_write::PropertyWords;
 use value::PropertyKey;
 ghost use mathlib.Core.Path.{_≡_};
 ghost use mathlib.Core.Bool.{true};
-ghost use Prim.Native.Nat.{_<_, _≤_};
+ghost use Prim.Native.Nat.{_<_};
 ghost use lib.ListN.{length};
 ghost use Rattle.store.specs.Store.{withProperty, withChange};
-ghost use Rattle.store.specs.Words.{storeSize, wordAt, weight, keyWord, storeOf, isStore, withRow, withNewRow};
+ghost use Rattle.store.specs.Words.{storeSize, wordAt, keyWord, storeOf, isStore, withRow, withNewRow};
 ghost use Rattle.store_write.specs.Write.{PropertyCells, FitsProperty, Joins, New, Becomes};
-
-fn weight(b: bool, n: u64) -> u64
-    ensures { λ r. ⌜ (r ≡ weight b n) × (r ≤ n) ⌝ }
-{
-    if b { n } else { 0 }
-}
 
 pub fn key_word(o: u64, k: PropertyKey) -> u64
     requires { ⌜ Joins o k ⌝ }
@@ -33,7 +27,7 @@ fn property_words(p: Property) -> PropertyWords
         Property::Data(v, w, e, c) => {
             let a = encoding::words_of(v);
             PropertyWords {
-                flags: weight(w, 2) + weight(e, 4) + weight(c, 8),
+                flags: bits::weight(w, 2) + bits::weight(e, 4) + bits::weight(c, 8),
                 kind: a.kind,
                 payload: a.payload,
                 second_kind: 0,
@@ -44,7 +38,7 @@ fn property_words(p: Property) -> PropertyWords
             let a = encoding::words_of(g);
             let b = encoding::words_of(s);
             PropertyWords {
-                flags: 1 + weight(e, 4) + weight(c, 8),
+                flags: 1 + bits::weight(e, 4) + bits::weight(c, 8),
                 kind: a.kind,
                 payload: a.payload,
                 second_kind: b.kind,

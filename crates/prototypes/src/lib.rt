@@ -57,7 +57,7 @@ fn proxy_exotic_get_prototype_of(
 {
     let target = p.target;
     if calls::has_trap(p, 1) {
-        match calls::next_prototype(sheet, s) {
+        match answers::next_prototype(sheet, s) {
             ValueOut::Failed(f, t) => ValueOut::Failed(f, t), // 7, 8
             ValueOut::Done(answer, t) => {
                 match extensibility::is_extensible(

@@ -15,10 +15,11 @@ use mir.Syntax.{w32}
 use mir.Val.{SFits, ofZ}
 use mir.Facts.{fits-ofZ, toZ-ofZ}
 use borrow.Author.Tests.{le-leb, lt-ltb, eq-eqb}
+use Rattle.value.specs.Bits.{bit, weight}
 use Rattle.value.specs.declared.Value.{Value}
 use Rattle.value.specs.declared.Value.the-variants.{Undefined, Null, Boolean, Integer32, Float64, String, Symbol, Object, Function}
 use Rattle.value.specs.Words.{kindOf, payloadOf, valueOf, isFormed}
-use Rattle.value.proofs.Bools.{and-true, beq-eq}
+use Rattle.value.proofs.Bools.{and-true, and-both, beq-eq}
 use Rattle.property.specs.declared.Flag.{Flag}
 use Rattle.property.specs.declared.Flag.the-variants as flag
 use Rattle.property.specs.declared.Field.{Field}
@@ -27,8 +28,8 @@ use Rattle.property.specs.declared.DescriptorObject.{DescriptorObject}
 use Rattle.property.specs.Fields.{has, hasFlag, isTrue, orElse}
 use Rattle.internal_methods.specs.Monad.{Answer, value, descriptor, keys, throw}
 use Rattle.record.specs.declared.Step.{Step}
-use Rattle.record.specs.Bytes.{byteAt, numberAt, bytesOf, areZero, bit, valueAt, isValueAt, valueBytes, isPartAt}
-use Rattle.record.specs.Descriptor.{flagOf, fieldOf, descriptorAt, isDescriptorAt, weight, maskOf, flagsOf, descriptorBytes}
+use Rattle.record.specs.Bytes.{byteAt, numberAt, bytesOf, areZero, valueAt, isValueAt, valueBytes, isPartAt}
+use Rattle.record.specs.Descriptor.{flagOf, fieldOf, descriptorAt, isDescriptorAt, maskOf, flagsOf, descriptorBytes}
 use Rattle.record.specs.Step.{stepOf, stepBytes}
 use Rattle.record.specs.Sheet.{valuesAt, areValuesAt, keyCountAt, answerAt, answerEnd, isAnswerAt, answersAt, areAnswersAt, sheetOf, isSheet, valuesBytes, answerBytes, answersBytes, sheetBytes}
 
@@ -167,10 +168,6 @@ every test = test true && test false
 every-passes : (test : Bool → Bool) → every test ≡ true → (b : Bool) → test b ≡ true
 every-passes test h true = and-true (test true) (test false) h .0
 every-passes test h false = and-true (test true) (test false) h .1
-
-and-both : (a b : Bool) → a ≡ true → b ≡ true → (a && b) ≡ true
-and-both true b e f = f
-and-both false b e f = e
 
 abbrev mask : Bool → Bool → Bool → Bool → Bool → Bool → ℕ
 mask a b c d e f = weight a 1 + weight b 2 + weight c 4 + weight d 8 + weight e 16 + weight f 32

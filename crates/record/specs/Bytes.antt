@@ -1,7 +1,7 @@
 -- Numbers and values in bytes, little-endian: document 01, "A step arrives". Assumes nothing.
-use Prim.Native.Nat.{ℕ, zero, suc, _+_, _*_, _/_, _%_, _^_}
-use mathlib.Core.Bool.{Bool, true, false, _&&_, cond}
-use mathlib.Core.List.{List, [], _∷_, _++_}
+use Prim.Native.Nat.{ℕ, zero, suc, _+_, _*_, _/_, _%_}
+use mathlib.Core.Bool.{Bool, true, _&&_, cond}
+use mathlib.Core.List.{List, [], _∷_}
 use lib.Dec.{eqb}
 use lib.ListN.{getD}
 use Rattle.value.specs.declared.Value.{Value}
@@ -24,9 +24,6 @@ bytesOf (suc n) x = x % 256 ∷ bytesOf n (x / 256)
 unfoldable pub areZero : List ℕ → ℕ → ℕ → Bool
 areZero bytes i zero = true
 areZero bytes i (suc n) = eqb (byteAt bytes i) 0 && areZero bytes (suc i) n
-
-abbrev pub bit : ℕ → ℕ → Bool
-bit n i = eqb (n / 2 ^ i % 2) 1
 
 -- a value is 9 bytes: a kind, then an 8-byte payload
 abbrev pub valueSize : ℕ

@@ -1,8 +1,9 @@
 -- A descriptor is 29 bytes: a presence mask, a byte of booleans, then value, get and set. Assumes nothing.
-use Prim.Native.Nat.{ℕ, _+_, _*_}
-use mathlib.Core.Bool.{Bool, true, false, not, _&&_, _||_, cond}
-use mathlib.Core.List.{List, [], _∷_, _++_}
+use Prim.Native.Nat.{ℕ, _+_}
+use mathlib.Core.Bool.{Bool, true, false, not, _&&_, _||_}
+use mathlib.Core.List.{List, _∷_, _++_}
 use lib.Dec.{ltb}
+use Rattle.value.specs.Bits.{bit, weight}
 use Rattle.value.specs.declared.Value.the-variants.{Undefined}
 use Rattle.property.specs.declared.Flag.{Flag}
 use Rattle.property.specs.declared.Flag.the-variants as flag
@@ -10,7 +11,7 @@ use Rattle.property.specs.declared.Field.{Field}
 use Rattle.property.specs.declared.Field.the-variants as field
 use Rattle.property.specs.declared.DescriptorObject.{DescriptorObject}
 use Rattle.property.specs.Fields.{has, hasFlag, isTrue, orElse}
-use Rattle.record.specs.Bytes.{byteAt, bit, areZero, valueAt, isPartAt, valueBytes}
+use Rattle.record.specs.Bytes.{byteAt, valueAt, isPartAt, valueBytes}
 
 abbrev pub descriptorSize : ℕ
 descriptorSize = 29
@@ -52,10 +53,6 @@ isDescriptorAt bytes i =
     && (ltb (byteAt bytes (i + 1)) 8
     && (areFlagsFormed (byteAt bytes i) (byteAt bytes (i + 1))
     && arePartsFormed (byteAt bytes i) bytes i))
-
-abbrev pub weight : Bool → ℕ → ℕ
-weight true n = n
-weight false n = 0
 
 -- the presence mask, and the byte of booleans
 abbrev pub maskOf : DescriptorObject → ℕ

@@ -2,7 +2,6 @@
 use record::Counts;
 use record::Refusal;
 use record::Step;
-use step_record::steps;
 use store::Object;
 use store_read::ObjectFound;
 use text::StringCount;
@@ -56,8 +55,8 @@ fn step_refusal(words: &[u64], n: Counts, s: Step) -> Refusal
     ensures { λ r. ⌜ r ≡ refusal (firstFailing (stepTests (isProxy (lookup (storeOf (now (words .entry))) (s .object))) n s)) ⌝ }
 {
     let d = s.descriptor;
-    if steps::are_objects_made(n, s) {
-        if steps::are_kinds_usable(is_proxy(words, s.object), n, s) {
+    if step_record::are_objects_made(n, s) {
+        if step_record::are_kinds_usable(is_proxy(words, s.object), n, s) {
             if value_tests::is_descriptor(d) {
                 return Refusal::Passed;
             }
@@ -89,7 +88,7 @@ pub fn record_refusal(words: &[u64], strings: &[u16], bytes: &[u8], sheet: &[u8]
     requires { ⌜ (isStore (now words) ≡ true) × (isTable (now strings) ≡ true) ⌝ }
     ensures { λ r. ⌜ r ≡ refusal (firstFailing (recordTests (worldOf (now (words .entry)) (now (strings .entry))) (now (bytes .entry)) (now (sheet .entry)))) ⌝ }
 {
-    if steps::is_step(bytes) {
+    if step_form::is_step(bytes) {
         let n = counts_of(words, strings);
         let first = step_refusal(words, n, step_reading::step_of(bytes));
         match first {

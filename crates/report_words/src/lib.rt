@@ -6,23 +6,16 @@ use lasting::Report;
 use property::Property;
 use value::Value;
 ghost use mathlib.Core.Path.{_≡_};
-ghost use Prim.Native.Nat.{_≤_};
-ghost use Rattle.store.specs.Words.{weight, flagsOf, primary, secondary};
+ghost use Rattle.store.specs.Words.{flagsOf, primary, secondary};
 ghost use Rattle.lasting.specs.Response.{outcomeNumber, refusalOrMessage};
 ghost use Rattle.report_words.specs.ReportWords.{completionForm, completionDetail, completionFirst, completionSecond, outcomeForm, outcomeDetail, outcomeFirst, outcomeSecond, reportWords};
-
-fn weight(b: bool, n: u64) -> u64
-    ensures { λ r. ⌜ (r ≡ weight b n) × (r ≤ n) ⌝ }
-{
-    if b { n } else { 0 }
-}
 
 fn flags_of(p: Property) -> u64
     ensures { λ r. ⌜ r ≡ flagsOf p ⌝ }
 {
     match p {
-        Property::Data(_, w, e, c) => weight(w, 2) + weight(e, 4) + weight(c, 8),
-        Property::Accessor(_, _, e, c) => 1 + weight(e, 4) + weight(c, 8),
+        Property::Data(_, w, e, c) => bits::weight(w, 2) + bits::weight(e, 4) + bits::weight(c, 8),
+        Property::Accessor(_, _, e, c) => 1 + bits::weight(e, 4) + bits::weight(c, 8),
     }
 }
 

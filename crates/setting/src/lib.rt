@@ -1,17 +1,11 @@
 // 10.1.9 and 10.5.9 [[Set]].
-use calls::BooleanOut;
 use calls::Entered;
 use calls::OwnPropertyOut;
 use calls::Progress;
 use calls::ValueOut;
 use calls::WriteOut;
-use internal_methods::Failure;
-use property::DescriptorKind;
-use property::Field;
-use property::Flag;
 use property::OwnProperty;
 use property::Property;
-use property::PropertyDescriptor;
 use store::ProxyObject;
 use store_write::Write;
 use value::ObjectResult;
@@ -23,90 +17,12 @@ ghost use mathlib.Core.List.{List};
 ghost use Prim.Native.Nat.{ℕ};
 ghost use Rattle.store.specs.Store.{Store};
 ghost use Rattle.store.specs.Words.{isStore, storeOf};
-ghost use Rattle.internal_methods.specs.Ordinary.{valueDescriptor, setOnReceiver, setData, ordinarySet};
+ghost use Rattle.internal_methods.specs.Ordinary.{setData, ordinarySet};
 ghost use Rattle.internal_methods.specs.Proxy.{proxySet};
 ghost use Rattle.internal_methods.specs.Internal.{methods};
 ghost use Rattle.calls.specs.Told.{context, stateOf, toldWrite, Fitting};
-ghost use Rattle.definition.specs.Define.{Definable};
-ghost use Rattle.setting.specs.Set.{setAccessor, setByTrap};
-
-// { [[Value]]: V }
-fn value_descriptor(v: Value) -> PropertyDescriptor
-    ensures { λ r. ⌜ r ≡ valueDescriptor v ⌝ }
-{
-    PropertyDescriptor {
-        enumerable: Flag::Absent,
-        configurable: Flag::Absent,
-        kind: DescriptorKind::Data(Field::Present(v), Flag::Absent),
-    }
-}
-
-// 10.1.9.2 steps 2.c to 2.e, on a receiver that is an object
-fn set_on_receiver(
-    words: &[u64],
-    strings: &[u16],
-    allowance: usize,
-    sheet: &[u8],
-    key: PropertyKey,
-    v: Value,
-    receiver: u64,
-    depth: usize,
-    s: Progress,
-) -> WriteOut
-    requires { ⌜ Definable (now words) (now strings) allowance key ⌝ }
-    ensures { λ r. ⌜ toldWrite (now (sheet .entry)) (storeOf (now (words .entry))) r ≡ setOnReceiver (context (now (words .entry)) (now (strings .entry)) allowance) (methods depth (context (now (words .entry)) (now (strings .entry)) allowance)) key v receiver .run (stateOf (now (sheet .entry)) s) ⌝ }
-    ensures { λ r. ⌜ Fitting (now (words .entry)) r ⌝ }
-{
-    match own_property::get_own_property(
-        words,
-        strings,
-        allowance,
-        sheet,
-        receiver,
-        key,
-        depth,
-        s,
-    ) {
-        OwnPropertyOut::Failed(f, t) => WriteOut::Failed(f, t), // 2.c
-        OwnPropertyOut::Done(existing, t) => match existing {
-            OwnProperty::Present(p) => match p {
-                Property::Accessor(_, _, _, _) => WriteOut::Done(false, Write::Nothing, t), // 2.d.i
-                Property::Data(_, writable, _, _) => {
-                    if writable {
-                        let d = value_descriptor(v); // 2.d.iii
-                        definition::define_own_property(
-                            words,
-                            strings,
-                            allowance,
-                            sheet,
-                            receiver,
-                            key,
-                            d,
-                            depth,
-                            t,
-                        ) // 2.d.iv
-                    } else {
-                        WriteOut::Done(false, Write::Nothing, t) // 2.d.ii
-                    }
-                }
-            },
-            OwnProperty::Absent => {
-                let d = completion::descriptor_of(Property::Data(v, true, true, true)); // 2.e, 7.3.5 CreateDataProperty
-                definition::define_own_property(
-                    words,
-                    strings,
-                    allowance,
-                    sheet,
-                    receiver,
-                    key,
-                    d,
-                    depth,
-                    t,
-                )
-            }
-        },
-    }
-}
+ghost use Rattle.definition_trap.specs.Define.{Definable};
+ghost use Rattle.setting.specs.Set.{setAccessor};
 
 // 10.1.9.2 step 2
 fn set_data(
@@ -128,7 +44,17 @@ fn set_data(
     if writable {
         match conversions::object_of(receiver) {
             ObjectResult::Object(o) => {
-                set_on_receiver(words, strings, allowance, sheet, key, v, o, depth, s) // 2.c to 2.e
+                receiver_setting::set_on_receiver(
+                    words,
+                    strings,
+                    allowance,
+                    sheet,
+                    key,
+                    v,
+                    o,
+                    depth,
+                    s,
+                ) // 2.c to 2.e
             }
             ObjectResult::NotObject => WriteOut::Done(false, Write::Nothing, s), // 2.b
         }
@@ -145,57 +71,9 @@ fn set_accessor(sheet: &[u8], setter: Value, s: Progress) -> WriteOut
     if conversions::is_undefined(setter) {
         WriteOut::Done(false, Write::Nothing, s) // 5
     } else {
-        match calls::next_value(sheet, s) {
+        match answers::next_value(sheet, s) {
             ValueOut::Failed(f, t) => WriteOut::Failed(f, t), // 6
             ValueOut::Done(_, t) => WriteOut::Done(true, Write::Nothing, t), // 7
-        }
-    }
-}
-
-// 10.5.9 steps 7 to 11
-fn set_trap(
-    words: &[u64],
-    strings: &[u16],
-    allowance: usize,
-    sheet: &[u8],
-    target: u64,
-    key: PropertyKey,
-    v: Value,
-    depth: usize,
-    s: Progress,
-) -> WriteOut
-    requires { ⌜ Definable (now words) (now strings) allowance key ⌝ }
-    ensures { λ r. ⌜ toldWrite (now (sheet .entry)) (storeOf (now (words .entry))) r ≡ setByTrap (context (now (words .entry)) (now (strings .entry)) allowance) (methods depth (context (now (words .entry)) (now (strings .entry)) allowance)) target key v .run (stateOf (now (sheet .entry)) s) ⌝ }
-    ensures { λ r. ⌜ Fitting (now (words .entry)) r ⌝ }
-{
-    match calls::next_boolean(strings, sheet, s) {
-        BooleanOut::Failed(f, t) => WriteOut::Failed(f, t), // 7
-        BooleanOut::Done(answer, t) => {
-            if answer {
-                match own_property::get_own_property(
-                    words,
-                    strings,
-                    allowance,
-                    sheet,
-                    target,
-                    key,
-                    depth,
-                    t,
-                ) {
-                    OwnPropertyOut::Failed(f, u) => WriteOut::Failed(f, u), // 9
-                    OwnPropertyOut::Done(own, u) => {
-                        if target_checks::fixes_other(own, v) {
-                            return WriteOut::Failed(Failure::TypeError(19), u); // 10.a
-                        }
-                        if target_checks::lacks_setter(own) {
-                            return WriteOut::Failed(Failure::TypeError(20), u); // 10.b
-                        }
-                        WriteOut::Done(true, Write::Nothing, u) // 11
-                    }
-                }
-            } else {
-                WriteOut::Done(false, Write::Nothing, t) // 8
-            }
         }
     }
 }
@@ -345,7 +223,7 @@ fn proxy_exotic_set(
 {
     let target = p.target;
     if calls::has_trap(p, 256) {
-        set_trap(words, strings, allowance, sheet, target, key, v, depth, s) // 7 to 11
+        setting_trap::set_trap(words, strings, allowance, sheet, target, key, v, depth, s) // 7 to 11
     } else {
         set(
             words,

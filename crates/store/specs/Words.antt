@@ -1,9 +1,10 @@
 -- The store in lent words: two counts, 32 objects of 3 words, 256 key words, then 256 properties of 5 words. Assumes nothing.
-use Prim.Native.Nat.{ℕ, zero, suc, _+_, _*_, _/_, _%_, _^_}
+use Prim.Native.Nat.{ℕ, zero, suc, _+_, _*_, _/_, _%_}
 use mathlib.Core.Bool.{Bool, true, false, not, _&&_, cond}
-use mathlib.Core.List.{List, [], _∷_}
+use mathlib.Core.List.{List}
 use lib.Dec.{eqb, leb}
 use lib.ListN.{length, getD, set}
+use Rattle.value.specs.Bits.{bit, weight}
 use Rattle.value.specs.declared.Value.{Value}
 use Rattle.value.specs.declared.Value.the-variants.{Undefined}
 use Rattle.value.specs.declared.PropertyKey.{PropertyKey}
@@ -71,16 +72,9 @@ ownerOf word = word % 32
 unfoldable pub keyOf : ℕ → PropertyKey
 keyOf word = pick (eqb (word / 32 % 2) 0) (String (word / 64)) (Symbol (word / 64))
 
-abbrev pub flag : ℕ → ℕ → Bool
-flag flags i = eqb (flags / 2 ^ i % 2) 1
-
 -- flags: accessor 1, writable 2, enumerable 4, configurable 8
 unfoldable pub propertyOf : ℕ → Value → Value → Property
-propertyOf flags a b = pick (flag flags 0) (Accessor a b (flag flags 2) (flag flags 3)) (Data a (flag flags 1) (flag flags 2) (flag flags 3))
-
-abbrev pub weight : Bool → ℕ → ℕ
-weight true n = n
-weight false n = 0
+propertyOf flags a b = pick (bit flags 0) (Accessor a b (bit flags 2) (bit flags 3)) (Data a (bit flags 1) (bit flags 2) (bit flags 3))
 
 abbrev pub flagsOf : Property → ℕ
 flagsOf (Data v w e c) = weight w 2 + weight e 4 + weight c 8

@@ -1,17 +1,13 @@
 // The store for C and Rust to link. A key is a word: string s is 2 s, and symbol s is 2 s + 1. Each function tests what
 // it is lent; where it refuses, it changes nothing and answers 257.
-ghost use mathlib.Core.Path.{_≡_};
-ghost use mathlib.Core.Bool.{true};
-ghost use Rattle.store.specs.Words.{isStore};
-ghost use Rattle.store_export.specs.Export.{placeNumber, isJoined, isNew, isListable, isAddable, isRemovable, rowProperty, findAnswer, listed, listAnswer, added, addAnswer, removed, removeAnswer};
 use property::Property;
 use store_read::Place;
+ghost use mathlib.Core.Path.{_≡_};
+ghost use Rattle.export_tests.specs.Export.{placeNumber, rowProperty, findAnswer, listed, listAnswer, added, addAnswer, removed, removeAnswer};
 
 const NOWHERE: u64 = 256;
 
 const REFUSED: u64 = 257;
-
-const NUMBERS: u64 = 288230376151711744;
 
 fn place_number(place: Place) -> u64
     ensures { λ r. ⌜ r ≡ placeNumber place ⌝ }
@@ -34,63 +30,17 @@ pub extern "C" fn store_find(words: &[u64], o: u64, key: u64) -> u64
     }
 }
 
-fn is_listable(words: &[u64], strings: &[u16], size: usize) -> bool
-    ensures { λ r. ⌜ r ≡ isListable (now (words .entry)) (now (strings .entry)) size ⌝ }
-{
-    if store_read::is_store(words) {
-        if text::is_table(strings) {
-            return 256 <= size;
-        }
-        return false;
-    }
-    false
-}
-
 // Lists the own keys of an object, and answers how many they are. It asks for room for 256.
 #[no_mangle]
 pub extern "C" fn store_own_keys(words: &[u64], strings: &[u16], o: u64, out: &mut [u64]) -> u64
     ensures { λ r. ⌜ r ≡ listAnswer (now (words .entry)) (now (strings .entry)) o (now (out .entry)) ⌝ }
     ensures { λ _. ⌜ now (out .exit) ≡ listed (now (words .entry)) (now (strings .entry)) o (now (out .entry)) ⌝ }
 {
-    if is_listable(words, strings, out.len()) {
+    if export_tests::is_listable(words, strings, out.len()) {
         own_key_order::list_own_keys(words, strings, o, out) as u64
     } else {
         REFUSED
     }
-}
-
-fn is_joined(o: u64, key: u64) -> bool
-    ensures { λ r. ⌜ r ≡ isJoined o key ⌝ }
-{
-    if o < 32 {
-        return key / 2 < NUMBERS;
-    }
-    false
-}
-
-fn is_new(words: &[u64], o: u64, key: u64) -> bool
-    requires { ⌜ isStore (now words) ≡ true ⌝ }
-    ensures { λ r. ⌜ r ≡ isNew (now (words .entry)) o key ⌝ }
-{
-    match property_read::find(words, o, store_read::key_from_word(key)) {
-        Place::At(_) => false,
-        Place::Nothing => true,
-    }
-}
-
-fn is_addable(words: &[u64], o: u64, key: u64) -> bool
-    ensures { λ r. ⌜ r ≡ isAddable (now (words .entry)) o key ⌝ }
-{
-    if store_read::is_store(words) {
-        if words[1] < 256 {
-            if is_joined(o, key) {
-                return is_new(words, o, key);
-            }
-            return false;
-        }
-        return false;
-    }
-    false
 }
 
 // The property of five words: flags, kind and payload of the value or getter, kind and payload of the setter.
@@ -117,21 +67,12 @@ pub extern "C" fn store_append(words: &mut [u64], o: u64, key: u64, row: &[u64; 
     ensures { λ r. ⌜ r ≡ addAnswer (now (words .entry)) o key (now (row .entry)) ⌝ }
     ensures { λ _. ⌜ now (words .exit) ≡ added (now (words .entry)) o key (now (row .entry)) ⌝ }
 {
-    if is_addable(words, o, key) {
+    if export_tests::is_addable(words, o, key) {
         property_write::add_property(words, o, store_read::key_from_word(key), property_of(row));
         words[1]
     } else {
         REFUSED
     }
-}
-
-fn is_removable(words: &[u64], o: u64, key: u64) -> bool
-    ensures { λ r. ⌜ r ≡ isRemovable (now (words .entry)) o key ⌝ }
-{
-    if store_read::is_store(words) {
-        return is_joined(o, key);
-    }
-    false
 }
 
 // Removes a property, if there is one, and answers how many are left.
@@ -140,7 +81,7 @@ pub extern "C" fn store_remove(words: &mut [u64], o: u64, key: u64) -> u64
     ensures { λ r. ⌜ r ≡ removeAnswer (now (words .entry)) o key ⌝ }
     ensures { λ _. ⌜ now (words .exit) ≡ removed (now (words .entry)) o key ⌝ }
 {
-    if is_removable(words, o, key) {
+    if export_tests::is_removable(words, o, key) {
         property_removal::remove_property(words, o, store_read::key_from_word(key));
         words[1]
     } else {

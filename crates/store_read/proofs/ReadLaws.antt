@@ -6,9 +6,10 @@ use mathlib.Core.Path.{_≡_, refl, sym, ap, _∙_}
 use mathlib.Core.Bool.{Bool, true, false, _&&_, false≢true}
 use mathlib.Core.Option.{none, some}
 use mathlib.Core.List.{List}
-use lib.Dec.{eqb}
+use lib.Dec.{eqb, ltb}
 use lib.ListN.{length, getD, getElem?}
-use borrow.Author.Tests.{eqb-true, eqb-false, leb-true, eq-eqb, ne-eqb}
+use borrow.Author.Tests.{eqb-true, eqb-false, leb-true, ltb-true, ltb-false, eq-eqb, ne-eqb}
+use Rattle.value.specs.Bits.{bit}
 use Rattle.value.specs.declared.PropertyKey.{PropertyKey}
 use Rattle.value.specs.declared.PropertyKey.the-variants.{String, Symbol}
 use Rattle.value.specs.PropertyKey.{sameKey}
@@ -19,9 +20,10 @@ use Rattle.text.specs.Table.{tabulate, stringsOf, isTable}
 use Rattle.text.specs.Answers.{readTable}
 use Rattle.text.proofs.TableLaws.{length-tabulate}
 use Rattle.store.specs.declared.Entry.{Entry}
+use Rattle.store.specs.declared.Object.{Object}
 use Rattle.store_read.specs.declared.Place.the-variants.{Nothing, At}
 use Rattle.store.specs.Store.{isAt, find, own, lookup}
-use Rattle.store.specs.Words.{isStore, storeOf, objectIn, propertyIn, entryIn, keyOf, keyWord, wordAt, keyAt, flag}
+use Rattle.store.specs.Words.{isStore, storeOf, objectIn, propertyIn, entryIn, keyOf, keyWord, wordAt, keyAt}
 use Rattle.store_read.specs.Answers.{firstPlace, findPlace, keyWords}
 
 -- what isStore says, as numbers
@@ -211,6 +213,17 @@ module _ (words : List ℕ) (o : ℕ) where
   unfolding lookup storeOf
   lookup-missing h = get-tabulate-none (objectIn words) 0 (wordAt words 0) o h
 
+  -- an object that is found was made
+  pub lookup-below : (x : Object) → lookup (storeOf words) o ≡ some x → o < wordAt words 0
+  lookup-below x e = go (ltb o (wordAt words 0)) refl
+    where
+      go : (b : Bool) → ltb o (wordAt words 0) ≡ b → o < wordAt words 0
+      go true q = ltb-true _ _ q
+      go false q =
+          let missing : lookup (storeOf words) o ≡ none = lookup-missing (ltb-false _ _ q) in
+          let z : _≡_ {A = ℕ} 0 1 = cc in
+          absurd (omega arith)
+
 pub object-length : (words : List ℕ) → length (storeOf words .objects) ≡ wordAt words 0
 unfolding storeOf
 object-length words = length-tabulate _ _ _
@@ -221,10 +234,10 @@ property-length words = length-tabulate _ _ _
 
 -- Flags ---------------------------------------------------------------------------------------------
 
-pub odd-flag : (n : ℕ) → n % 2 ≡ 1 → flag n 0 ≡ true
+pub odd-flag : (n : ℕ) → n % 2 ≡ 1 → bit n 0 ≡ true
 odd-flag n e = eq-eqb _ _ (let z : n / 1 % 2 ≡ 1 = omega arith in z)
 
-pub even-flag : (n : ℕ) → (n % 2 ≡ 1 → ⊥) → flag n 0 ≡ false
+pub even-flag : (n : ℕ) → (n % 2 ≡ 1 → ⊥) → bit n 0 ≡ false
 even-flag n e = ne-eqb _ _ (λ (z : n / 1 % 2 ≡ 1). omega arith)
 
 -- The strings of a table -----------------------------------------------------------------------

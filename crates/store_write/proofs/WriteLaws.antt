@@ -9,6 +9,7 @@ use lib.Dec.{eqb}
 use lib.ListN.{length, set, length-set}
 use lib.Seq.{sets, length-sets, getD-set-same, getD-set-other}
 use borrow.Author.Tests.{eqb-true, eqb-false, eq-eqb, ne-eqb, leb-true, le-leb}
+use Rattle.value.specs.Bits.{weight}
 use Rattle.value.specs.declared.Value.{Value}
 use Rattle.value.specs.declared.Value.the-variants.{Undefined}
 use Rattle.value.specs.declared.PropertyKey.{PropertyKey}
@@ -27,7 +28,7 @@ use Rattle.store.specs.declared.Entry.{Entry}
 use Rattle.store_write.specs.declared.write.ObjectWords.{ObjectWords}
 use Rattle.store_write.specs.declared.write.PropertyWords.{PropertyWords}
 use Rattle.store.specs.Store.{Store, empty, entry, isAt, remove, put, add, own, withProperty, withoutProperty, replaceAt, withChange}
-use Rattle.store.specs.Words.{objectAt, keyAt, rowAt, wordAt, objectOf, objectIn, headOf, firstOf, secondOf, keyWord, ownerOf, keyOf, propertyOf, weight, flagsOf, primary, secondary, propertyIn, entryIn, storeOf, isStore, withObject, withNewObject, withRow, withNewRow, moved, swept, withoutRow}
+use Rattle.store.specs.Words.{objectAt, keyAt, rowAt, wordAt, objectOf, objectIn, headOf, firstOf, secondOf, keyWord, ownerOf, keyOf, propertyOf, flagsOf, primary, secondary, propertyIn, entryIn, storeOf, isStore, withObject, withNewObject, withRow, withNewRow, moved, swept, withoutRow}
 use Rattle.store_write.specs.Write.{Fits, FitsObject, FitsProperty, ObjectCells, PropertyCells, New, Becomes}
 use Rattle.store.proofs.FindLaws.{First, first-replaced, absent-appended}
 use Rattle.store.proofs.FindLaws.First.{here, later}

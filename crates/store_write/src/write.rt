@@ -4,11 +4,11 @@ use store::Object;
 use value::PropertyKey;
 ghost use mathlib.Core.Path.{_≡_};
 ghost use mathlib.Core.Bool.{true};
-ghost use Prim.Native.Nat.{_<_, _≤_};
+ghost use Prim.Native.Nat.{_<_};
 ghost use lib.Dec.{eqb, ltb};
 ghost use lib.ListN.{length};
 ghost use Rattle.store.specs.Store.{empty, put, add};
-ghost use Rattle.store.specs.Words.{storeSize, wordAt, weight, storeOf, isStore, withObject, withNewObject};
+ghost use Rattle.store.specs.Words.{storeSize, wordAt, storeOf, isStore, withObject, withNewObject};
 ghost use Rattle.store_write.specs.Write.{ObjectCells, FitsObject, Becomes, emptied};
 
 // One change of the store. An object and an entry are given by their numbers.
@@ -37,12 +37,6 @@ pub struct PropertyWords {
     pub second_payload: u64,
 }
 
-fn weight(b: bool, n: u64) -> u64
-    ensures { λ r. ⌜ (r ≡ weight b n) × (r ≤ n) ⌝ }
-{
-    if b { n } else { 0 }
-}
-
 fn object_words(x: Object) -> ObjectWords
     ensures { λ r. ⌜ ObjectCells x r ⌝ }
 {
@@ -51,13 +45,13 @@ fn object_words(x: Object) -> ObjectWords
             let v = r.prototype;
             let w = encoding::words_of(v);
             ObjectWords {
-                head: weight(r.extensible, 1),
+                head: bits::weight(r.extensible, 1),
                 first: w.kind,
                 second: w.payload,
             }
         }
         Object::Proxy(p) => ObjectWords {
-            head: 2 + weight(p.revoked, 1),
+            head: 2 + bits::weight(p.revoked, 1),
             first: p.target,
             second: p.traps,
         },

@@ -28,6 +28,10 @@ pub and-true : (a b : Bool) → (a && b) ≡ true → (a ≡ true) × (b ≡ tru
 and-true true b h = (refl, h)
 and-true false b h = absurd (false≢true h)
 
+pub and-both : (a b : Bool) → a ≡ true → b ≡ true → (a && b) ≡ true
+and-both true b e f = f
+and-both false b e f = e
+
 pub and-false-right : (a b : Bool) → a ≡ true → (a && b) ≡ false → b ≡ false
 and-false-right true b h f = f
 and-false-right false b h f = absurd (false≢true h)

@@ -6,7 +6,6 @@ use property::OwnProperty;
 use property::Property;
 use property::PropertyDescriptor;
 use record::Counts;
-use step_record::steps;
 ghost use mathlib.Core.Path.{_≡_};
 ghost use Prim.Native.Nat.{_<_, _≤_, _+_};
 ghost use lib.ListN.{length};
@@ -201,12 +200,12 @@ fn validate(r: &[u8]) -> bool
 
 // The first of refusals 1 to 4 over a step, or 0
 fn step_refusal(bytes: &[u8], n: Counts, proxy: bool) -> u8 {
-    if steps::is_step(bytes) {
+    if step_form::is_step(bytes) {
         if bytes.len() == 58 {
             let s = step_reading::step_of(bytes);
             let d = s.descriptor;
-            if steps::are_objects_made(n, s) {
-                if steps::are_kinds_usable(proxy, n, s) {
+            if step_record::are_objects_made(n, s) {
+                if step_record::are_kinds_usable(proxy, n, s) {
                     if value_tests::is_descriptor(d) {
                         return 0;
                     }

@@ -1,6 +1,6 @@
 use borrow.Author.Needs.{needs}
 use Rattle.record.proofs.RefusalLaws.{is-failed, is-passed}
-use Rattle.alone.specs.Alone.{laterOne}
+use Rattle.alone_records.specs.Records.{laterOne}
 use Rattle.alone.proofs.complete_read.Statement.{statement}
 use Rattle.alone.proofs.complete_read.Tie as tie
 

@@ -1,7 +1,7 @@
 use borrow.Author.Needs.{needs}
 use mathlib.Core.Path.{sym, _∙_}
 use Rattle.record.proofs.RefusalLaws.{is-failed, is-passed}
-use Rattle.alone.specs.Alone.{laterTwo}
+use Rattle.alone_records.specs.Records.{laterTwo}
 use Rattle.alone.proofs.merge_read.Statement.{statement}
 use Rattle.alone.proofs.merge_read.Tie as tie
 

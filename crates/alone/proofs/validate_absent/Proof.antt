@@ -1,7 +1,7 @@
 use borrow.Author.Needs.{needs}
 use mathlib.Core.Path.{sym, _∙_}
 use Rattle.record.proofs.RefusalLaws.{is-failed, is-passed}
-use Rattle.alone.specs.Alone.{laterOne}
+use Rattle.alone_records.specs.Records.{laterOne}
 use Rattle.alone.proofs.validate_absent.Statement.{statement}
 use Rattle.alone.proofs.validate_absent.Tie as tie
 

@@ -18,7 +18,7 @@ use Rattle.deletion.proofs.proxy_exotic_delete.Kinds as proxy-exotic-de
 use Rattle.deletion.proofs.+delete+proxy_exotic_delete.Lts-proxy_exotic_delete as proxy-exotic-delete-lts
 use Rattle.calls.proofs.enter.Reads as enter-reads
 use Rattle.calls.proofs.has_trap.Reads as has-trap-reads
-use Rattle.deletion.proofs.delete_trap.Reads as delete-trap-reads
+use Rattle.deletion_trap.proofs.delete_trap.Reads as delete-trap-reads
 use Rattle.deletion.proofs.ordinary_delete.Reads as ordinary-delete-reads
 use Rattle.deletion.proofs.+delete+proxy_exotic_delete.{statement}
 use Rattle.deletion.proofs.+delete+proxy_exotic_delete.Tie.{close}

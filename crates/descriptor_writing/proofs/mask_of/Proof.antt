@@ -4,7 +4,7 @@ use Rattle.descriptor_writing.proofs.mask_of.Statement.{statement}
 use Rattle.descriptor_writing.proofs.mask_of.Tie as tie
 
 returns : tie.Need-returns
-returns c = (rw (c .before .before .before .before .before .before .before .before .before .before .weight-of .ensures .0, c .before .before .before .before .before .before .before .before .weight-of2 .ensures .0, c .before .before .before .before .before .before .weight-of3 .ensures .0, c .before .before .before .before .weight-of4 .ensures .0, c .before .before .weight-of5 .ensures .0, c .weight-of6 .ensures .0, c .before .before .before .before .before .before .before .before .before .before .before .has-flag .ensures, c .before .before .before .before .before .before .before .before .before .has-flag2 .ensures, c .before .before .before .before .before .before .before .has-flag3 .ensures, c .before .before .before .before .before .has-field .ensures, c .before .before .before .has-field2 .ensures, c .before .has-field3 .ensures), omega arith)
+returns c = (rw (c .before .before .before .before .before .before .before .before .before .before .weight .ensures .0, c .before .before .before .before .before .before .before .before .weight2 .ensures .0, c .before .before .before .before .before .before .weight3 .ensures .0, c .before .before .before .before .weight4 .ensures .0, c .before .before .weight5 .ensures .0, c .weight6 .ensures .0, c .before .before .before .before .before .before .before .before .before .before .before .has-flag .ensures, c .before .before .before .before .before .before .before .before .before .has-flag2 .ensures, c .before .before .before .before .before .before .before .has-flag3 .ensures, c .before .before .before .before .before .has-field .ensures, c .before .before .before .has-field2 .ensures, c .before .has-field3 .ensures), omega arith)
 
 pub mask-of-spec : {M : Type 1} → statement M
 mask-of-spec = tie.close (tie.spec (λ c κs. search needs) (λ c κs. search needs) (λ c κs. search needs) (λ c κs. search needs) (λ c. search needs) (λ c κs. search needs) (λ c κs. search needs) (λ c. search needs) (λ c κs. search needs) (λ c κs. search needs) (λ c. search needs) (λ c κs. search needs) (λ c κs. search needs) (λ c. search needs) (λ c κs. search needs) (λ c κs. search needs) (λ c. search needs) returns)

@@ -8,7 +8,7 @@ use Rattle.internal_methods.specs.Monad.{pure, fails, next, _>>=_, throwIf, if_
 use Rattle.internal_methods.specs.Ordinary.{ordinaryGet}
 use Rattle.internal_methods.specs.Proxy.{hasTrap, proxyGet}
 use Rattle.calls.proofs.EnterLaws.{get-goes-on, ordinary-deep, proxy-deep}
-use Rattle.prototypes.proofs.ParentLaws.{is-object, is-no-object}
+use Rattle.value.proofs.Objects.{is-object, is-no-object}
 use Prim.Native.Nat.{ℕ, _<_}
 use borrow.Fn.Kinds.{In}
 use borrow.Fn.PlainCycle.{Measures, is, falls, and}
@@ -21,10 +21,10 @@ use Rattle.getting.proofs.+get+ordinary_get+proxy_exotic_get.Lts-ordina
 use Rattle.getting.proofs.proxy_exotic_get.Reads as proxy-exotic-get
 use Rattle.getting.proofs.proxy_exotic_get.Kinds as proxy-exotic-get-kinds
 use Rattle.getting.proofs.+get+ordinary_get+proxy_exotic_get.Lts-proxy_exotic_get as proxy-exotic-get-lts
-use Rattle.calls.proofs.next_value.Reads as next-value-reads
+use Rattle.answers.proofs.next_value.Reads as next-value-reads
 use Rattle.calls.proofs.enter.Reads as enter-reads
 use Rattle.calls.proofs.has_trap.Reads as has-trap-reads
-use Rattle.getting.proofs.get_trap.Reads as get-trap-reads
+use Rattle.getting_trap.proofs.get_trap.Reads as get-trap-reads
 use Rattle.own_property.proofs.get_own_property.Reads as get-own-property-reads
 use Rattle.prototypes.proofs.get_prototype_of.Reads as get-prototype-of-reads
 use Rattle.conversions.proofs.is_undefined.Reads as is-undefined-reads

@@ -8,7 +8,7 @@ use Rattle.internal_methods.specs.Monad.{pure, fails, next, _>>=_, throwIf, if_
 use Rattle.internal_methods.specs.Ordinary.{ordinaryHasProperty}
 use Rattle.internal_methods.specs.Proxy.{hasTrap, proxyHasProperty}
 use Rattle.calls.proofs.EnterLaws.{has-property-goes-on, ordinary-deep, proxy-deep}
-use Rattle.prototypes.proofs.ParentLaws.{is-object, is-no-object}
+use Rattle.value.proofs.Objects.{is-object, is-no-object}
 use Prim.Native.Nat.{ℕ, _<_}
 use borrow.Fn.Kinds.{In}
 use borrow.Fn.PlainCycle.{Measures, is, falls, and}
@@ -23,7 +23,7 @@ use Rattle.has_property.proofs.proxy_exotic_has_property.Kinds as proxy
 use Rattle.has_property.proofs.+has_property+ordinary_has_property+proxy_exotic_has_property.Lts-proxy_exotic_has_property as proxy-exotic-has-property-lts
 use Rattle.calls.proofs.enter.Reads as enter-reads
 use Rattle.calls.proofs.has_trap.Reads as has-trap-reads
-use Rattle.has_property.proofs.has_property_trap.Reads as has-property-trap-reads
+use Rattle.has_property_trap.proofs.has_property_trap.Reads as has-property-trap-reads
 use Rattle.own_property.proofs.get_own_property.Reads as get-own-property-reads
 use Rattle.prototypes.proofs.get_prototype_of.Reads as get-prototype-of-reads
 use Rattle.conversions.proofs.object_of.Reads as object-of-reads

@@ -4,7 +4,7 @@ use denote.Ref.{now}
 use mathlib.Core.Path.{sym, _∙_}
 use Rattle.internal_methods.specs.Monad.{pure, fails, next, _>>=_}
 use Rattle.internal_methods.specs.Answers.{askKeys, asKeys}
-use Rattle.calls.proofs.AnswerLaws.{asked-none, asked-value, asked-descriptor, asked-keys, asked-throw, left-value, left-descriptor, left-keys, left-throw}
+use Rattle.answers.proofs.AnswerLaws.{asked-none, asked-value, asked-descriptor, asked-keys, asked-throw, left-value, left-descriptor, left-keys, left-throw}
 use Rattle.key_answers.proofs.ListLaws.{keys-within, loadable, listed-keys, listed-others}
 use borrow.Author.Needs.{needs}
 use Rattle.key_answers.proofs.next_keys.Statement.{statement}
@@ -12,7 +12,7 @@ use Rattle.key_answers.proofs.next_keys.Tie as tie
 use Rattle.key_answers.proofs.next_keys.Reads as reads
 use Rattle.key_answers.proofs.next_keys.Lts as lts
 use Rattle.key_bytes.proofs.are_keys.Reads as are-keys-reads
-use Rattle.key_answers.proofs.past.Reads as past-reads
+use Rattle.answers.proofs.past.Reads as past-reads
 use Rattle.key_answers.proofs.unlisted_failure.Reads as unlisted-failure-reads
 use Rattle.sheet.proofs.next_answer.Reads as next-answer-reads
 

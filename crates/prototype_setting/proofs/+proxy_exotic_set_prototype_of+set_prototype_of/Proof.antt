@@ -18,7 +18,7 @@ use Rattle.prototype_setting.proofs.+proxy_exotic_set_prototype_of+set_
 use Rattle.calls.proofs.enter.Reads as enter-reads
 use Rattle.calls.proofs.has_trap.Reads as has-trap-reads
 use Rattle.prototype_setting.proofs.ordinary_set_prototype_of.Reads as ordinary-set-prototype-of-reads
-use Rattle.prototype_setting.proofs.set_prototype_of_trap.Reads as set-prototype-of-trap-reads
+use Rattle.prototype_setting_trap.proofs.set_prototype_of_trap.Reads as set-prototype-of-trap-reads
 use Rattle.prototype_setting.proofs.+proxy_exotic_set_prototype_of+set_prototype_of.{
   statement,
 }

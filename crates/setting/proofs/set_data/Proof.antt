@@ -1,7 +1,7 @@
 -- 10.1.9.2 step 2 is what the definition says. Assumes nothing.
 use mathlib.Core.Path.{sym, _∙_}
 use Rattle.value.specs.Value.{objectOf}
-use Rattle.prototypes.proofs.ParentLaws.{is-object, is-no-object}
+use Rattle.value.proofs.Objects.{is-object, is-no-object}
 use Rattle.internal_methods.specs.Monad.{pure, if_then_else_}
 use Rattle.internal_methods.specs.Ordinary.{setData}
 use borrow.Author.Needs.{needs}

@@ -1,0 +1,118 @@
+//! Property descriptors, and the properties that they describe.
+use crate::value::Value;
+
+/// A property descriptor: any of the six fields.
+#[derive(Clone, Copy, PartialEq, Eq, Debug, Default)]
+pub struct PropertyDescriptor {
+    /// Whether the property is enumerable.
+    pub enumerable: Option<bool>,
+    /// Whether the property is configurable.
+    pub configurable: Option<bool>,
+    /// Whether the value may be changed.
+    pub writable: Option<bool>,
+    /// The value.
+    pub value: Option<Value>,
+    /// The getter: undefined or a function.
+    pub get: Option<Value>,
+    /// The setter: undefined or a function.
+    pub set: Option<Value>,
+}
+
+/// A property: a descriptor of its kind with no field missing.
+#[derive(Clone, Copy, PartialEq, Eq, Debug)]
+pub enum Property {
+    /// A data property.
+    Data {
+        /// The value.
+        value: Value,
+        /// Whether the value may be changed.
+        writable: bool,
+        /// Whether the property is enumerable.
+        enumerable: bool,
+        /// Whether the property is configurable.
+        configurable: bool,
+    },
+    /// An accessor property.
+    Accessor {
+        /// The getter: undefined or a function.
+        get: Value,
+        /// The setter: undefined or a function.
+        set: Value,
+        /// Whether the property is enumerable.
+        enumerable: bool,
+        /// Whether the property is configurable.
+        configurable: bool,
+    },
+}
+
+impl PropertyDescriptor {
+    /// How many bytes the record of a descriptor has.
+    pub const SIZE: usize = 29;
+
+    /// The 29 bytes of a descriptor in a record: mask, booleans, value, get, set.
+    pub fn to_bytes(&self) -> [u8; Self::SIZE] {
+        let mut bytes = [0; Self::SIZE];
+        for (bit, field) in [(1, self.enumerable), (2, self.configurable), (4, self.writable)] {
+            if let Some(b) = field {
+                bytes[0] |= bit;
+                bytes[1] |= if b { bit } else { 0 };
+            }
+        }
+        for (i, field) in [self.value, self.get, self.set].into_iter().enumerate() {
+            if let Some(v) = field {
+                bytes[0] |= 8 << i;
+                bytes[2 + 9 * i..11 + 9 * i].copy_from_slice(&v.to_bytes());
+            }
+        }
+        bytes
+    }
+
+    /// A data descriptor with every field.
+    pub fn data(value: impl Into<Value>, writable: bool, enumerable: bool, configurable: bool) -> Self {
+        Property::Data { value: value.into(), writable, enumerable, configurable }.into()
+    }
+
+    /// A data descriptor that fixes its value: not writable, not configurable, enumerable.
+    pub fn fixed(value: impl Into<Value>) -> Self {
+        PropertyDescriptor::data(value, false, true, false)
+    }
+}
+
+impl From<Property> for PropertyDescriptor {
+    fn from(p: Property) -> Self {
+        match p {
+            Property::Data { value, writable, enumerable, configurable } => PropertyDescriptor {
+                enumerable: Some(enumerable),
+                configurable: Some(configurable),
+                writable: Some(writable),
+                value: Some(value),
+                get: None,
+                set: None,
+            },
+            Property::Accessor { get, set, enumerable, configurable } => PropertyDescriptor {
+                enumerable: Some(enumerable),
+                configurable: Some(configurable),
+                writable: None,
+                value: None,
+                get: Some(get),
+                set: Some(set),
+            },
+        }
+    }
+}
+
+impl std::fmt::Display for Property {
+    fn fmt(&self, f: &mut std::fmt::Formatter<'_>) -> std::fmt::Result {
+        let (enumerable, configurable) = match self {
+            Property::Data { value, writable, enumerable, configurable } => {
+                write!(f, "{{value: {value}, writable: {writable}")?;
+                (enumerable, configurable)
+            }
+            Property::Accessor { get, set, enumerable, configurable } => {
+                write!(f, "{{get: {get}, set: {set}")?;
+                (enumerable, configurable)
+            }
+        };
+        write!(f, ", enumerable: {enumerable}, configurable: {configurable}}}")
+    }
+}

@@ -1,0 +1,38 @@
+//! Property descriptors, ordinary objects and proxies of ECMA-262 (2024) over a fixed store.
+//!
+//! This crate is a safe interface to `libdemnyaluz.a`, whose functions are proved against definitions written from the standard; the crate itself,
+//! which turns values into records and reports into values, is not proved but tested.
+//!
+//! A [`Store`] holds objects, properties and strings. A [`Step`] calls one of the eleven internal methods of an object, or makes an object or a
+//! proxy. A proxy's handler is a set of [`Traps`] and, for each step, a list of [`Answer`]s: each call of a trap, a getter or a setter takes the
+//! next one. What comes back is a [`Report`].
+//!
+//! ```
+//! use demnyaluz::{Answer, Failure, Message, PropertyDescriptor, Store, Traps};
+//!
+//! let mut store = Store::new();
+//! let visits = store.enter_string("visits")?;
+//! let counts = store.make_object(None)?;
+//! assert!(store.define_own_property(counts, visits, PropertyDescriptor::fixed(70_000), &[])?);
+//!
+//! // A handler that counts in sixteen bits.
+//! let behind = store.make_proxy(counts, Traps::GET)?;
+//! let told = store.get(behind, visits, behind, &[Answer::Value(4_464.into())]);
+//! assert_eq!(told, Err(Failure::TypeError(Message::GotUnexpectedData)));
+//! # Ok::<(), Failure>(())
+//! ```
+#![deny(missing_docs)]
+
+mod descriptor;
+pub mod notation;
+pub mod raw;
+mod report;
+mod step;
+mod store;
+mod value;
+
+pub use descriptor::{Property, PropertyDescriptor};
+pub use report::{Completion, Failure, Message, Refusal, Report};
+pub use step::{sheet_bytes, Answer, Step, Traps};
+pub use store::{Store, OUTPUT_BYTES, STORE_WORDS, STRING_CELLS};
+pub use value::{FunctionId, ObjectId, PropertyKey, StringId, SymbolId, Value};

@@ -1,0 +1,422 @@
+//! Steps, sheets, strings and descriptors: mostly valid, often nearly so.
+//!
+//! Answers are made one at a time: the plain implementation says what the sheet lacked, and an answer near the truth is added.
+use super::pair::Pair;
+use super::random::Random;
+use crate::plain::descriptor::Descriptor;
+use crate::plain::methods::Asked;
+use crate::plain::record::{descriptor_bytes, sheet_bytes, step_bytes, Answer, Step};
+use crate::plain::step;
+use crate::plain::value::{Key, Value};
+use crate::plain::world::{Object, World};
+
+pub const TEXTS: [&str; 20] = [
+    "", "a", "b", "visits", "0", "1", "01", "7", "10", "4294967294", "4294967295", "99999999999", "length", "-0", "+1", "9", "é", "2147483648", "00", "length of thirty-two code units..",
+];
+
+/// How a list of calls is made.
+#[derive(Clone, Copy)]
+pub struct Habits {
+    /// One step in so many has a byte changed.
+    pub damage: usize,
+    /// One answer in so many is not near the truth.
+    pub wild: usize,
+    /// Keys are taken from this many strings and symbols.
+    pub keys: usize,
+    /// One object in so many is a proxy (1: all that can be).
+    pub proxies: usize,
+    /// Of so many flags of a descriptor one is left out, one is true and the others are false.
+    pub flags: usize,
+}
+
+pub struct Generator {
+    pub random: Random,
+    pub habits: Habits,
+}
+
+impl Generator {
+    pub fn new(seed: u64) -> Self {
+        let mut random = Random::new(seed);
+        let habits = Habits { damage: random.pick(&[3, 8, 30, 1000]), wild: random.pick(&[3, 6, 12]), keys: random.pick(&[2, 4, 12, 200]), proxies: random.pick(&[1, 2, 3]), flags: random.pick(&[3, 4, 6]) };
+        Generator { random, habits }
+    }
+
+    fn number(&mut self) -> Value {
+        let r = &mut self.random;
+        match r.below(4) {
+            0 => Value::Integer32(r.pick(&[0, 1, -1, 70000, 4464, i32::MAX, i32::MIN])),
+            1 => Value::Integer32(r.next() as i32),
+            2 => Value::Float64(r.pick(&[0.0, -0.0, 1.0, -1.0, 70000.0, 4464.0, 0.5, f64::NAN, -f64::NAN, f64::INFINITY, f64::MIN_POSITIVE, 5e-324])),
+            _ => Value::Float64(f64::from_bits(r.pick(&[0x7ff8_0000_0000_0001, 0xfff0_0000_0000_0001, 0x7ff0_0000_0000_0000, 0x40f1_1700_0000_0000]))),
+        }
+    }
+
+    fn object(&mut self, world: &World) -> u64 {
+        match world.objects.len() {
+            0 => 0,
+            n => self.random.below(n) as u64,
+        }
+    }
+
+    fn key(&mut self, world: &World) -> Key {
+        let n = self.habits.keys;
+        if world.strings.is_empty() || self.random.once_in(3) {
+            Key::Symbol(self.random.below(n.min(256)) as u64)
+        } else {
+            Key::String(self.random.below(n.min(world.strings.len())) as u64)
+        }
+    }
+
+    /// A key for a step on an object: often one that it has.
+    fn key_at(&mut self, world: &World, o: usize) -> Key {
+        let properties = &world.ordinary(world.base(o)).properties;
+        if properties.is_empty() || self.random.once_in(3) {
+            return self.key(world);
+        }
+        properties[self.random.below(properties.len())].0
+    }
+
+    fn value(&mut self, world: &World) -> Value {
+        match self.random.below(12) {
+            0 => Value::Undefined,
+            1 => Value::Null,
+            2 | 3 => Value::Boolean(self.random.once_in(2)),
+            4 => Value::Function(self.random.below(4) as u64),
+            5 if !world.objects.is_empty() => Value::Object(self.object(world)),
+            6 => self.key(world).value(),
+            _ => self.number(),
+        }
+    }
+
+    fn callable(&mut self) -> Value {
+        if self.random.once_in(3) {
+            Value::Undefined
+        } else {
+            Value::Function(self.random.below(4) as u64)
+        }
+    }
+
+    fn flag(&mut self) -> Option<bool> {
+        match self.random.below(self.habits.flags) {
+            0 => None,
+            n => Some(n == 1),
+        }
+    }
+
+    /// A descriptor of any kind; seldom one that cannot be used.
+    pub fn descriptor(&mut self, world: &World) -> Descriptor {
+        let mut d = Descriptor { enumerable: self.flag(), configurable: self.flag(), ..Descriptor::default() };
+        let kind = self.random.below(8);
+        if kind < 4 || kind == 7 && self.random.once_in(6) {
+            d.writable = self.flag();
+            d.value = (!self.random.once_in(4)).then(|| self.value(world));
+        }
+        if (4..6).contains(&kind) || kind == 7 && self.random.once_in(6) {
+            d.get = (!self.random.once_in(4)).then(|| self.callable());
+            d.set = (!self.random.once_in(4)).then(|| self.callable());
+            if self.random.once_in(30) {
+                d.get = Some(self.value(world));
+            }
+            if self.random.once_in(30) {
+                d.set = Some(self.value(world));
+            }
+        }
+        d
+    }
+
+    /// A full descriptor with one field left out, or another, or more fields than it may have.
+    pub fn near_descriptor(&mut self, world: &World, held: &Descriptor) -> Descriptor {
+        let mut d = *held;
+        for _ in 0..self.random.below(3) {
+            match self.random.below(10) {
+                0 => d.enumerable = self.flag(),
+                1 => d.configurable = self.flag(),
+                2 if !d.is_accessor() => d.writable = self.flag(),
+                3 => d.enumerable = Some(true),
+                4 => d.configurable = Some(false),
+                5 if d.is_accessor() => d.get = Some(self.callable()),
+                6 if d.is_accessor() => d.set = Some(self.callable()),
+                5 | 6 => d.writable = Some(false),
+                7 if d.is_data() => d.value = Some(self.value(world)),
+                8 if self.random.once_in(2) => d.get = Some(self.value(world)),
+                9 if self.random.once_in(2) => d.set = Some(self.value(world)),
+                _ => {}
+            }
+        }
+        d
+    }
+
+    fn held(&self, world: &World, o: usize, key: Key) -> Option<Descriptor> {
+        world.ordinary(world.base(o)).own(key)
+    }
+
+    /// An answer to what was asked.
+    fn answer(&mut self, world: &World, asked: Asked) -> Answer {
+        if self.random.once_in(40) {
+            return Answer::Throw(self.value(world));
+        }
+        if self.random.once_in(self.habits.wild) {
+            return match self.random.below(8) {
+                0 => Answer::Descriptor(self.descriptor(world)),
+                1 => Answer::Keys((0..self.random.below(3)).map(|_| self.key(world).value()).collect()),
+                2 => Answer::Throw(self.value(world)),
+                _ => Answer::Value(self.value(world)),
+            };
+        }
+        match asked {
+            Asked::Yes => Answer::Value(if self.random.once_in(5) { self.value(world) } else { Value::Boolean(!self.random.once_in(4)) }),
+            Asked::Extensible(o) => Answer::Value(Value::Boolean(world.ordinary(world.base(o)).extensible)),
+            Asked::Prototype(o) => Answer::Value(match world.ordinary(world.base(o)).prototype {
+                Some(p) => Value::Object(p as u64),
+                None => Value::Null,
+            }),
+            Asked::Accessor => Answer::Value(self.value(world)),
+            Asked::Value(o, key) => Answer::Value(match self.held(world, o, key) {
+                Some(Descriptor { value: Some(v), .. }) => v,
+                _ => Value::Undefined,
+            }),
+            Asked::Descriptor(o, key) => match self.held(world, o, key) {
+                Some(held) if !self.random.once_in(6) => Answer::Descriptor(self.near_descriptor(world, &held)),
+                None if self.random.once_in(3) => Answer::Descriptor(self.descriptor(world)),
+                _ => Answer::Value(Value::Undefined),
+            },
+            Asked::Keys(o) => {
+                let mut keys: Vec<Value> = world.own_keys(world.base(o)).into_iter().map(Key::value).collect();
+                match self.random.below(9) {
+                    0 if !keys.is_empty() => drop(keys.remove(self.random.below(keys.len()))),
+                    1 => keys.push(self.key(world).value()),
+                    2 if !keys.is_empty() => keys.push(keys[self.random.below(keys.len())]),
+                    3 => keys.reverse(),
+                    4 => keys.insert(self.random.below(keys.len() + 1), self.value(world)),
+                    _ => {}
+                }
+                keys.truncate(256);
+                Answer::Keys(keys)
+            }
+        }
+    }
+
+    fn code(&mut self, world: &World) -> u8 {
+        let made = world.objects.len();
+        if made < 2 || made < 31 && self.random.once_in(12) || self.random.once_in(200) {
+            return if made > 0 && self.random.once_in(self.habits.proxies) { 2 } else { 1 };
+        }
+        if self.random.once_in(150) {
+            return 3;
+        }
+        self.random.pick(&[4, 5, 6, 7, 8, 8, 9, 9, 9, 9, 9, 10, 10, 11, 11, 12, 12, 12, 13, 14, 14])
+    }
+
+    /// A step that the world can take, but for seldom an object to revoke that is no proxy, and the like.
+    pub fn step(&mut self, world: &World) -> Step {
+        let code = self.code(world);
+        let object = if code == 1 { 0 } else { self.object(world) as usize };
+        let mut step = Step { code, object, key: Value::Undefined, value: Value::Undefined, receiver: Value::Undefined, descriptor: Descriptor::default() };
+        if (8..=13).contains(&code) {
+            step.key = self.key_at(world, object).value();
+        }
+        match code {
+            1 | 5 => {
+                step.value = if world.objects.is_empty() || self.random.once_in(3) { Value::Null } else { Value::Object(self.object(world)) };
+                if code == 5 && self.random.once_in(3) {
+                    let base = world.base(object);
+                    step.value = world.ordinary(base).prototype.map_or(Value::Null, |p| Value::Object(p as u64));
+                }
+            }
+            2 => {
+                let traps = match self.random.below(4) {
+                    0 => 0,
+                    1 => 1 << self.random.below(11),
+                    2 => 2047,
+                    _ => self.random.below(2048) as i32,
+                };
+                step.value = Value::Integer32(traps);
+            }
+            9 => {
+                let key = Key::of(step.key).unwrap();
+                step.descriptor = match self.held(world, object, key) {
+                    Some(held) if self.random.once_in(2) => self.near_descriptor(world, &held),
+                    _ => self.descriptor(world),
+                };
+            }
+            11 | 12 => {
+                step.receiver = match self.random.below(6) {
+                    0 | 1 => Value::Object(self.object(world)),
+                    2 => self.value(world),
+                    _ => Value::Object(object as u64),
+                };
+                if code == 12 {
+                    step.value = match self.held(world, object, Key::of(step.key).unwrap()) {
+                        Some(Descriptor { value: Some(v), .. }) if self.random.once_in(2) => v,
+                        _ => self.value(world),
+                    };
+                }
+            }
+            _ => {}
+        }
+        step
+    }
+
+    /// A sheet on which the step does not run out of answers, or seldom does.
+    fn sheet(&mut self, world: &World, bytes: &[u8]) -> Vec<Answer> {
+        let mut answers = Vec::new();
+        let mut output = vec![0; 9 * 256];
+        while answers.len() < 64 && !self.random.once_in(60) {
+            let stepped = step::step(&mut world.clone(), bytes, &sheet_bytes(&answers), &mut output);
+            let Some(asked) = stepped.wanted else { break };
+            answers.push(self.answer(world, asked));
+        }
+        if self.random.once_in(20) && answers.len() < 64 {
+            answers.push(Answer::Value(self.value(world)));
+        }
+        answers
+    }
+
+    /// A few bytes changed, left out or added.
+    pub fn damage(&mut self, bytes: &mut Vec<u8>) {
+        for _ in 0..1 + self.random.below(2) {
+            let at = self.random.below(bytes.len() + 1);
+            match self.random.below(12) {
+                0 => bytes.truncate(at),
+                1 => bytes.insert(at, self.random.next() as u8),
+                _ if at == bytes.len() => {}
+                2 | 3 => bytes[at] ^= 1 << self.random.below(8),
+                4 | 5 => bytes[at] = bytes[at].wrapping_add(1),
+                6 => bytes[at] = bytes[at].wrapping_sub(1),
+                7 => bytes[at] = self.random.pick(&[0, 1, 2, 5, 6, 7, 8, 9, 14, 15, 32, 64, 65, 255]),
+                8 => drop(bytes.remove(at)),
+                _ => bytes[at] = self.random.next() as u8,
+            }
+        }
+    }
+
+    /// The kind of one value in a record becomes another, with a small number: near enough to pass refusal 1.
+    fn change_kind(&mut self, bytes: &mut [u8], world: &World) {
+        let starts: &[usize] = if bytes.len() == 58 { &[2, 11, 20, 31, 40, 49] } else { &[2, 11] };
+        let at = self.random.pick(starts);
+        if bytes.len() < at + 9 {
+            return;
+        }
+        let kind = self.random.pick(&[0, 1, 3, 5, 6, 7, 8]);
+        let limit = match kind {
+            5 => world.strings.len(),
+            7 => world.objects.len(),
+            6 | 8 => 256,
+            _ => 0,
+        };
+        let number = match self.random.below(3) {
+            0 => limit as u64,
+            1 => limit.saturating_sub(1) as u64,
+            _ => self.random.below(limit) as u64,
+        };
+        bytes[at] = kind;
+        bytes[at + 1..at + 9].copy_from_slice(&if kind < 5 { 0 } else { number }.to_le_bytes());
+    }
+
+    fn room(&mut self) -> usize {
+        match self.random.below(5) {
+            0 => self.random.below(30),
+            1 => 9 * self.random.below(12),
+            _ => 9 * 256,
+        }
+    }
+
+    /// One step on both, damaged or not.
+    pub fn run_step(&mut self, pair: &mut Pair) {
+        let mut step = step_bytes(&self.step(&pair.world));
+        if self.random.once_in(2 * self.habits.damage) {
+            self.change_kind(&mut step, &pair.world);
+        }
+        let mut sheet = sheet_bytes(&self.sheet(&pair.world, &step));
+        if self.random.once_in(self.habits.damage) {
+            self.damage(&mut step);
+        }
+        if self.random.once_in(self.habits.damage) {
+            self.damage(&mut sheet);
+        }
+        let room = self.room();
+        pair.step(&step, &sheet, room);
+    }
+
+    pub fn run_string(&mut self, pair: &mut Pair) {
+        let units: Vec<u16> = match self.random.below(4) {
+            0 => {
+                let size = self.random.below(35);
+                (0..size).map(|_| self.random.next() as u16).collect()
+            }
+            1 => self.random.below(300).to_string().encode_utf16().collect(),
+            _ => self.random.pick(&TEXTS).encode_utf16().collect(),
+        };
+        pair.enter_string(&units);
+    }
+
+    fn record(&mut self, world: &World, full: bool) -> Vec<u8> {
+        let mut d = self.descriptor(world);
+        if full {
+            d = d.completed();
+            if self.random.once_in(6) {
+                d = self.near_descriptor(world, &d);
+            }
+        }
+        let mut bytes = descriptor_bytes(&d);
+        if self.random.once_in(3 * self.habits.damage) {
+            self.change_kind(&mut bytes, world);
+        }
+        if self.random.once_in(2 * self.habits.damage) {
+            self.damage(&mut bytes);
+        }
+        bytes
+    }
+
+    /// Completing, validating and merging by themselves.
+    pub fn run_descriptor(&mut self, pair: &mut Pair) {
+        let current = if self.random.once_in(5) { Vec::new() } else { self.record(&pair.world, true) };
+        let bytes = self.record(&pair.world, false);
+        match self.random.below(4) {
+            0 => drop(pair.complete(&bytes)),
+            1 => drop(pair.merge(&current, &bytes)),
+            _ => drop(pair.validate(self.random.once_in(2), &bytes, &current)),
+        }
+    }
+
+    /// Any of the calls.
+    pub fn run_call(&mut self, pair: &mut Pair) {
+        match self.random.below(20) {
+            0 => self.run_string(pair),
+            1 | 2 => self.run_descriptor(pair),
+            _ => self.run_step(pair),
+        }
+    }
+
+    /// Random bytes in place of everything.
+    pub fn run_noise(&mut self, pair: &mut Pair) {
+        let size = self.random.pick(&[0, 1, 57, 58, 58, 58, 59, 200]);
+        let step: Vec<u8> = (0..size).map(|_| self.random.next() as u8).collect();
+        let size = self.random.below(40);
+        let sheet: Vec<u8> = (0..size).map(|_| self.random.next() as u8).collect();
+        let room = self.room();
+        pair.step(&step, &sheet, room);
+    }
+
+    /// The first strings, so that keys are there.
+    pub fn begin(&mut self, pair: &mut Pair) {
+        for text in &TEXTS[..4 + self.random.below(TEXTS.len() - 4)] {
+            pair.enter_string(&text.encode_utf16().collect::<Vec<u16>>());
+        }
+    }
+
+    /// Properties on one object until the store is nearly full, and strings likewise.
+    pub fn fill(&mut self, pair: &mut Pair) {
+        for i in 0..260 {
+            pair.enter_string(&format!("{i}").encode_utf16().collect::<Vec<u16>>());
+        }
+        let object = |code: u8, value: Value| Step { code, object: 0, key: Value::Undefined, value, receiver: Value::Undefined, descriptor: Descriptor::default() };
+        pair.step(&step_bytes(&object(1, Value::Null)), &[0], 0);
+        let Some(o) = pair.world.objects.iter().position(|o| matches!(o, Object::Ordinary(o) if o.extensible)) else { return };
+        for i in 0..250 + self.random.below(8) as u64 {
+            let key = if i < 200 { Value::String(i) } else { Value::Symbol(i) };
+            let step = Step { object: o, key, descriptor: Descriptor::data(Value::Integer32(i as i32), true, true, true), ..object(9, Value::Undefined) };
+            pair.step(&step_bytes(&step), &[0], 0);
+        }
+    }
+}

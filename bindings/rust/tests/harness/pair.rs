@@ -1,0 +1,192 @@
+//! One store in the library's memory and one plain world, that must agree after every call.
+use super::layout;
+use crate::plain::step::{self, Outcome, Report, Stepped};
+use crate::plain::world::World;
+use demnyaluz::raw;
+
+/// How often each outcome came, over all entries.
+#[derive(Clone, Default, Debug)]
+pub struct Tally {
+    pub calls: u64,
+    pub results: u64,
+    pub thrown: u64,
+    pub refusals: [u64; 12],
+    pub messages: [u64; 32],
+    pub codes: [u64; 15],
+}
+
+impl Tally {
+    fn count(&mut self, report: &Report) {
+        self.calls += 1;
+        match report.outcome {
+            Outcome::Result(_) => self.results += 1,
+            Outcome::Thrown(_) => self.thrown += 1,
+            Outcome::Refused(n) => self.refusals[n as usize] += 1,
+            Outcome::TypeError(n) => self.messages[n as usize] += 1,
+        }
+    }
+
+    pub fn add(&mut self, other: &Tally) {
+        self.calls += other.calls;
+        self.results += other.results;
+        self.thrown += other.thrown;
+        let all = |mine: &mut [u64], theirs: &[u64]| mine.iter_mut().zip(theirs).for_each(|(a, b)| *a += b);
+        all(&mut self.refusals, &other.refusals);
+        all(&mut self.messages, &other.messages);
+        all(&mut self.codes, &other.codes);
+    }
+
+    /// The refusals and messages that never came.
+    pub fn missing(&self) -> (Vec<usize>, Vec<usize>) {
+        let zero = |counts: &[u64]| (1..counts.len()).filter(|i| counts[*i] == 0).collect();
+        (zero(&self.refusals), zero(&self.messages))
+    }
+}
+
+/// Exactly as much memory as is lent, each part an allocation of its own, so that a memory checker sees an access past its end.
+fn exact<T: Copy>(from: &[T]) -> Box<[T]> {
+    from.to_vec().into_boxed_slice()
+}
+
+const FILL: u8 = 0xa5;
+
+pub struct Pair {
+    pub world: World,
+    pub words: Box<[u64]>,
+    pub strings: Box<[u16]>,
+    pub tally: Tally,
+}
+
+impl Pair {
+    pub fn new() -> Self {
+        let mut pair = Pair { world: World::default(), words: vec![0; 1634].into(), strings: vec![0; 8449].into(), tally: Tally::default() };
+        // the memory need not be zero before it is emptied
+        pair.words.fill(0xdead_beef_dead_beef);
+        pair.strings.fill(0xbeef);
+        unsafe {
+            assert!(raw::demnyaluz_empty_store(pair.words.as_mut_ptr(), pair.words.len()));
+            assert!(raw::demnyaluz_empty_strings(pair.strings.as_mut_ptr(), pair.strings.len()));
+        }
+        pair
+    }
+
+    /// One step through the C interface alone.
+    pub fn step_library(&mut self, bytes: &[u8], sheet: &[u8], output: &mut [u8]) -> [u64; 10] {
+        let (bytes, sheet) = (exact(bytes), exact(sheet));
+        let mut report = Box::new([u64::MAX; 10]);
+        unsafe {
+            raw::demnyaluz_step(
+                self.words.as_mut_ptr(),
+                self.words.len(),
+                self.strings.as_ptr(),
+                self.strings.len(),
+                bytes.as_ptr(),
+                bytes.len(),
+                sheet.as_ptr(),
+                sheet.len(),
+                output.as_mut_ptr(),
+                output.len(),
+                &mut *report,
+            );
+        }
+        *report
+    }
+
+    /// One step on both, with room bytes of output.
+    pub fn step(&mut self, bytes: &[u8], sheet: &[u8], room: usize) -> Stepped {
+        let before = (self.words.clone(), self.strings.clone());
+        let mut output: Box<[u8]> = vec![FILL; room].into();
+        let mut expected_output = output.clone();
+        let stepped = step::step(&mut self.world, bytes, sheet, &mut expected_output);
+        let report = self.step_library(bytes, sheet, &mut output);
+        let expected = layout::report_words(&stepped.report);
+        let input = || format!("step {}\nsheet {}\nroom {room}\nworld before {:?}", hex(bytes), hex(sheet), layout::world(&before.0, &before.1));
+        assert_eq!(report, expected, "report\n{}", input());
+        assert_eq!(output, expected_output, "output\n{}", input());
+        assert_eq!(self.strings, before.1, "strings\n{}", input());
+        if let Outcome::Result(_) = stepped.report.outcome {
+            let (ours, theirs) = (layout::image(&layout::world(&self.words, &self.strings)), layout::image(&self.world));
+            assert_eq!(ours, theirs, "store\n{}\nlibrary {:?}\nplain {:?}", input(), layout::world(&self.words, &self.strings), self.world);
+        } else {
+            assert_eq!(self.words, before.0, "words without a result\n{}", input());
+        }
+        self.tally.count(&stepped.report);
+        if let Some(code) = bytes.first().filter(|c| **c <= 14) {
+            self.tally.codes[*code as usize] += 1;
+        }
+        stepped
+    }
+
+    pub fn enter_string(&mut self, units: &[u16]) -> Report {
+        let expected = step::enter_string(&mut self.world, units);
+        let units = exact(units);
+        let mut report = Box::new([u64::MAX; 10]);
+        unsafe { raw::demnyaluz_enter_string(self.strings.as_mut_ptr(), self.strings.len(), units.as_ptr(), units.len(), &mut *report) };
+        assert_eq!(*report, layout::report_words(&expected), "entering {units:?}");
+        assert_eq!(layout::world(&self.words, &self.strings).strings, self.world.strings, "strings after {units:?}");
+        self.tally.count(&expected);
+        expected
+    }
+
+    pub fn complete(&mut self, bytes: &[u8]) -> Report {
+        let expected = step::complete(&self.world, bytes);
+        let bytes = exact(bytes);
+        let mut report = Box::new([u64::MAX; 10]);
+        let (words, strings) = (&self.words, &self.strings);
+        unsafe { raw::demnyaluz_complete(words.as_ptr(), words.len(), strings.as_ptr(), strings.len(), bytes.as_ptr(), bytes.len(), &mut *report) };
+        assert_eq!(*report, layout::report_words(&expected), "completing {}", hex(&bytes));
+        self.tally.count(&expected);
+        expected
+    }
+
+    pub fn validate(&mut self, extensible: bool, bytes: &[u8], current: &[u8]) -> (bool, Report) {
+        let (yes, expected) = step::validate_alone(&self.world, extensible, bytes, current);
+        let (bytes, current) = (exact(bytes), exact(current));
+        let mut report = Box::new([u64::MAX; 10]);
+        let (words, strings) = (&self.words, &self.strings);
+        let accepted = unsafe {
+            raw::demnyaluz_validate(
+                words.as_ptr(),
+                words.len(),
+                strings.as_ptr(),
+                strings.len(),
+                extensible,
+                bytes.as_ptr(),
+                bytes.len(),
+                current.as_ptr(),
+                current.len(),
+                &mut *report,
+            )
+        };
+        assert_eq!((accepted, *report), (yes, layout::report_words(&expected)), "validating {extensible} {} over {}", hex(&bytes), hex(&current));
+        self.tally.count(&expected);
+        (yes, expected)
+    }
+
+    pub fn merge(&mut self, current: &[u8], bytes: &[u8]) -> Report {
+        let expected = step::merge(&self.world, current, bytes);
+        let (bytes, current) = (exact(bytes), exact(current));
+        let mut report = Box::new([u64::MAX; 10]);
+        let (words, strings) = (&self.words, &self.strings);
+        unsafe {
+            raw::demnyaluz_merge(
+                words.as_ptr(),
+                words.len(),
+                strings.as_ptr(),
+                strings.len(),
+                current.as_ptr(),
+                current.len(),
+                bytes.as_ptr(),
+                bytes.len(),
+                &mut *report,
+            );
+        }
+        assert_eq!(*report, layout::report_words(&expected), "merging {} into {}", hex(&bytes), hex(&current));
+        self.tally.count(&expected);
+        expected
+    }
+}
+
+pub fn hex(bytes: &[u8]) -> String {
+    bytes.iter().map(|b| format!("{b:02x}")).collect()
+}

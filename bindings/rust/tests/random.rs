@@ -1,0 +1,35 @@
+//! Random calls, valid and damaged, on the library and on the plain implementation: after each, everything that it leaves is the same.
+mod harness;
+mod plain;
+
+use harness::generator::Generator;
+use harness::pair::{Pair, Tally};
+
+/// One list of calls from an empty store.
+fn list_of_calls(seed: u64, size: usize) -> Tally {
+    let mut generator = Generator::new(seed);
+    let mut pair = Pair::new();
+    generator.begin(&mut pair);
+    if seed % 40 == 0 {
+        generator.fill(&mut pair);
+    }
+    for _ in 0..size {
+        generator.run_call(&mut pair);
+    }
+    pair.tally
+}
+
+#[test]
+fn every_call_is_as_the_plain_implementation_says() {
+    let thread = std::thread::Builder::new().stack_size(64 << 20).spawn(|| {
+        let mut tally = Tally::default();
+        for seed in 1..=600 {
+            tally.add(&list_of_calls(seed, 120));
+        }
+        tally
+    });
+    let tally = thread.unwrap().join().unwrap();
+    println!("{tally:?}");
+    assert_eq!(tally.missing(), (vec![], vec![]), "refusals and messages that never came");
+    assert!(tally.codes[1..].iter().all(|n| *n > 0));
+}

@@ -1,0 +1,114 @@
+// Completing, validating and merging descriptors over lent memory, which says how many objects and strings there are.
+use alone::DescriptorAnswer;
+use alone::Verdict;
+use lasting::Completion;
+use lasting::Outcome;
+use lasting::Report;
+use property::OwnProperty;
+use record::Counts;
+ghost use mathlib.Core.Path.{_≡_};
+ghost use Rattle.descriptor_entries.specs.Entries.{countsIn, answerReport, afterReport, verdictReport, isAccepted, completeOver, validateOver, mergeOver};
+
+// How many objects and strings the memory holds, if it is a store and a table.
+pub enum Held {
+    Counts(Counts),
+    Malformed,
+}
+
+fn counts_in(words: &[u64], strings: &[u16]) -> Held
+    ensures { λ r. ⌜ r ≡ countsIn (now (words .entry)) (now (strings .entry)) ⌝ }
+{
+    if store_read::is_store(words) {
+        if text::is_table(strings) {
+            return Held::Counts(record_tests::counts_of(words, strings));
+        }
+        return Held::Malformed;
+    }
+    Held::Malformed
+}
+
+fn answer_report(answer: DescriptorAnswer) -> Report
+    ensures { λ r. ⌜ r ≡ answerReport answer ⌝ }
+{
+    match answer {
+        DescriptorAnswer::Refused(n) => reporting::refused(n),
+        DescriptorAnswer::Property(p) => Report {
+            outcome: Outcome::Result(Completion::Descriptor(p)),
+            answers: 0,
+            calls: 0,
+        },
+    }
+}
+
+fn after_report(after: OwnProperty) -> Report
+    ensures { λ r. ⌜ r ≡ afterReport after ⌝ }
+{
+    match after {
+        OwnProperty::Absent => Report {
+            outcome: Outcome::Result(Completion::Absent),
+            answers: 0,
+            calls: 0,
+        },
+        OwnProperty::Present(p) => Report {
+            outcome: Outcome::Result(Completion::Descriptor(p)),
+            answers: 0,
+            calls: 0,
+        },
+    }
+}
+
+// The report of a verdict: the property after it.
+pub fn verdict_report(verdict: Verdict) -> Report
+    ensures { λ r. ⌜ r ≡ verdictReport verdict ⌝ }
+{
+    match verdict {
+        Verdict::Refused(n) => reporting::refused(n),
+        Verdict::Verdict(_, after) => after_report(after),
+    }
+}
+
+// Yes; a refusal is none.
+pub fn is_accepted(verdict: Verdict) -> bool
+    ensures { λ r. ⌜ r ≡ isAccepted verdict ⌝ }
+{
+    match verdict {
+        Verdict::Refused(_) => false,
+        Verdict::Verdict(accepted, _) => accepted,
+    }
+}
+
+pub fn complete(words: &[u64], strings: &[u16], bytes: &[u8]) -> Report
+    ensures { λ r. ⌜ r ≡ completeOver (now (words .entry)) (now (strings .entry)) (now (bytes .entry)) ⌝ }
+{
+    let held = counts_in(words, strings);
+    match held {
+        Held::Malformed => reporting::refused(1),
+        Held::Counts(n) => answer_report(alone::complete_alone(n, bytes)),
+    }
+}
+
+pub fn validate(
+    words: &[u64],
+    strings: &[u16],
+    extensible: bool,
+    bytes: &[u8],
+    current: &[u8],
+) -> Verdict
+    ensures { λ r. ⌜ r ≡ validateOver (now (words .entry)) (now (strings .entry)) extensible (now (bytes .entry)) (now (current .entry)) ⌝ }
+{
+    let held = counts_in(words, strings);
+    match held {
+        Held::Malformed => Verdict::Refused(1),
+        Held::Counts(n) => alone::validate_alone(n, extensible, bytes, current),
+    }
+}
+
+pub fn merge(words: &[u64], strings: &[u16], current: &[u8], bytes: &[u8]) -> Report
+    ensures { λ r. ⌜ r ≡ mergeOver (now (words .entry)) (now (strings .entry)) (now (current .entry)) (now (bytes .entry)) ⌝ }
+{
+    let held = counts_in(words, strings);
+    match held {
+        Held::Malformed => reporting::refused(1),
+        Held::Counts(n) => answer_report(alone::merge_alone(n, current, bytes)),
+    }
+}

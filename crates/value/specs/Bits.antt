@@ -1,0 +1,11 @@
+-- The bits of a number. Assumes nothing.
+use Prim.Native.Nat.{ℕ, _/_, _%_, _^_}
+use mathlib.Core.Bool.{Bool, true, false}
+use lib.Dec.{eqb}
+
+abbrev pub bit : ℕ → ℕ → Bool
+bit n i = eqb (n / 2 ^ i % 2) 1
+
+abbrev pub weight : Bool → ℕ → ℕ
+weight true n = n
+weight false n = 0

@@ -1,0 +1,238 @@
+/*
+ * Property descriptors, ordinary objects and proxies of ECMA-262 (2024) over a fixed store.
+ *
+ * Every function is proved against definitions written from the standard, takes memory of any content and length, and ends.
+ *
+ * Memory. The caller lends all of it; nothing is allocated and nothing is kept between calls. There is no global state: calls on different
+ * memory may run at the same time in different threads, calls that share memory which one of them writes may not.
+ *   words     the store: DEMNYALUZ_STORE_WORDS words of 64 bits
+ *   strings   the table of strings: DEMNYALUZ_STRING_CELLS cells of 16 bits
+ *   output    where the keys of an [[OwnPropertyKeys]] result go, 9 bytes each; DEMNYALUZ_OUTPUT_BYTES hold every list
+ *   report    ten words
+ * Memory that is all zeros is an empty store and an empty table; demnyaluz_empty_store and demnyaluz_empty_strings make memory of any content so.
+ * Each pointer is good for its length, also where that is 0 (it is then not null, but is never read). What a call writes overlaps
+ * nothing else that it is lent. A call takes at most 1 MB of stack (a step of 2,048 nested calls).
+ *
+ * A store or table of another length, or whose counts exceed what it can hold, is refused as 1, and so is a record of a wrong length. A
+ * refusal changes nothing. Only a result changes the store.
+ *
+ * Records are bytes, integers little-endian.
+ *   value       9: a kind, then a payload of 8 with unused bytes zero
+ *   descriptor 29: a presence mask, a byte of booleans at the mask's first three bits, then value, get and set; absent parts are zero
+ *   step       58: code and object (1 each), key (9), value (9), receiver (9), descriptor (29); parts that a code does not use are zero
+ *   sheet       a count of answers (one byte, 0 to 64), then the answers: a tag, then a value, a descriptor, or a list, which is a count
+ *               (two bytes, at most 256) and values. Each call of a trap, a getter or a setter takes the next answer.
+ *
+ * What the memory holds is read through steps. How it is laid out today, which later versions may change:
+ *   words     0 objects made, 1 properties; from 2 on 32 objects of 3 words: 0 or 1 (not extensible, extensible), then the kind and payload of
+ *             the prototype; or 2 or 3 (a proxy, a revoked one), then target and traps; from 98 on 256 key words: owner + 64 * string,
+ *             or owner + 32 + 64 * symbol; from 354 on 256 properties of 5 words: flags, then kind and payload of value or getter and of the
+ *             setter. Properties are in the order of creation.
+ *   strings   0 strings entered; then 256 rows: a length, and 32 code units
+ */
+#ifndef DEMNYALUZ_H
+#define DEMNYALUZ_H
+
+#include <stdbool.h>
+#include <stddef.h>
+#include <stdint.h>
+
+#ifdef __cplusplus
+extern "C" {
+#endif
+
+enum {
+    DEMNYALUZ_STORE_WORDS = 1634,
+    DEMNYALUZ_STRING_CELLS = 8449,
+    DEMNYALUZ_REPORT_WORDS = 10,
+    DEMNYALUZ_VALUE_BYTES = 9,
+    DEMNYALUZ_DESCRIPTOR_BYTES = 29,
+    DEMNYALUZ_STEP_BYTES = 58,
+    DEMNYALUZ_OUTPUT_BYTES = 2304,
+    DEMNYALUZ_LONGEST_MESSAGE = 90, /* the longest text */
+
+    DEMNYALUZ_MAXIMUM_OBJECTS = 32,
+    DEMNYALUZ_MAXIMUM_PROPERTIES = 256,
+    DEMNYALUZ_MAXIMUM_STRINGS = 256,
+    DEMNYALUZ_MAXIMUM_UNITS = 32, /* code units of a string */
+    DEMNYALUZ_MAXIMUM_ANSWERS = 64,
+    DEMNYALUZ_MAXIMUM_KEYS = 256,
+    DEMNYALUZ_MAXIMUM_CALLS = 2048
+};
+
+/* Kinds of values, and what the payload is. */
+enum demnyaluz_kind {
+    DEMNYALUZ_KIND_UNDEFINED = 0,
+    DEMNYALUZ_KIND_NULL = 1,
+    DEMNYALUZ_KIND_BOOLEAN = 2,   /* 0 or 1 */
+    DEMNYALUZ_KIND_INTEGER32 = 3, /* two's complement, 4 bytes */
+    DEMNYALUZ_KIND_FLOAT64 = 4,   /* its bits; every NaN comes back as 0x7ff8000000000000 */
+    DEMNYALUZ_KIND_STRING = 5,    /* the number that entering it answered */
+    DEMNYALUZ_KIND_SYMBOL = 6,    /* 0 to 255 */
+    DEMNYALUZ_KIND_OBJECT = 7,    /* the number that making it answered */
+    DEMNYALUZ_KIND_FUNCTION = 8   /* 0 to 255 */
+};
+
+/* Fields of a descriptor: the presence mask; the first three are also the places of the booleans. */
+enum demnyaluz_field {
+    DEMNYALUZ_FIELD_ENUMERABLE = 1,
+    DEMNYALUZ_FIELD_CONFIGURABLE = 2,
+    DEMNYALUZ_FIELD_WRITABLE = 4,
+    DEMNYALUZ_FIELD_VALUE = 8,
+    DEMNYALUZ_FIELD_GET = 16,
+    DEMNYALUZ_FIELD_SET = 32
+};
+
+/* Codes of steps, and the parts that each uses. */
+enum demnyaluz_code {
+    DEMNYALUZ_CODE_MAKE_OBJECT = 1,         /* value: the prototype, null or an object; answers the new object */
+    DEMNYALUZ_CODE_MAKE_PROXY = 2,          /* object: the target; value: Integer32, the traps; answers the new object */
+    DEMNYALUZ_CODE_REVOKE = 3,              /* object: a proxy; answers true */
+    DEMNYALUZ_CODE_GET_PROTOTYPE_OF = 4,    /* object */
+    DEMNYALUZ_CODE_SET_PROTOTYPE_OF = 5,    /* object; value: null or an object */
+    DEMNYALUZ_CODE_IS_EXTENSIBLE = 6,       /* object */
+    DEMNYALUZ_CODE_PREVENT_EXTENSIONS = 7,  /* object */
+    DEMNYALUZ_CODE_GET_OWN_PROPERTY = 8,    /* object, key */
+    DEMNYALUZ_CODE_DEFINE_OWN_PROPERTY = 9, /* object, key, descriptor */
+    DEMNYALUZ_CODE_HAS_PROPERTY = 10,       /* object, key */
+    DEMNYALUZ_CODE_GET = 11,                /* object, key, receiver */
+    DEMNYALUZ_CODE_SET = 12,                /* object, key, value, receiver */
+    DEMNYALUZ_CODE_DELETE = 13,             /* object, key */
+    DEMNYALUZ_CODE_OWN_PROPERTY_KEYS = 14   /* object */
+};
+
+/* The trap of a code, in a proxy's trap mask. */
+#define DEMNYALUZ_TRAP(code) (1u << ((code) - DEMNYALUZ_CODE_GET_PROTOTYPE_OF))
+
+/* Tags of answers. */
+enum demnyaluz_answer {
+    DEMNYALUZ_ANSWER_VALUE = 1,
+    DEMNYALUZ_ANSWER_DESCRIPTOR = 2,
+    DEMNYALUZ_ANSWER_KEYS = 3,
+    DEMNYALUZ_ANSWER_THROW = 4
+};
+
+/* The words of a report. What is not used is 0. */
+enum demnyaluz_report {
+    DEMNYALUZ_REPORT_OUTCOME = 0,
+    DEMNYALUZ_REPORT_NUMBER = 1,  /* of the refusal or of the message */
+    DEMNYALUZ_REPORT_ANSWERS = 2, /* used */
+    DEMNYALUZ_REPORT_CALLS = 3,   /* of internal methods, the first included */
+    DEMNYALUZ_REPORT_FORM = 4,
+    DEMNYALUZ_REPORT_DETAIL = 5,  /* the flags of a property, or how many keys there are */
+    DEMNYALUZ_REPORT_KIND = 6,    /* of the value, a thrown one too, or of a property's value or getter */
+    DEMNYALUZ_REPORT_PAYLOAD = 7,
+    DEMNYALUZ_REPORT_SETTER_KIND = 8,
+    DEMNYALUZ_REPORT_SETTER_PAYLOAD = 9
+};
+
+enum demnyaluz_outcome {
+    DEMNYALUZ_OUTCOME_REFUSED = 0,
+    DEMNYALUZ_OUTCOME_RESULT = 1,
+    DEMNYALUZ_OUTCOME_TYPE_ERROR = 2,
+    DEMNYALUZ_OUTCOME_THROWN = 3
+};
+
+/* What a result holds; a thrown value has the form of a value. */
+enum demnyaluz_form {
+    DEMNYALUZ_FORM_NOTHING = 0,
+    DEMNYALUZ_FORM_VALUE = 1,
+    DEMNYALUZ_FORM_PROPERTY = 2,
+    DEMNYALUZ_FORM_ABSENT = 3,
+    DEMNYALUZ_FORM_KEYS = 4
+};
+
+/* The flags of a property. */
+enum demnyaluz_flag {
+    DEMNYALUZ_FLAG_ACCESSOR = 1,
+    DEMNYALUZ_FLAG_WRITABLE = 2,
+    DEMNYALUZ_FLAG_ENUMERABLE = 4,
+    DEMNYALUZ_FLAG_CONFIGURABLE = 8
+};
+
+enum demnyaluz_refusal {
+    DEMNYALUZ_REFUSAL_MALFORMED_RECORD = 1,    /* a wrong length, code, kind, mask, count or boolean, or a nonzero unused or absent part */
+    DEMNYALUZ_REFUSAL_OBJECT_NEVER_MADE = 2,
+    DEMNYALUZ_REFUSAL_UNUSABLE_PART = 3,       /* a string not entered or too long, a number above 255, a kind that its step cannot use */
+    DEMNYALUZ_REFUSAL_UNUSABLE_DESCRIPTOR = 4, /* mixed, or its get or set neither undefined nor a function */
+    DEMNYALUZ_REFUSAL_INCOMPLETE_CURRENT = 5,  /* the current descriptor is generic or lacks a field that its kind needs */
+    DEMNYALUZ_REFUSAL_DIFFERENT_KINDS = 6,     /* to be merged: one data, one accessor */
+    DEMNYALUZ_REFUSAL_STORE_FULL = 7,          /* a 33rd object, 257th property or 257th string */
+    DEMNYALUZ_REFUSAL_SHEET_SPENT = 8,
+    DEMNYALUZ_REFUSAL_UNREADABLE_ANSWER = 9,
+    DEMNYALUZ_REFUSAL_TOO_MANY_CALLS = 10,     /* a 2,049th */
+    DEMNYALUZ_REFUSAL_OUTPUT_TOO_SMALL = 11
+};
+
+enum demnyaluz_message_number {
+    DEMNYALUZ_MESSAGE_REVOKED_PROXY = 1,
+    DEMNYALUZ_MESSAGE_PROTOTYPE_NOT_OBJECT_OR_NULL = 2,
+    DEMNYALUZ_MESSAGE_UNEXPECTED_PROTOTYPE = 3,
+    DEMNYALUZ_MESSAGE_PROTOTYPE_NOT_SET = 4,
+    DEMNYALUZ_MESSAGE_UNEXPECTED_EXTENSIBLE = 5,
+    DEMNYALUZ_MESSAGE_STILL_EXTENSIBLE = 6,
+    DEMNYALUZ_MESSAGE_DESCRIPTOR_NOT_OBJECT_OR_UNDEFINED = 7,
+    DEMNYALUZ_MESSAGE_HIDDEN_NON_CONFIGURABLE = 8,
+    DEMNYALUZ_MESSAGE_HIDDEN_OF_NON_EXTENSIBLE = 9,
+    DEMNYALUZ_MESSAGE_UNEXPECTED_PROPERTY = 10,
+    DEMNYALUZ_MESSAGE_REPORTED_NON_WRITABLE = 11,
+    DEMNYALUZ_MESSAGE_REPORTED_NON_CONFIGURABLE = 12,
+    DEMNYALUZ_MESSAGE_PROPERTY_NOT_DEFINED = 13,
+    DEMNYALUZ_MESSAGE_DEFINED_UNEXPECTED_VALUE = 14,
+    DEMNYALUZ_MESSAGE_DEFINED_UNEXPECTED_CONFIGURABLE = 15,
+    DEMNYALUZ_MESSAGE_DEFINED_UNEXPECTED_WRITABLE = 16,
+    DEMNYALUZ_MESSAGE_GOT_UNEXPECTED_DATA = 17,
+    DEMNYALUZ_MESSAGE_GOT_UNEXPECTED_ACCESSOR = 18,
+    DEMNYALUZ_MESSAGE_SET_UNEXPECTED_DATA = 19,
+    DEMNYALUZ_MESSAGE_SET_UNEXPECTED_ACCESSOR = 20,
+    DEMNYALUZ_MESSAGE_NOT_DELETED = 21,
+    DEMNYALUZ_MESSAGE_DUPLICATE_STRING = 22,
+    DEMNYALUZ_MESSAGE_DUPLICATE_SYMBOL = 23,
+    DEMNYALUZ_MESSAGE_NON_CONFIGURABLE_KEY_MISSING = 24,
+    DEMNYALUZ_MESSAGE_CONFIGURABLE_KEY_MISSING = 25,
+    DEMNYALUZ_MESSAGE_UNEXPECTED_KEY = 26,
+    DEMNYALUZ_MESSAGE_GETTER_NOT_CALLABLE = 27,
+    DEMNYALUZ_MESSAGE_SETTER_NOT_CALLABLE = 28,
+    DEMNYALUZ_MESSAGE_MIXED_DESCRIPTOR = 29,
+    DEMNYALUZ_MESSAGE_NOT_KEY = 30,
+    DEMNYALUZ_MESSAGE_KEYS_NOT_OBJECT = 31
+};
+
+/*
+ * One step. Traps, getters and setters take the sheet's answers in their order; a sheet without answers is one zero byte. The keys of a
+ * result of code 14 are written from the output's start on, 9 bytes each; nothing else writes the output.
+ */
+void demnyaluz_step(uint64_t *words, size_t words_length, const uint16_t *strings, size_t strings_length, const uint8_t *step, size_t step_length,
+                    const uint8_t *sheet, size_t sheet_length, uint8_t *output, size_t output_length, uint64_t report[DEMNYALUZ_REPORT_WORDS]);
+
+/* A string is entered, as code units; an equal one has its number already. Answers the string; refused as 3 (too long) or 7 (no room). */
+void demnyaluz_enter_string(uint16_t *strings, size_t strings_length, const uint16_t *units, size_t units_length, uint64_t report[DEMNYALUZ_REPORT_WORDS]);
+
+/* CompletePropertyDescriptor by itself: the property. Store and table say which numbers there are. Refused as 1 to 4. */
+void demnyaluz_complete(const uint64_t *words, size_t words_length, const uint16_t *strings, size_t strings_length, const uint8_t *descriptor,
+                        size_t descriptor_length, uint64_t report[DEMNYALUZ_REPORT_WORDS]);
+
+/*
+ * ValidateAndApplyPropertyDescriptor by itself, over a current descriptor or, with current_length 0, an absent property: answers whether it is
+ * accepted, and reports the property after it, which may be absent. Refused (and answered false) as 1 to 5.
+ */
+bool demnyaluz_validate(const uint64_t *words, size_t words_length, const uint16_t *strings, size_t strings_length, bool extensible,
+                        const uint8_t *descriptor, size_t descriptor_length, const uint8_t *current, size_t current_length,
+                        uint64_t report[DEMNYALUZ_REPORT_WORDS]);
+
+/* A descriptor is merged into a current one by itself: the property. Refused as 1 to 6. */
+void demnyaluz_merge(const uint64_t *words, size_t words_length, const uint16_t *strings, size_t strings_length, const uint8_t *current,
+                     size_t current_length, const uint8_t *descriptor, size_t descriptor_length, uint64_t report[DEMNYALUZ_REPORT_WORDS]);
+
+/* The text of a message is written, with no zero byte after it, where all of it fits; answers its length, 0 where there is no such message. */
+uint64_t demnyaluz_message(uint64_t number, uint8_t *text, size_t text_length);
+
+/* The store holds nothing, the table holds no string: true. Memory of another length is left: false. */
+bool demnyaluz_empty_store(uint64_t *words, size_t words_length);
+bool demnyaluz_empty_strings(uint16_t *strings, size_t strings_length);
+
+#ifdef __cplusplus
+}
+#endif
+
+#endif
