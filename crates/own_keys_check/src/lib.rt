@@ -28,11 +28,11 @@ fn rejected_in(
     n: usize,
     list: &mut [u64],
 ) -> u64
-    requires { ⌜ (m ≤ length (now keys)) × ((m ≤ length (now marks)) × (LoadableAt (now sheet) first n × (256 ≤ length (now list)))) ⌝ }
+    requires { ⌜ (m ≤ length (now keys)) × ((m ≤ length (now marks)) × ((m ≤ 256) × (LoadableAt (now sheet) first n × (256 ≤ length (now list))))) ⌝ }
     ensures { λ r. ⌜ r ≡ messageNumber (rejected extensible (sortedFrom (take m (now (keys .entry))) (take m (now (marks .entry)))) (answeredKeys (now (sheet .entry)) first n)) ⌝ }
 {
     key_bytes::load_keys(sheet, first, n, list);
-    key_list::rejected_message(extensible, keys, marks, m, list, n)
+    target_keys::rejected_marked(extensible, keys, marks, m, list, n)
 }
 
 // 10.5.11 steps 14 to 23

@@ -25,7 +25,7 @@ enum-known-t : tie.Need-enum-known-t
 enum-known-t c = search needs
 
 rejected-in-requires : tie.Need-rejected-in-requires
-rejected-in-requires c κs = (omega (arith, c .before .before .before .before .before .before .before .before .before .before .before .before .before .load-list .ensures .0 .fits, c .before .before .before .before .before .before .before .before .before .before .before .before .before .load-list .ensures .0 .size), (omega (arith, c .before .before .before .before .before .before .before .marks .given, c .before .before .before .before .before .before .before .before .before .before .before .before .before .load-list .ensures .1, c .before .before .before .before .before .before .before .before .before .before .before .before .before .before .before .before .before .before .before .before .before .pre .1 .1 .1 .1 .0), (c .before .before .before .before .before .before .before .before .before .before .before .before .before .before .before .before .before .before .before .before .before .pre .1 .0, c .before .before .before .before .before .before .before .before .before .before .before .before .before .before .before .before .before .before .before .before .before .pre .1 .1 .1 .1 .1)))
+rejected-in-requires c κs = (omega (arith, c .before .before .before .before .before .before .before .before .before .before .before .before .before .load-list .ensures .0 .fits, c .before .before .before .before .before .before .before .before .before .before .before .before .before .load-list .ensures .0 .size), (omega (arith, c .before .before .before .before .before .before .before .marks .given, c .before .before .before .before .before .before .before .before .before .before .before .before .before .load-list .ensures .1, c .before .before .before .before .before .before .before .before .before .before .before .before .before .before .before .before .before .before .before .before .before .pre .1 .1 .1 .1 .0), (c .before .before .before .before .before .before .before .before .before .before .before .before .before .load-list .ensures .1, (c .before .before .before .before .before .before .before .before .before .before .before .before .before .before .before .before .before .before .before .before .before .pre .1 .0, c .before .before .before .before .before .before .before .before .before .before .before .before .before .before .before .before .before .before .before .before .before .pre .1 .1 .1 .1 .1))))
 
 same-length : tie.Need-same-length
 same-length c = search needs

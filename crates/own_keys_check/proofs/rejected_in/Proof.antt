@@ -5,20 +5,20 @@ use Rattle.own_keys_check.proofs.rejected_in.Tie as tie
 use Rattle.own_keys_check.proofs.rejected_in.Reads as reads
 use Rattle.own_keys_check.proofs.rejected_in.Lts as lts
 use Rattle.key_bytes.proofs.load_keys.Reads as load-keys-reads
-use Rattle.key_list.proofs.rejected_message.Reads as rejected-message-reads
+use Rattle.target_keys.proofs.rejected_marked.Reads as rejected-marked-reads
 
 load-keys-requires : tie.Need-load-keys-requires
 load-keys-requires c κs = search needs
 
-rejected-message-requires : tie.Need-rejected-message-requires
-rejected-message-requires c κs = (omega (arith, c .before .before .before .before .before .before .before .before .before .pre .0), (omega (arith, c .before .before .before .before .before .before .before .before .before .pre .1 .0), (omega (arith, c .before .before .before .before .before .before .before .before .before .pre .1 .1 .0 .few, c .before .before .before .before .before .before .before .before .before .pre .1 .1 .1, c .before .before .list .given), c .before .before .before .load-keys .ensures .1)))
+rejected-marked-requires : tie.Need-rejected-marked-requires
+rejected-marked-requires c κs = (omega (arith, c .before .before .before .before .before .before .before .before .before .pre .0), (omega (arith, c .before .before .before .before .before .before .before .before .before .pre .1 .0), (c .before .before .before .before .before .before .before .before .before .pre .1 .1 .0, (omega (arith, c .before .before .before .before .before .before .before .before .before .pre .1 .1 .1 .0 .few, c .before .before .before .before .before .before .before .before .before .pre .1 .1 .1 .1, c .before .before .list .given), c .before .before .before .load-keys .ensures .1))))
 
 same-length : tie.Need-same-length
 same-length c = search needs
 
 returns : tie.Need-returns
-returns c = rw (c .before .before .rejected-message .ensures, c .before .before .before .before .before .before .load-keys .ensures .0 .listed)
+returns c = rw (c .before .before .rejected-marked .ensures, c .before .before .before .before .before .before .load-keys .ensures .0 .listed)
 
 pub rejected-in-spec : {M : Type 1} → statement M
 rejected-in-spec =
-    tie.close (tie.spec load-keys-requires rejected-message-requires same-length returns)
+    tie.close (tie.spec load-keys-requires rejected-marked-requires same-length returns)

@@ -2,9 +2,9 @@ use Prim.Native.Nat.{_≤_, _-_}
 use mathlib.Core.Path.{_≡_, refl, sym, ap, _∙_}
 use mathlib.Core.Bool.{not}
 use native.Mathlib.Omega.{arith}
-use Rattle.key_list.proofs.KeyWordLaws.{noneLeft, left-hit, left-step, left-end}
-use Rattle.key_list.proofs.any_left.Statement.{statement}
-use Rattle.key_list.proofs.any_left.Tie as tie
+use Rattle.key_check.proofs.CheckLaws.{noneLeft, left-hit, left-step, left-end}
+use Rattle.key_check.proofs.any_left.Statement.{statement}
+use Rattle.key_check.proofs.any_left.Tie as tie
 
 abbrev Inv-loop : tie.InvT-loop
 Inv-loop list n i₀ i = (i ≤ n) × (noneLeft list n 0 ≡ noneLeft list n i)

@@ -1,7 +1,7 @@
 use borrow.Author.Needs.{needs}
-use Rattle.key_list.proofs.KeyWordLaws.{check-hit, check-miss, check-marked}
-use Rattle.key_list.proofs.check_off.Statement.{statement}
-use Rattle.key_list.proofs.check_off.Tie as tie
+use Rattle.key_check.proofs.CheckLaws.{check-hit, check-miss, check-marked}
+use Rattle.key_check.proofs.check_off.Statement.{statement}
+use Rattle.key_check.proofs.check_off.Tie as tie
 
 returns : tie.Need-returns
 returns c = check-marked _ _ (c .if1 .taken)
