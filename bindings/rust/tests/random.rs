@@ -23,7 +23,7 @@ fn list_of_calls(seed: u64, size: usize) -> Tally {
 fn every_call_is_as_the_plain_implementation_says() {
     let thread = std::thread::Builder::new().stack_size(64 << 20).spawn(|| {
         let mut tally = Tally::default();
-        for seed in 1..=600 {
+        for seed in 1..=3000 {
             tally.add(&list_of_calls(seed, 120));
         }
         tally
