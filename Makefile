@@ -1,5 +1,5 @@
 # rt is Rattle's command: it proves the crates of crates.txt and runs their programs.
-.PHONY: run test bench vectors messages
+.PHONY: run test bench vectors messages engines engine-check install-engines
 
 # A day of steps and string entries over one store, a line for each.
 run:
@@ -20,10 +20,29 @@ bench:
 	rustc --edition 2021 -O -C target-cpu=x86-64 -L target/staticlib -o target/steps bench/steps.rs
 	target/steps
 
-# The outside vectors and the day's calls, made anew: the same bytes, unless the scripts changed.
+# The outside vectors, the day's calls and the fixed list of node's answers, made anew: the same bytes, unless the scripts or node's texts changed.
 vectors:
 	node tests/vectors.mjs > crates/vectors/stdin
 	node tests/day.mjs > crates/day/stdin
+	mkdir -p target
+	cat tests/engines/*.js > target/engines.js
+	node target/engines.js 1 400 fixed > crates/replay/stdin
+
+# Calls performed by the engines that are installed, on their own objects, against our own: CALLS on each, from SEED.
+SEED = 1
+CALLS = 200000
+engines:
+	rt check replay
+	for engine in node gjs jsc; do if command -v $$engine > /dev/null; then sh tests/engines.sh $$engine $(SEED) $(CALLS) || exit 1; fi; done
+
+# A smaller part of the same, on node alone.
+engine-check:
+	rt check replay
+	sh tests/engines.sh node 7 20000
+
+# gjs and jsc, from Debian's packages.
+install-engines:
+	sh tests/install-engines.sh
 
 # The message table against boa_engine's source, which lies in the folder BOA.
 messages:
