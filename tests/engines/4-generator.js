@@ -10,7 +10,7 @@ function random(n) {
 }
 
 const chance = (percent) => random(100) < percent;
-const pick = (list) => list[random(list.length)];
+const pick = (list) => list[random(list.length || 1)];
 const shuffled = (list) => { const l = list.slice(); for (let i = l.length - 1; i > 0; i--) { const j = random(i + 1), x = l[i]; l[i] = l[j]; l[j] = x; } return l; };
 
 // By weights: [[weight, what], ..]
@@ -90,20 +90,16 @@ function current(o, key) {
   return d;
 }
 
-// A descriptor like another: as it is, or with one field changed, dropped or added.
+// A descriptor like another: as it is, or with fields changed or dropped.
 function near(d) {
-  const e = Object.assign({}, d), names = Object.keys(d);
+  const e = Object.assign({}, d);
   const change = () => {
-    const name = pick(names);
-    e[name] = name === 'value' ? someValue() : name === 'get' || name === 'set' ? pick([UNDEFINED, someFunction()]) : !e[name];
+    const name = pick(Object.keys(e));
+    if (name !== undefined) e[name] = name === 'value' ? someValue() : name === 'get' || name === 'set' ? pick([UNDEFINED, someFunction()]) : !e[name];
   };
-  if (names.length > 0) weighed([[40, () => {}], [30, change], [8, () => { change(); change(); }], [12, () => { delete e[pick(names)]; }], [6, () => { delete e[pick(names)]; change2(e); }], [4, () => { for (const n of names) if (chance(50)) delete e[n]; }]])();
+  const drop = () => { delete e[pick(Object.keys(e))]; };
+  weighed([[40, () => {}], [30, change], [8, () => { change(); change(); }], [12, drop], [6, () => { drop(); change(); }], [4, () => { drop(); drop(); drop(); }]])();
   return e;
-}
-
-function change2(e) {
-  const names = Object.keys(e);
-  if (names.length > 0) { const name = pick(names); if (typeof e[name] === 'boolean') e[name] = !e[name]; }
 }
 
 const FIXED = [{ writable: false, configurable: false }, { configurable: false }, { writable: false, configurable: false, enumerable: true }, { configurable: false, writable: true }];
@@ -119,8 +115,10 @@ function handedDescriptor(o, key) {
 
 // Answers --------------------------------------------------------------------------------
 
-const TRUE = [boolean(true), integer(1), float(-0.5), NULL, UNDEFINED];
-const truth = (b) => answered(chance(90) ? boolean(b) : b ? weighed([[3, () => pick(TRUE.slice(0, 3))], [2, someSymbol], [2, someObject], [1, someFunction]])() : pick([UNDEFINED, NULL, integer(0), float(-0), float(NaN), someString()]));
+// A value that counts as true, or as false; the empty string is one of the entered ones.
+const someTrue = () => weighed([[3, () => pick([boolean(true), integer(1), float(-0.5), float(Infinity)])], [2, someSymbol], [2, someObject], [1, someFunction]])();
+const someFalse = () => pick([UNDEFINED, NULL, integer(0), float(0), float(-0), float(NaN), someString()]);
+const truth = (b) => answered(chance(90) ? boolean(b) : b ? someTrue() : someFalse());
 
 function keyListAnswer(o) {
   const own = ownKeys(o);
@@ -129,15 +127,15 @@ function keyListAnswer(o) {
   const without = () => list.filter((_, i) => i !== at);
   const added = (v) => list.slice(0, at).concat([v], list.slice(at));
   const key = chance(60) ? someString() : someSymbol();
-  return listed(weighed([[40, () => list], [15, without], [14, () => added(key)], [10, () => (list.length > 0 ? added(pick(list)) : [key, key])],
-    [8, () => { const l = list.slice(); if (at < l.length) l[at] = key; return l; }], [4, () => added(somePrimitive())], [1, () => added(chance(50) ? someObject() : someFunction())],
+  return listed(weighed([[36, () => list], [20, without], [14, () => added(key)], [10, () => (list.length > 0 ? added(pick(list)) : [key, key])],
+    [8, () => list.map((v, i) => (i === at ? key : v))], [4, () => added(somePrimitive())], [1, () => added(chance(50) ? someObject() : someFunction())],
     [3, () => []], [5, () => { const l = []; for (let n = random(6); n > 0; n--) l.push(chance(50) ? someString() : someSymbol()); return l; }]])().slice(0, 256));
 }
 
 function ownPropertyAnswer(o, key) {
   const there = current(o, key);
   const spoilt = () => Object.assign(someDescriptor(), weighed([[3, { get: somePrimitive() }], [3, { set: somePrimitive() }], [2, { get: someObject() }], [3, { get: someFunction(), value: someValue() }], [2, { set: UNDEFINED, writable: false }]]));
-  return weighed([[there ? 62 : 12, () => described(near(there || { value: someValue(), writable: true, enumerable: true, configurable: true }))], [there ? 12 : 55, () => answered(UNDEFINED)],
+  return weighed([[there ? 55 : 12, () => described(near(there || { value: someValue(), writable: true, enumerable: true, configurable: true }))], [there ? 20 : 55, () => answered(UNDEFINED)],
     [10, () => described(someDescriptor())], [5, () => described(spoilt())], [3, () => answered(somePrimitive())]])();
 }
 
@@ -184,8 +182,8 @@ function walk(o) {
 
 // Steps ----------------------------------------------------------------------------------
 
-const MASKS = [2047, 2047, 0, 0, 1, 2, 4, 8, 16, 32, 64, 128, 256, 512, 1024, 16 + 1024, 32 + 256, 16 + 32];
-const someMask = () => integer(chance(60) ? pick(MASKS) : random(2048));
+const MASKS = [0, 0, 0, 1, 2, 4, 8, 16, 32, 64, 128, 256, 512, 1024, 16 + 1024, 32 + 256, 16 + 32];
+const someMask = (style) => integer(style.loops && chance(60) ? 0 : weighed([[45, 2047], [20, pick(MASKS)], [35, random(2048)]]));
 const someReceiver = (o) => weighed([[50, () => object(o)], [22, someObject], [10, () => UNDEFINED], [18, somePrimitive]])();
 
 function someStep(style) {
@@ -194,9 +192,11 @@ function someStep(style) {
   if (code === 1) return { code, value: n > 0 && chance(60) ? someObject() : NULL };
   const proxies = world.objects.map((_, i) => i).filter((i) => world.objects[i].proxy && !world.objects[i].revoked);
   const o = code !== 2 && proxies.length > 0 && chance(style.proxies) ? pick(proxies) : chance(style.last) ? n - 1 - random(Math.min(n, 3)) : random(n), key = someKey(o, style);
+  if (code === 7 && chance(50)) return { code, object: world.numbers.get(baseOf(o)) };
+  if (style.loops && proxies.length > 0 && chance(12)) { const p = pick(proxies); return { code: 5, object: world.numbers.get(baseOf(p)), value: object(p) }; }
   switch (code) {
-    case 2: return { code, object: o, value: someMask() };
-    case 3: return proxies.length > 0 && chance(50) ? { code, object: o === proxies[0] || chance(80) ? pick(proxies) : o } : { code: 6, object: o };
+    case 2: return { code, object: o, value: someMask(style) };
+    case 3: return proxies.length > 0 && chance(30) ? { code, object: o === proxies[0] || chance(80) ? pick(proxies) : o } : { code: 6, object: o };
     case 5: return { code, object: o, value: chance(80) ? someObject() : NULL };
     case 9: return { code, object: o, key, descriptor: handedDescriptor(o, valueOf(key)) };
     case 11: return { code, object: o, key, receiver: someReceiver(o) };
@@ -227,28 +227,13 @@ function damaged(bytes) {
   return copy;
 }
 
-const someRoom = (s) => (s.code !== 14 ? random(4) * random(12) : weighed([[85, 9 * (ownKeys(s.object).length + 4)], [8, 9 * ownKeys(s.object).length], [4, Math.max(0, 9 * ownKeys(s.object).length - 1)], [3, random(40)]]));
+// The output of a listing: room for the keys and some more, just enough, or too little.
+function someRoom(o) {
+  const n = 9 * ownKeys(o).length;
+  return weighed([[85, n + 36], [8, n], [4, Math.max(0, n - 1)], [3, random(40)]]);
+}
 
 const anyAnswer = () => weighed([[4, () => answered(someValue())], [2, () => described(someDescriptor())], [2, () => listed([someString(), someSymbol()])], [1, () => thrown(someValue())]])();
-
-function step(style) {
-  let s = someStep(style);
-  if (s.code === 14 && walk(s.object) > 1500) s = { code: 6, object: s.object };
-  if (s.code === 5 && !style.loops && s.value[0] === 7 && [s.object, payload(s.value)].some(isLoop)) s = { code: 4, object: s.object };
-  if (s.code === 5 && !style.loops && s.value[0] === 7 && wouldLoop(s.object, payload(s.value))) s = { code: 4, object: s.object };
-  if (chance(4)) s = spoilt(s);
-  const record = chance(2) ? damaged(stepBytes(s)) : stepBytes(s), room = record[0] === 14 && record[1] < world.objects.length ? someRoom({ code: 14, object: record[1] }) : random(4) * random(12);
-  if (chance(3)) {
-    const answers = [];
-    for (let n = random(4); n > 0; n--) answers.push(anyAnswer());
-    const bytes = sheetBytes(answers);
-    return doStep(record, chance(75) ? damaged(bytes) : bytes, room);
-  }
-  const end = chance(8) ? random(4) : FULL.answers;       // where the sheet ends too soon
-  let given = 0;
-  const extra = end === FULL.answers && chance(15) ? [anyAnswer(), anyAnswer()].slice(random(2)) : [];
-  return doStep(record, (asks) => (given++ < end ? someAnswer(asks) : null), room, extra);
-}
 
 // Whether a prototype would make a loop.
 function wouldLoop(o, p) {
@@ -260,6 +245,29 @@ function wouldLoop(o, p) {
     at = made.proxy ? made.target : world.numbers.get(Reflect.getPrototypeOf(made.it));
   }
   return false;
+}
+
+// A step as the style has it, or another where it would walk too far or make a loop that is not asked for.
+function chosenStep(style) {
+  const s = someStep(style);
+  if (s.code === 5 && !style.loops && s.value[0] === 7 && (isLoop(s.object) || wouldLoop(s.object, payload(s.value)))) return { code: 4, object: s.object };
+  return chance(4) ? spoilt(s) : s;
+}
+
+// False where the world cannot go on.
+function step(style) {
+  const whole = stepBytes(chosenStep(style)), record = chance(2) ? damaged(whole) : whole;
+  const lists = record[0] === 14 && record[1] < world.objects.length;
+  if (lists && walk(record[1]) > 1500) record[0] = 6;
+  const room = lists ? someRoom(record[1]) : random(4) * random(12);
+  if (chance(3)) {
+    const bytes = sheetBytes(Array.from({ length: random(4) }, anyAnswer));
+    return doStep(record, chance(75) ? damaged(bytes) : bytes, room);
+  }
+  const end = chance(8) ? random(4) : FULL.answers;       // where the sheet ends too soon
+  let given = 0;
+  const extra = end === FULL.answers && chance(15) ? [anyAnswer(), anyAnswer()].slice(random(2)) : [];
+  return doStep(record, (asks) => (given++ < end ? someAnswer(asks) : null), room, extra);
 }
 
 // Descriptors by themselves --------------------------------------------------------------
@@ -276,10 +284,11 @@ function stepAlone() {
 
 // Worlds ---------------------------------------------------------------------------------
 
-const EVEN = [[5, 1], [6, 2], [1, 3], [6, 4], [5, 5], [5, 6], [4, 7], [12, 8], [20, 9], [9, 10], [10, 11], [12, 12], [6, 13], [10, 14]];
+const EVEN = [[4, 1], [5, 2], [1, 3], [6, 4], [5, 5], [5, 6], [4, 7], [12, 8], [20, 9], [9, 10], [10, 11], [12, 12], [6, 13], [10, 14]];
 const STYLES = [
-  [70, { calls: 150, strings: 8, last: 30, proxies: 45, codes: EVEN }],
-  [10, { calls: 60, strings: 4, last: 60, proxies: 60, codes: [[2, 1], [14, 2], [1, 3], [4, 4], [3, 5], [4, 6], [3, 7], [10, 8], [12, 9], [6, 10], [8, 11], [8, 12], [5, 13], [8, 14]] }],
+  [70, { calls: 150, strings: 8, last: 30, proxies: 60, codes: EVEN }],
+  [10, { calls: 60, strings: 4, last: 60, proxies: 75, codes: [[2, 1], [14, 2], [1, 3], [4, 4], [3, 5], [4, 6], [3, 7], [10, 8], [12, 9], [6, 10], [8, 11], [8, 12], [5, 13], [8, 14]] }],
+  [24, { calls: 60, strings: 5, last: 40, proxies: 65, codes: [[2, 1], [4, 2], [3, 4], [3, 5], [3, 6], [9, 7], [16, 8], [22, 9], [9, 10], [12, 11], [9, 12], [6, 13], [16, 14]] }],
   [6, { calls: 50, strings: 4, last: 40, proxies: 40, loops: true, codes: EVEN }],
   [4, { calls: 120, strings: 3, last: 5, proxies: 20, codes: [[30, 1], [30, 2], [2, 3], [5, 9], [5, 11], [5, 12]] }],
   [2, { calls: 700, strings: 4, last: 0, proxies: 10, crowd: true, codes: [[1, 1], [1, 2], [90, 9], [2, 10], [12, 12], [3, 13], [1, 14]] }],

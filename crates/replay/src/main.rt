@@ -1,23 +1,9 @@
 // Performs the calls that a JavaScript engine performed, and counts those that end otherwise here than there.
 // tests/engines/1-records.js has the layout of a line.
-mod compare;
 mod perform;
-mod tally;
 
-use compare::difference;
-use compare::is_told;
-use perform::Ending;
+use comparison::Ending;
 use perform::perform;
-use tally::CALLS;
-use tally::DIFFERENCES;
-use tally::KINDS;
-use tally::LINES;
-use tally::OUTCOMES;
-use tally::REFUSALS;
-use tally::TOLD;
-use tally::count_of;
-use tally::counted;
-use tally::print_tally;
 ghost use Prim.Native.Nat.{_<_, _≤_, _+_, _*_};
 ghost use lib.ListN.{length};
 
@@ -82,110 +68,6 @@ fn fill(output: &mut [u8]) {
     }
 }
 
-fn print(text: &[u8]) {
-    io::write_all(1, text);
-}
-
-fn print_bytes(bytes: &[u8]) {
-    let n = bytes.len();
-    let mut i: usize = 0;
-    while i < n {
-        io::print_hex(1, wide(bytes[i]) as u64, 2);
-        i += 1;
-    }
-    print(b"\n");
-}
-
-fn print_part(part: u64) {
-    match part {
-        1 => print(b"outcome"),
-        2 => print(b"number"),
-        3 => print(b"answers"),
-        4 => print(b"completion"),
-        5 => print(b"output"),
-        _ => print(b"store"),
-    }
-}
-
-// A difference: which line and part, what was expected, and what there is.
-fn print_difference(
-    line: u64,
-    part: u64,
-    expected: &[u8],
-    e: Ending,
-    ours: &[u8],
-    output: &[u8],
-    dump: &[u8],
-) {
-    print(b"line ");
-    io::print_decimal(1, line);
-    print(b": the ");
-    print_part(part);
-    print(b" differs; outcome ");
-    io::print_decimal(1, e.outcome);
-    print(b", number ");
-    io::print_decimal(1, e.number);
-    print(b", answers ");
-    io::print_decimal(1, e.answers);
-    print(b"\n  expected   ");
-    print_bytes(expected);
-    print(b"  completion ");
-    print_bytes(ours);
-    print(b"  output     ");
-    print_bytes(output);
-    print(b"  store      ");
-    print_bytes(dump);
-}
-
-fn held(bytes: &[u8], n: usize) -> usize
-    ensures { λ r. ⌜ r ≤ length (now (bytes .entry)) ⌝ }
-{
-    let size = bytes.len();
-    if n < size { n } else { size }
-}
-
-fn count_call(tally: &mut [u64; 128], kind: u8, expected: &[u8], e: Ending) {
-    counted(tally, KINDS + (wide(kind) % 8) as u64);
-    if kind != 0 {
-        counted(tally, CALLS);
-        counted(tally, OUTCOMES + e.outcome % 4);
-    }
-    if e.outcome == 0 {
-        counted(tally, REFUSALS + e.number % 16);
-    }
-    if e.outcome == 2 {
-        counted(tally, e.number % 32);
-        if is_told(expected, e.number) {
-            counted(tally, TOLD + e.number % 32);
-        }
-    }
-}
-
-fn show(
-    tally: &[u64; 128],
-    part: u64,
-    expected: &[u8],
-    e: Ending,
-    ours: &[u8],
-    output: &[u8],
-    dump: &[u8],
-    size: usize,
-) {
-    let n = held(ours, e.size);
-    let m = held(dump, size);
-    if count_of(tally, DIFFERENCES) <= SHOWN {
-        print_difference(
-            count_of(tally, LINES),
-            part,
-            expected,
-            e,
-            &ours[..n],
-            output,
-            &dump[..m],
-        );
-    }
-}
-
 // The call, over an output of 0xee.
 fn performed(
     words: &mut [u64],
@@ -212,11 +94,22 @@ fn report(
     dump: &[u8],
     size: usize,
 ) {
-    counted(tally, LINES);
-    count_call(tally, kind, expected, e);
+    let told = comparison::is_told(expected, e.number);
+    tally::count_call(tally, kind, e.outcome, e.number, told);
     if part != 0 {
-        counted(tally, DIFFERENCES);
-        show(tally, part, expected, e, ours, output, dump, size);
+        tally::count_difference(tally);
+        if tally::differences(tally) <= SHOWN {
+            comparison::show(
+                tally::lines(tally),
+                part,
+                expected,
+                e,
+                ours,
+                output,
+                dump,
+                size,
+            );
+        }
     }
 }
 
@@ -235,7 +128,7 @@ fn call(
 ) {
     let e = performed(words, strings, kind, bytes, given, output, ours);
     let size = readout::put_store(dump, words, strings);
-    let part = difference(expected, e, ours, output, dump, size);
+    let part = comparison::difference(expected, e, ours, output, dump, size);
     report(tally, part, kind, expected, e, ours, output, dump, size);
 }
 
@@ -280,8 +173,8 @@ fn read_rest(text: &mut [u8], body: &mut [u8]) -> bool
 
 // A line that cannot be read counts as a difference, and is the last.
 fn broken(tally: &mut [u64; 128]) -> bool {
-    print(b"a line is broken\n");
-    counted(tally, DIFFERENCES);
+    io::write_all(1, b"a line is broken\n");
+    tally::count_difference(tally);
     false
 }
 
@@ -398,5 +291,5 @@ fn main() {
     {
         turns -= 1;
     }
-    print_tally(&tally);
+    tally::print_tally(&tally);
 }

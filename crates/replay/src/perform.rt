@@ -1,6 +1,7 @@
 // A call by its kind, and what it ends in.
 use alone::DescriptorAnswer;
 use alone::Verdict;
+use comparison::Ending;
 use lasting::Outcome;
 use lasting::Report;
 use record::Counts;
@@ -9,15 +10,6 @@ ghost use mathlib.Core.Path.{_≡_};
 ghost use mathlib.Core.Bool.{true};
 ghost use Prim.Native.Nat.{_≤_, _*_, _+_};
 ghost use lib.ListN.{length};
-
-// Outcome (0 refused, 1 result, 2 TypeError, 3 throw), the refusal's or message's number, answers used, and how many bytes of the
-// completion were written.
-pub struct Ending {
-    pub outcome: u64,
-    pub number: u64,
-    pub answers: u64,
-    pub size: usize,
-}
 
 const UNKNOWN: u64 = 255;
 

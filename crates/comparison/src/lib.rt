@@ -1,6 +1,15 @@
 // What a call ends in, beside what the line expects.
-use crate::perform::Ending;
 ghost use Prim.Native.Nat.{_<_, _≤_, _+_};
+ghost use lib.ListN.{length};
+
+// Outcome (0 refused, 1 result, 2 TypeError, 3 throw), the refusal's or message's number, answers used, and how many bytes of the
+// completion were written.
+pub struct Ending {
+    pub outcome: u64,
+    pub number: u64,
+    pub answers: u64,
+    pub size: usize,
+}
 
 fn wide(b: u8) -> u64
     ensures { λ r. ⌜ r < 256 ⌝ }
@@ -82,14 +91,14 @@ pub fn is_told(expected: &[u8], n: u64) -> bool {
 }
 
 // A length of at most 65536.
-pub fn limited(n: usize) -> usize
+fn limited(n: usize) -> usize
     ensures { λ r. ⌜ r ≤ 65536 ⌝ }
 {
     if n < 65536 { n } else { 65536 }
 }
 
 // Where the completion ends.
-pub fn completion_end(expected: &[u8]) -> usize
+fn completion_end(expected: &[u8]) -> usize
     ensures { λ r. ⌜ r < 65544 ⌝ }
 {
     let low = byte_at(expected, 6);
@@ -166,4 +175,81 @@ pub fn difference(
         return 4;
     }
     2
+}
+
+fn print(text: &[u8]) {
+    io::write_all(1, text);
+}
+
+fn print_bytes(bytes: &[u8]) {
+    let n = bytes.len();
+    let mut i: usize = 0;
+    while i < n {
+        io::print_hex(1, wide(bytes[i]), 2);
+        i += 1;
+    }
+    print(b"\n");
+}
+
+fn print_part(part: u64) {
+    match part {
+        1 => print(b"outcome"),
+        2 => print(b"number"),
+        3 => print(b"answers"),
+        4 => print(b"completion"),
+        5 => print(b"output"),
+        _ => print(b"store"),
+    }
+}
+
+fn print_difference(
+    line: u64,
+    part: u64,
+    expected: &[u8],
+    e: Ending,
+    ours: &[u8],
+    output: &[u8],
+    dump: &[u8],
+) {
+    print(b"line ");
+    io::print_decimal(1, line);
+    print(b": the ");
+    print_part(part);
+    print(b" differs; outcome ");
+    io::print_decimal(1, e.outcome);
+    print(b", number ");
+    io::print_decimal(1, e.number);
+    print(b", answers ");
+    io::print_decimal(1, e.answers);
+    print(b"\n  expected   ");
+    print_bytes(expected);
+    print(b"  completion ");
+    print_bytes(ours);
+    print(b"  output     ");
+    print_bytes(output);
+    print(b"  store      ");
+    print_bytes(dump);
+}
+
+fn held(bytes: &[u8], n: usize) -> usize
+    ensures { λ r. ⌜ r ≤ length (now (bytes .entry)) ⌝ }
+{
+    let size = bytes.len();
+    if n < size { n } else { size }
+}
+
+// Shows a difference: which line and part, what was expected, and what there is.
+pub fn show(
+    line: u64,
+    part: u64,
+    expected: &[u8],
+    e: Ending,
+    ours: &[u8],
+    output: &[u8],
+    dump: &[u8],
+    size: usize,
+) {
+    let n = held(ours, e.size);
+    let m = held(dump, size);
+    print_difference(line, part, expected, e, &ours[..n], output, &dump[..m]);
 }

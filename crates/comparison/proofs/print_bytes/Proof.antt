@@ -3,28 +3,28 @@ use Prim.Native.Nat.{_≤_, _<_, _-_, _*_, _+_}
 use lib.ListN.{length, length-take}
 use native.Mathlib.Omega.{arith}
 use borrow.Author.Needs.{needs}
-use Rattle.replay.proofs.compare.right_count.Statement.{statement}
-use Rattle.replay.proofs.compare.right_count.Tie as tie
+use Rattle.comparison.proofs.print_bytes.Statement.{statement}
+use Rattle.comparison.proofs.print_bytes.Tie as tie
 
 abbrev Inv-loop : tie.InvT-loop
-Inv-loop expected i₀ count₀ i count = (i ≤ 32) × (count ≤ i)
+Inv-loop bytes n i₀ t4 i = (i ≤ n) × (n ≡ length bytes)
 
 abbrev μ-loop : tie.MeasureT-loop
-μ-loop expected i₀ count₀ i count = 32 - i
+μ-loop bytes n i₀ t4 i = n - i
 
-pub right-count-spec : {M : Type 1} → statement M
-right-count-spec =
+pub print-bytes-spec : {M : Type 1} → statement M
+print-bytes-spec =
     tie.close
     (tie.spec
     Inv-loop
     μ-loop
     (λ c. search needs)
+    (λ c. search needs)
+    (λ c κs. search needs)
     (λ c κs. search needs)
     (λ c. search needs)
     (λ c. search needs)
     (λ c. search needs)
     (λ c. search needs)
-    (λ c. search needs)
-    (λ c. search needs)
-    (λ c. search needs)
+    (λ c κs. search needs)
     (λ c. search needs))

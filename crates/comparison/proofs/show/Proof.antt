@@ -3,8 +3,8 @@ use Prim.Native.Nat.{_≤_, _<_, _-_, _*_, _+_}
 use lib.ListN.{length, length-take}
 use native.Mathlib.Omega.{arith}
 use borrow.Author.Needs.{needs}
-use Rattle.replay.proofs.show.Statement.{statement}
-use Rattle.replay.proofs.show.Tie as tie
+use Rattle.comparison.proofs.show.Statement.{statement}
+use Rattle.comparison.proofs.show.Tie as tie
 
 slice-aggregate-print-difference : tie.Need-slice-aggregate-print-difference
 slice-aggregate-print-difference c = simp length-take (omega arith)
@@ -18,10 +18,7 @@ show-spec =
     (tie.spec
     (λ c κs. search needs)
     (λ c κs. search needs)
-    (λ c κs. search needs)
-    (λ c κs. search needs)
     slice-aggregate-print-difference
     slice-aggregate-print-difference-2
     (λ c κs. search needs)
-    (λ c. search needs)
     (λ c. search needs))

@@ -3,28 +3,24 @@ use Prim.Native.Nat.{_≤_, _<_, _-_, _*_, _+_}
 use lib.ListN.{length, length-take}
 use native.Mathlib.Omega.{arith}
 use borrow.Author.Needs.{needs}
-use Rattle.replay.proofs.print_bytes.Statement.{statement}
-use Rattle.replay.proofs.print_bytes.Tie as tie
+use Rattle.tally.proofs.print_messages.Statement.{statement}
+use Rattle.tally.proofs.print_messages.Tie as tie
 
 abbrev Inv-loop : tie.InvT-loop
-Inv-loop bytes n i₀ t4 i = (i ≤ n) × (n ≡ length bytes)
+Inv-loop tally n₀ n = n ≤ 32
 
 abbrev μ-loop : tie.MeasureT-loop
-μ-loop bytes n i₀ t4 i = n - i
+μ-loop tally n₀ n = 32 - n
 
-pub print-bytes-spec : {M : Type 1} → statement M
-print-bytes-spec =
+pub print-messages-spec : {M : Type 1} → statement M
+print-messages-spec =
     tie.close
     (tie.spec
     Inv-loop
     μ-loop
     (λ c. search needs)
-    (λ c. search needs)
-    (λ c κs. search needs)
     (λ c κs. search needs)
     (λ c. search needs)
     (λ c. search needs)
     (λ c. search needs)
-    (λ c. search needs)
-    (λ c κs. search needs)
     (λ c. search needs))

@@ -1,21 +1,21 @@
-// Counts, and the report of them.
+// What is counted of calls and comparisons, and the report of it.
 ghost use Prim.Native.Nat.{_<_, _≤_};
 
 // Where each is counted: messages by their numbers, those that the engine's text tells alone, refusals, kinds of call, outcomes,
 // and how many calls, lines and differences there are.
-pub const TOLD: u64 = 32;
+const TOLD: u64 = 32;
 
-pub const REFUSALS: u64 = 64;
+const REFUSALS: u64 = 64;
 
-pub const KINDS: u64 = 80;
+const KINDS: u64 = 80;
 
-pub const OUTCOMES: u64 = 90;
+const OUTCOMES: u64 = 90;
 
-pub const CALLS: u64 = 96;
+const CALLS: u64 = 96;
 
-pub const LINES: u64 = 97;
+const LINES: u64 = 97;
 
-pub const DIFFERENCES: u64 = 98;
+const DIFFERENCES: u64 = 98;
 
 const MESSAGE_COUNT: u64 = 31;
 
@@ -27,14 +27,45 @@ fn place(at: u64) -> usize
     (at % 128) as usize
 }
 
-pub fn counted(tally: &mut [u64; 128], at: u64) {
+fn counted(tally: &mut [u64; 128], at: u64) {
     let i = place(at);
     tally[i] = std::num::wrapping_add_u64(tally[i], 1);
 }
 
-pub fn count_of(tally: &[u64; 128], at: u64) -> u64 {
+fn count_of(tally: &[u64; 128], at: u64) -> u64 {
     let i = place(at);
     tally[i]
+}
+
+// A call by its kind, outcome and number; `told` says whether the engine's text tells the message alone. Kind 0 is no call.
+pub fn count_call(tally: &mut [u64; 128], kind: u8, outcome: u64, number: u64, told: bool) {
+    counted(tally, LINES);
+    counted(tally, KINDS + (kind % 8) as u64);
+    if kind != 0 {
+        counted(tally, CALLS);
+        counted(tally, OUTCOMES + outcome % 4);
+    }
+    if outcome == 0 {
+        counted(tally, REFUSALS + number % 16);
+    }
+    if outcome == 2 {
+        counted(tally, number % 32);
+        if told {
+            counted(tally, TOLD + number % 32);
+        }
+    }
+}
+
+pub fn count_difference(tally: &mut [u64; 128]) {
+    counted(tally, DIFFERENCES);
+}
+
+pub fn lines(tally: &[u64; 128]) -> u64 {
+    count_of(tally, LINES)
+}
+
+pub fn differences(tally: &[u64; 128]) -> u64 {
+    count_of(tally, DIFFERENCES)
 }
 
 fn print(text: &[u8]) {

@@ -3,26 +3,23 @@ use Prim.Native.Nat.{_≤_, _<_, _-_, _*_, _+_}
 use lib.ListN.{length, length-take}
 use native.Mathlib.Omega.{arith}
 use borrow.Author.Needs.{needs}
-use Rattle.replay.proofs.compare.stands.Statement.{statement}
-use Rattle.replay.proofs.compare.stands.Tie as tie
+use Rattle.tally.proofs.print_refusals.Statement.{statement}
+use Rattle.tally.proofs.print_refusals.Tie as tie
 
 abbrev Inv-loop : tie.InvT-loop
-Inv-loop expected at ours n i₀ i = i ≤ n
+Inv-loop tally n₀ n = n ≤ 12
 
 abbrev μ-loop : tie.MeasureT-loop
-μ-loop expected at ours n i₀ i = n - i
+μ-loop tally n₀ n = 12 - n
 
-pub stands-spec : {M : Type 1} → statement M
-stands-spec =
+pub print-refusals-spec : {M : Type 1} → statement M
+print-refusals-spec =
     tie.close
     (tie.spec
     Inv-loop
     μ-loop
     (λ c. search needs)
-    (λ c. search needs)
     (λ c κs. search needs)
-    (λ c κs. search needs)
-    (λ c. search needs)
     (λ c. search needs)
     (λ c. search needs)
     (λ c. search needs)
