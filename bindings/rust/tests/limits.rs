@@ -144,6 +144,8 @@ fn answers_and_keys() {
     let Outcome::Result(Completion::Keys(listed)) = run(&mut pair, &step(14, 1, NONE, NONE), &[keys(256)]).outcome else { panic!() };
     assert_eq!(listed.len(), 256);
     refused(run(&mut pair, &step(14, 1, NONE, NONE), &[keys(257)]), 1);
+    // the longest sheet
+    assert_eq!(result(run(&mut pair, &step(14, 1, NONE, NONE), &vec![keys(256); 64])).answers, 1);
     let sheet = sheet_bytes(&[keys(256)]);
     result(pair.step(&step(14, 1, NONE, NONE), &sheet, 9 * 256).report);
     refused(pair.step(&step(14, 1, NONE, NONE), &sheet, 9 * 256 - 1).report, 11);

@@ -11,7 +11,26 @@ use crate::plain::value::{Key, Value};
 use crate::plain::world::{Object, World};
 
 pub const TEXTS: [&str; 20] = [
-    "", "a", "b", "visits", "0", "1", "01", "7", "10", "4294967294", "4294967295", "99999999999", "length", "-0", "+1", "9", "é", "2147483648", "00", "length of thirty-two code units..",
+    "",
+    "a",
+    "b",
+    "visits",
+    "0",
+    "1",
+    "01",
+    "7",
+    "10",
+    "4294967294",
+    "4294967295",
+    "99999999999",
+    "length",
+    "-0",
+    "+1",
+    "9",
+    "é",
+    "2147483648",
+    "00",
+    "length of thirty-two code units..",
 ];
 
 /// How a list of calls is made.
@@ -39,7 +58,14 @@ pub struct Generator {
 impl Generator {
     pub fn new(seed: u64) -> Self {
         let mut random = Random::new(seed);
-        let habits = Habits { damage: random.pick(&[3, 8, 30, 1000]), wild: random.pick(&[3, 6, 12]), keys: random.pick(&[2, 4, 12, 200]), proxies: random.pick(&[1, 2, 3]), flags: random.pick(&[3, 4, 6]), making: random.pick(&[12, 12, 3]) };
+        let habits = Habits {
+            damage: random.pick(&[3, 8, 30, 1000]),
+            wild: random.pick(&[3, 6, 12]),
+            keys: random.pick(&[2, 4, 12, 200]),
+            proxies: random.pick(&[1, 2, 3]),
+            flags: random.pick(&[3, 4, 6]),
+            making: random.pick(&[12, 12, 3]),
+        };
         Generator { random, habits }
     }
 
@@ -48,8 +74,25 @@ impl Generator {
         match r.below(4) {
             0 => Value::Integer32(r.pick(&[0, 0, 1, -1, 70000, 4464, i32::MAX, i32::MIN])),
             1 => Value::Integer32(r.next() as i32),
-            2 => Value::Float64(r.pick(&[0.0, -0.0, 0.0, -0.0, 1.0, -1.0, 70000.0, 4464.0, 0.5, f64::NAN, -f64::NAN, f64::INFINITY, f64::MIN_POSITIVE, 5e-324])),
-            _ => Value::Float64(f64::from_bits(r.pick(&[0x7ff8_0000_0000_0001, 0xfff0_0000_0000_0001, 0x7ff0_0000_0000_0000, 0x40f1_1700_0000_0000]))),
+            2 => Value::Float64(r.pick(&[
+                0.0,
+                -0.0,
+                0.0,
+                -0.0,
+                1.0,
+                -1.0,
+                70000.0,
+                4464.0,
+                0.5,
+                f64::NAN,
+                -f64::NAN,
+                f64::INFINITY,
+                f64::MIN_POSITIVE,
+                5e-324,
+            ])),
+            _ => {
+                Value::Float64(f64::from_bits(r.pick(&[0x7ff8_0000_0000_0001, 0xfff0_0000_0000_0001, 0x7ff0_0000_0000_0000, 0x40f1_1700_0000_0000])))
+            }
         }
     }
 
@@ -231,7 +274,8 @@ impl Generator {
     pub fn step(&mut self, world: &World) -> Step {
         let code = self.code(world);
         let object = if code == 1 { 0 } else { self.object(world) as usize };
-        let mut step = Step { code, object, key: Value::Undefined, value: Value::Undefined, receiver: Value::Undefined, descriptor: Descriptor::default() };
+        let mut step =
+            Step { code, object, key: Value::Undefined, value: Value::Undefined, receiver: Value::Undefined, descriptor: Descriptor::default() };
         if (8..=13).contains(&code) {
             step.key = self.key_at(world, object).value();
         }
@@ -433,12 +477,20 @@ impl Generator {
         for i in 0..260 {
             pair.enter_string(&format!("{i}").encode_utf16().collect::<Vec<u16>>());
         }
-        let object = |code: u8, value: Value| Step { code, object: 0, key: Value::Undefined, value, receiver: Value::Undefined, descriptor: Descriptor::default() };
+        let object = |code: u8, value: Value| Step {
+            code,
+            object: 0,
+            key: Value::Undefined,
+            value,
+            receiver: Value::Undefined,
+            descriptor: Descriptor::default(),
+        };
         pair.step(&step_bytes(&object(1, Value::Null)), &[0], 0);
         let Some(o) = pair.world.objects.iter().position(|o| matches!(o, Object::Ordinary(o) if o.extensible)) else { return };
         for i in 0..250 + self.random.below(8) as u64 {
             let key = if i < 200 { Value::String(i) } else { Value::Symbol(i) };
-            let step = Step { object: o, key, descriptor: Descriptor::data(Value::Integer32(i as i32), true, true, true), ..object(9, Value::Undefined) };
+            let step =
+                Step { object: o, key, descriptor: Descriptor::data(Value::Integer32(i as i32), true, true, true), ..object(9, Value::Undefined) };
             pair.step(&step_bytes(&step), &[0], 0);
         }
     }
