@@ -1,15 +1,14 @@
 # rt is Rattle's command: it proves the crates of crates.txt and runs their programs.
-.PHONY: run test edits bench vectors messages lib bindings example fuzz c-test
+.PHONY: run test edits bench vectors messages engines engine-check install-engines lib c-test bindings example fuzz
 
 # A day of steps and string entries over one store, a line for each.
 run:
 	rt check day
 	target/bin/day < crates/day/stdin
 
-# The gate. rt ci comes last: it starts from nothing and ends in 'N passed, 0 failed'.
+# The gate. It starts from nothing and ends in 'N passed, 0 failed'.
 test:
-	rt fmt --check
-	rt ci
+	tests/gate.sh
 
 # The must-fail edits that the gate leaves out, of all crates or of CRATES="NAME NAME".
 edits:
@@ -24,10 +23,29 @@ bench:
 	rustc --edition 2021 -O -C target-cpu=x86-64 -L target/staticlib -o target/steps bench/steps.rs
 	target/steps
 
-# The outside vectors and the day's calls, made anew: the same bytes, unless the scripts changed.
+# The outside vectors, the day's calls and the fixed list of node's answers, made anew: the same bytes, unless the scripts or node's texts changed.
 vectors:
 	node tests/vectors.mjs > crates/vectors/stdin
 	node tests/day.mjs > crates/day/stdin
+	mkdir -p target
+	cat tests/engines/*.js > target/engines.js
+	node target/engines.js 1 400 fixed > crates/replay/stdin
+
+# Calls performed by the engines that are installed, on their own objects, against our own: CALLS on each, from SEED.
+SEED = 1
+CALLS = 200000
+engines:
+	rt check replay
+	for engine in node gjs jsc; do if command -v $$engine > /dev/null; then sh tests/engines.sh $$engine $(SEED) $(CALLS) || exit 1; fi; done
+
+# A smaller part of the same, on node alone.
+engine-check:
+	rt check replay
+	sh tests/engines.sh node 7 20000
+
+# gjs and jsc, from Debian's packages.
+install-engines:
+	sh tests/install-engines.sh
 
 # The message table against boa_engine's source, which lies in the folder BOA.
 messages:

@@ -20,13 +20,7 @@ extern "C" {
     );
 
     /// A string's code units are entered.
-    pub fn demnyaluz_enter_string(
-        strings: *mut u16,
-        strings_length: usize,
-        units: *const u16,
-        units_length: usize,
-        report: *mut [u64; 10],
-    );
+    pub fn demnyaluz_enter_string(strings: *mut u16, strings_length: usize, units: *const u16, units_length: usize, report: *mut [u64; 10]);
 
     /// A descriptor is completed by itself.
     pub fn demnyaluz_complete(

@@ -164,7 +164,13 @@ impl Store {
     }
 
     /// \[\[DefineOwnProperty]]
-    pub fn define_own_property(&mut self, object: ObjectId, key: impl Into<PropertyKey>, descriptor: PropertyDescriptor, answers: &[Answer]) -> Result<bool, Failure> {
+    pub fn define_own_property(
+        &mut self,
+        object: ObjectId,
+        key: impl Into<PropertyKey>,
+        descriptor: PropertyDescriptor,
+        answers: &[Answer],
+    ) -> Result<bool, Failure> {
         self.step(&Step::DefineOwnProperty { object, key: key.into(), descriptor }, answers).boolean()
     }
 
@@ -219,7 +225,12 @@ impl Store {
 
     /// ValidateAndApplyPropertyDescriptor by itself: whether it accepts, and the property after it. No current descriptor is an absent
     /// property.
-    pub fn validate(&self, extensible: bool, descriptor: &PropertyDescriptor, current: Option<&PropertyDescriptor>) -> Result<(bool, Option<Property>), Refusal> {
+    pub fn validate(
+        &self,
+        extensible: bool,
+        descriptor: &PropertyDescriptor,
+        current: Option<&PropertyDescriptor>,
+    ) -> Result<(bool, Option<Property>), Refusal> {
         let (bytes, mut report) = (descriptor.to_bytes(), [0; 10]);
         let current = current.map_or(Vec::new(), |c| c.to_bytes().to_vec());
         let accepted = unsafe {

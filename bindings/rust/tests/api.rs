@@ -1,7 +1,7 @@
 //! The crate's own types: what they encode to, what reports they give, and how the store looks from outside.
 use demnyaluz::{
-    raw, sheet_bytes, Answer, Completion, Failure, FunctionId, Message, ObjectId, Property, PropertyDescriptor, PropertyKey, Refusal, Step, Store, StringId,
-    SymbolId, Traps, Value,
+    raw, sheet_bytes, Answer, Completion, Failure, FunctionId, Message, ObjectId, Property, PropertyDescriptor, PropertyKey, Refusal, Step, Store,
+    StringId, SymbolId, Traps, Value,
 };
 
 fn hex(bytes: &[u8]) -> String {

@@ -102,7 +102,14 @@ fn answers_stand_behind_or_below() {
     let expected = vec![
         Answer::Value(4_464.into()),
         Answer::Throw(Value::Null),
-        Answer::Descriptor(PropertyDescriptor { value: Some(1.into()), writable: Some(false), enumerable: Some(true), configurable: Some(false), get: None, set: None }),
+        Answer::Descriptor(PropertyDescriptor {
+            value: Some(1.into()),
+            writable: Some(false),
+            enumerable: Some(true),
+            configurable: Some(false),
+            get: None,
+            set: None,
+        }),
         Answer::Keys(vec![SymbolId(3).into(), Value::Null]),
         Answer::Keys(vec![]),
         Answer::Descriptor(PropertyDescriptor { get: Some(FunctionId(1).into()), set: Some(Value::Undefined), ..Default::default() }),

@@ -19,17 +19,24 @@ fn list_of_calls(seed: u64, size: usize) -> Tally {
     pair.tally
 }
 
+/// LISTS in the environment makes fewer lists of calls, for a run under a memory checker.
+const LISTS: u64 = 3000;
+
 #[test]
 fn every_call_is_as_the_plain_implementation_says() {
-    let thread = std::thread::Builder::new().stack_size(64 << 20).spawn(|| {
+    let lists = std::env::var("LISTS").map_or(LISTS, |n| n.parse().expect("a number"));
+    let thread = std::thread::Builder::new().stack_size(64 << 20).spawn(move || {
         let mut tally = Tally::default();
-        for seed in 1..=600 {
+        for seed in 1..=lists {
             tally.add(&list_of_calls(seed, 120));
         }
         tally
     });
     let tally = thread.unwrap().join().unwrap();
     println!("{tally:?}");
+    if lists < LISTS {
+        return;
+    }
     assert_eq!(tally.missing(), (vec![], vec![]), "refusals and messages that never came");
     assert!(tally.codes[1..].iter().all(|n| *n > 0));
 }

@@ -61,7 +61,8 @@ fn lines_bytes_and_reports_are_printed() {
 fn cells_are_printed_and_nothing_runs() {
     let ran = steps(&["--cells", "-"], "object\nhas o0 \"a\"");
     assert!(ran.status.success());
-    let expected = "step object key value receiver descriptor sheet\n01 00 - 010000000000000000 - - -\n0f 00 - - - - 0061\n0a 00 050000000000000000 - - - -\n";
+    let expected =
+        "step object key value receiver descriptor sheet\n01 00 - 010000000000000000 - - -\n0f 00 - - - - 0061\n0a 00 050000000000000000 - - - -\n";
     assert_eq!(text(ran.stdout), expected);
 }
 

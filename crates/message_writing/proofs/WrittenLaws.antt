@@ -2,6 +2,7 @@
 use Prim.Native.Nat.{ℕ, _≤_, _<_, _+_}
 use native.Mathlib.Omega.{arith}
 use mathlib.Core.Path.{_≡_, sym, ap, _∙_}
+use mathlib.Core.Bool.{Bool, cond}
 use mathlib.Core.List.{List}
 use lib.ListN.{length, getD, set, drop}
 use borrow.Author.Tests.{le-leb, lt-leb}
@@ -21,8 +22,8 @@ overwrite-next bytes text i h =
 
 pub written-fits : (text bytes : List ℕ) → length text ≤ length bytes → overwrite bytes 0 text ≡ written text bytes
 unfolding written
-written-fits text bytes h = rw (le-leb (length text) (length bytes) h)
+written-fits text bytes h = ap (λ (b : Bool). cond b (overwrite bytes 0 text) bytes) (sym (le-leb (length text) (length bytes) h))
 
 pub written-not : (text bytes : List ℕ) → length bytes < length text → bytes ≡ written text bytes
 unfolding written
-written-not text bytes h = rw (lt-leb (length text) (length bytes) h)
+written-not text bytes h = ap (λ (b : Bool). cond b (overwrite bytes 0 text) bytes) (sym (lt-leb (length text) (length bytes) h))

@@ -20,7 +20,11 @@ fn main() -> ExitCode {
         return ExitCode::from(2);
     };
     let mut text = String::new();
-    let read = if file == "-" { std::io::stdin().read_to_string(&mut text) } else { std::fs::File::open(file).and_then(|mut f| f.read_to_string(&mut text)) };
+    let read = if file == "-" {
+        std::io::stdin().read_to_string(&mut text)
+    } else {
+        std::fs::File::open(file).and_then(|mut f| f.read_to_string(&mut text))
+    };
     if let Err(e) = read {
         eprintln!("{file}: {e}");
         return ExitCode::FAILURE;

@@ -11,7 +11,26 @@ use crate::plain::value::{Key, Value};
 use crate::plain::world::{Object, World};
 
 pub const TEXTS: [&str; 20] = [
-    "", "a", "b", "visits", "0", "1", "01", "7", "10", "4294967294", "4294967295", "99999999999", "length", "-0", "+1", "9", "é", "2147483648", "00", "length of thirty-two code units..",
+    "",
+    "a",
+    "b",
+    "visits",
+    "0",
+    "1",
+    "01",
+    "7",
+    "10",
+    "4294967294",
+    "4294967295",
+    "99999999999",
+    "length",
+    "-0",
+    "+1",
+    "9",
+    "é",
+    "2147483648",
+    "00",
+    "length of thirty-two code units..",
 ];
 
 /// How a list of calls is made.
@@ -27,6 +46,8 @@ pub struct Habits {
     pub proxies: usize,
     /// Of so many flags of a descriptor one is left out, one is true and the others are false.
     pub flags: usize,
+    /// One step in so many makes an object.
+    pub making: usize,
 }
 
 pub struct Generator {
@@ -37,17 +58,53 @@ pub struct Generator {
 impl Generator {
     pub fn new(seed: u64) -> Self {
         let mut random = Random::new(seed);
-        let habits = Habits { damage: random.pick(&[3, 8, 30, 1000]), wild: random.pick(&[3, 6, 12]), keys: random.pick(&[2, 4, 12, 200]), proxies: random.pick(&[1, 2, 3]), flags: random.pick(&[3, 4, 6]) };
+        let habits = Habits {
+            damage: random.pick(&[3, 8, 30, 1000]),
+            wild: random.pick(&[3, 6, 12]),
+            keys: random.pick(&[2, 4, 12, 200]),
+            proxies: random.pick(&[1, 2, 3]),
+            flags: random.pick(&[3, 4, 6]),
+            making: random.pick(&[12, 12, 3]),
+        };
         Generator { random, habits }
     }
 
     fn number(&mut self) -> Value {
         let r = &mut self.random;
         match r.below(4) {
-            0 => Value::Integer32(r.pick(&[0, 1, -1, 70000, 4464, i32::MAX, i32::MIN])),
+            0 => Value::Integer32(r.pick(&[0, 0, 1, -1, 70000, 4464, i32::MAX, i32::MIN])),
             1 => Value::Integer32(r.next() as i32),
-            2 => Value::Float64(r.pick(&[0.0, -0.0, 1.0, -1.0, 70000.0, 4464.0, 0.5, f64::NAN, -f64::NAN, f64::INFINITY, f64::MIN_POSITIVE, 5e-324])),
-            _ => Value::Float64(f64::from_bits(r.pick(&[0x7ff8_0000_0000_0001, 0xfff0_0000_0000_0001, 0x7ff0_0000_0000_0000, 0x40f1_1700_0000_0000]))),
+            2 => Value::Float64(r.pick(&[
+                0.0,
+                -0.0,
+                0.0,
+                -0.0,
+                1.0,
+                -1.0,
+                70000.0,
+                4464.0,
+                0.5,
+                f64::NAN,
+                -f64::NAN,
+                f64::INFINITY,
+                f64::MIN_POSITIVE,
+                5e-324,
+            ])),
+            _ => {
+                Value::Float64(f64::from_bits(r.pick(&[0x7ff8_0000_0000_0001, 0xfff0_0000_0000_0001, 0x7ff0_0000_0000_0000, 0x40f1_1700_0000_0000])))
+            }
+        }
+    }
+
+    /// The same number in the other representation, the other zero, another NaN, or the value itself.
+    fn near_value(&mut self, v: Value) -> Value {
+        match v {
+            Value::Integer32(0) => self.random.pick(&[Value::Integer32(0), Value::Float64(0.0), Value::Float64(-0.0)]),
+            Value::Integer32(i) => self.random.pick(&[v, Value::Float64(f64::from(i)), Value::Float64(-f64::from(i))]),
+            Value::Float64(f) if f.is_nan() => Value::Float64(f64::from_bits(self.random.pick(&[0x7ff8_0000_0000_0001, 0xfff8_0000_0000_0000]))),
+            Value::Float64(f) if f == 0.0 => self.random.pick(&[Value::Integer32(0), Value::Float64(0.0), Value::Float64(-0.0)]),
+            Value::Float64(f) if f64::from(f as i32) == f => self.random.pick(&[v, Value::Integer32(f as i32)]),
+            _ => v,
         }
     }
 
@@ -137,7 +194,8 @@ impl Generator {
                 5 if d.is_accessor() => d.get = Some(self.callable()),
                 6 if d.is_accessor() => d.set = Some(self.callable()),
                 5 | 6 => d.writable = Some(false),
-                7 if d.is_data() => d.value = Some(self.value(world)),
+                7 if d.is_data() && self.random.once_in(2) => d.value = Some(self.value(world)),
+                7 => d.value = d.value.map(|v| self.near_value(v)),
                 8 if self.random.once_in(2) => d.get = Some(self.value(world)),
                 9 if self.random.once_in(2) => d.set = Some(self.value(world)),
                 _ => {}
@@ -172,7 +230,7 @@ impl Generator {
             }),
             Asked::Accessor => Answer::Value(self.value(world)),
             Asked::Value(o, key) => Answer::Value(match self.held(world, o, key) {
-                Some(Descriptor { value: Some(v), .. }) => v,
+                Some(Descriptor { value: Some(v), .. }) => self.near_value(v),
                 _ => Value::Undefined,
             }),
             Asked::Descriptor(o, key) => match self.held(world, o, key) {
@@ -190,7 +248,12 @@ impl Generator {
                     4 => keys.insert(self.random.below(keys.len() + 1), self.value(world)),
                     _ => {}
                 }
-                keys.truncate(256);
+                if self.random.once_in(40) {
+                    let size = 255 + self.random.below(3);
+                    let missing = size.saturating_sub(keys.len());
+                    keys.extend((0..=255).map(Value::Symbol).take(missing));
+                }
+                keys.truncate(258);
                 Answer::Keys(keys)
             }
         }
@@ -198,7 +261,7 @@ impl Generator {
 
     fn code(&mut self, world: &World) -> u8 {
         let made = world.objects.len();
-        if made < 2 || made < 31 && self.random.once_in(12) || self.random.once_in(200) {
+        if made < 2 || made < 32 && self.random.once_in(self.habits.making) || self.random.once_in(100) {
             return if made > 0 && self.random.once_in(self.habits.proxies) { 2 } else { 1 };
         }
         if self.random.once_in(150) {
@@ -211,7 +274,8 @@ impl Generator {
     pub fn step(&mut self, world: &World) -> Step {
         let code = self.code(world);
         let object = if code == 1 { 0 } else { self.object(world) as usize };
-        let mut step = Step { code, object, key: Value::Undefined, value: Value::Undefined, receiver: Value::Undefined, descriptor: Descriptor::default() };
+        let mut step =
+            Step { code, object, key: Value::Undefined, value: Value::Undefined, receiver: Value::Undefined, descriptor: Descriptor::default() };
         if (8..=13).contains(&code) {
             step.key = self.key_at(world, object).value();
         }
@@ -247,7 +311,7 @@ impl Generator {
                 };
                 if code == 12 {
                     step.value = match self.held(world, object, Key::of(step.key).unwrap()) {
-                        Some(Descriptor { value: Some(v), .. }) if self.random.once_in(2) => v,
+                        Some(Descriptor { value: Some(v), .. }) if self.random.once_in(2) => self.near_value(v),
                         _ => self.value(world),
                     };
                 }
@@ -268,6 +332,9 @@ impl Generator {
         }
         if self.random.once_in(20) && answers.len() < 64 {
             answers.push(Answer::Value(self.value(world)));
+        }
+        if self.random.once_in(100) {
+            answers.resize(63 + self.random.below(3), Answer::Value(Value::Null));
         }
         answers
     }
@@ -410,12 +477,20 @@ impl Generator {
         for i in 0..260 {
             pair.enter_string(&format!("{i}").encode_utf16().collect::<Vec<u16>>());
         }
-        let object = |code: u8, value: Value| Step { code, object: 0, key: Value::Undefined, value, receiver: Value::Undefined, descriptor: Descriptor::default() };
+        let object = |code: u8, value: Value| Step {
+            code,
+            object: 0,
+            key: Value::Undefined,
+            value,
+            receiver: Value::Undefined,
+            descriptor: Descriptor::default(),
+        };
         pair.step(&step_bytes(&object(1, Value::Null)), &[0], 0);
         let Some(o) = pair.world.objects.iter().position(|o| matches!(o, Object::Ordinary(o) if o.extensible)) else { return };
         for i in 0..250 + self.random.below(8) as u64 {
             let key = if i < 200 { Value::String(i) } else { Value::Symbol(i) };
-            let step = Step { object: o, key, descriptor: Descriptor::data(Value::Integer32(i as i32), true, true, true), ..object(9, Value::Undefined) };
+            let step =
+                Step { object: o, key, descriptor: Descriptor::data(Value::Integer32(i as i32), true, true, true), ..object(9, Value::Undefined) };
             pair.step(&step_bytes(&step), &[0], 0);
         }
     }

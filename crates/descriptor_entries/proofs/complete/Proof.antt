@@ -1,5 +1,5 @@
 use mathlib.Core.Path.{sym, ap, _∙_}
-use Rattle.descriptor_entries.specs.Entries.{completeOver}
+use Rattle.descriptor_entries.specs.Entries.{answerReport, completeOver}
 use borrow.Author.Needs.{needs}
 use Rattle.descriptor_entries.proofs.complete.Statement.{statement}
 use Rattle.descriptor_entries.proofs.complete.Tie as tie
@@ -42,7 +42,7 @@ returns c = rw (sym (c .before .before .before .counts-in .ensures), c .before .
 -- src/lib.rt:80:1
 returns-2 : tie.Need-returns-2
 unfolding completeOver
-returns-2 c = rw (sym (c .before .before .before .before .before .counts-in .ensures), c .before .before .before .held .given .1, sym (c .before .complete-alone .ensures)) (c .answer-report .ensures)
+returns-2 c = rw (sym (c .before .before .before .before .before .counts-in .ensures), c .before .before .before .held .given .1) (c .answer-report .ensures ∙ ap answerReport (c .before .complete-alone .ensures))
 
 pub complete-spec : {M : Type 1} → statement M
 complete-spec =

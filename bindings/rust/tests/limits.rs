@@ -1,0 +1,179 @@
+//! Each limit of document 01 just met and just passed, on the library and on the plain implementation.
+mod harness;
+mod plain;
+
+use harness::pair::Pair;
+use plain::descriptor::Descriptor;
+use plain::record::{sheet_bytes, step_bytes, Answer, Step};
+use plain::step::{Completion, Outcome, Report};
+use plain::value::Value;
+
+const NONE: Value = Value::Undefined;
+
+fn step(code: u8, object: usize, key: Value, value: Value) -> Vec<u8> {
+    step_bytes(&Step { code, object, key, value, receiver: NONE, descriptor: Descriptor::default() })
+}
+
+fn define(object: usize, key: Value, descriptor: Descriptor) -> Vec<u8> {
+    step_bytes(&Step { code: 9, object, key, value: NONE, receiver: NONE, descriptor })
+}
+
+fn plain_data(n: i32) -> Descriptor {
+    Descriptor::data(Value::Integer32(n), true, true, true)
+}
+
+fn run(pair: &mut Pair, bytes: &[u8], answers: &[Answer]) -> Report {
+    pair.step(bytes, &sheet_bytes(answers), 9 * 256).report
+}
+
+#[track_caller]
+fn refused(report: Report, number: u64) {
+    assert!(matches!(report.outcome, Outcome::Refused(n) if n == number), "{report:?}");
+}
+
+#[track_caller]
+fn result(report: Report) -> Report {
+    assert!(matches!(report.outcome, Outcome::Result(_)), "{report:?}");
+    report
+}
+
+fn make(pair: &mut Pair) {
+    result(run(pair, &step(1, 0, NONE, Value::Null), &[]));
+}
+
+fn proxy(pair: &mut Pair, target: usize, traps: i32) {
+    result(run(pair, &step(2, target, NONE, Value::Integer32(traps)), &[]));
+}
+
+/// A listing through an ownKeys trap, over m forwarding proxies and an object with n keys: 1 + (n + 2)(m + 1) calls.
+fn listing(keys: i32, forwarding: usize) -> Report {
+    let mut pair = Pair::new();
+    make(&mut pair);
+    for n in 0..keys {
+        result(run(&mut pair, &define(0, Value::Symbol(n as u64), plain_data(n)), &[]));
+    }
+    for target in 0..forwarding {
+        proxy(&mut pair, target, 0);
+    }
+    proxy(&mut pair, forwarding, 1024);
+    run(&mut pair, &step(14, forwarding + 1, NONE, NONE), &[Answer::Keys(vec![])])
+}
+
+#[test]
+fn calls() {
+    assert_eq!(result(listing(87, 22)).calls, 2048);
+    refused(listing(126, 15), 10);
+    assert_eq!(result(listing(3, 2)).calls, 1 + 5 * 3);
+}
+
+#[test]
+fn objects() {
+    let mut pair = Pair::new();
+    for _ in 0..32 {
+        make(&mut pair);
+    }
+    refused(run(&mut pair, &step(1, 0, NONE, Value::Null), &[]), 7);
+    refused(run(&mut pair, &step(2, 31, NONE, Value::Integer32(0)), &[]), 7);
+    refused(run(&mut pair, &step(6, 32, NONE, NONE), &[]), 2);
+    result(run(&mut pair, &step(6, 31, NONE, NONE), &[]));
+}
+
+#[test]
+fn properties() {
+    let mut pair = Pair::new();
+    make(&mut pair);
+    make(&mut pair);
+    for n in 0..256 {
+        result(run(&mut pair, &define(n % 2, Value::Symbol(n as u64), plain_data(1)), &[]));
+    }
+    refused(run(&mut pair, &define(0, Value::Symbol(1), plain_data(1)), &[]), 7);
+    // what is there may still be redefined, and a place that is freed taken again
+    result(run(&mut pair, &define(0, Value::Symbol(0), plain_data(2)), &[]));
+    result(run(&mut pair, &step(13, 0, Value::Symbol(0), NONE), &[]));
+    result(run(&mut pair, &define(0, Value::Symbol(1), plain_data(1)), &[]));
+    refused(run(&mut pair, &define(0, Value::Symbol(0), plain_data(1)), &[]), 7);
+    // not extensible comes before no room
+    result(run(&mut pair, &step(7, 0, NONE, NONE), &[]));
+    let told = run(&mut pair, &define(0, Value::Symbol(0), plain_data(1)), &[]);
+    assert!(matches!(told.outcome, Outcome::Result(Completion::Value(Value::Boolean(false)))));
+}
+
+#[test]
+fn strings() {
+    let mut pair = Pair::new();
+    refused(pair.enter_string(&[65; 33]), 3);
+    result(pair.enter_string(&[65; 32]));
+    result(pair.enter_string(&[]));
+    for n in 2..256 {
+        result(pair.enter_string(&[n]));
+    }
+    refused(pair.enter_string(&[256]), 7);
+    result(pair.enter_string(&[255]));
+    refused(pair.enter_string(&[65; 33]), 3);
+    make(&mut pair);
+    result(run(&mut pair, &step(10, 0, Value::String(255), NONE), &[]));
+    refused(run(&mut pair, &step(10, 0, Value::String(256), NONE), &[]), 3);
+    refused(run(&mut pair, &step(10, 0, Value::String(1 << 40), NONE), &[]), 3);
+}
+
+#[test]
+fn numbers() {
+    let mut pair = Pair::new();
+    make(&mut pair);
+    let with = |v: Value| Descriptor { value: Some(v), ..Descriptor::default() };
+    result(run(&mut pair, &step(10, 0, Value::Symbol(255), NONE), &[]));
+    refused(run(&mut pair, &step(10, 0, Value::Symbol(256), NONE), &[]), 3);
+    result(run(&mut pair, &define(0, Value::Symbol(0), with(Value::Function(255))), &[]));
+    refused(run(&mut pair, &define(0, Value::Symbol(1), with(Value::Function(256))), &[]), 3);
+    refused(run(&mut pair, &define(0, Value::Symbol(1), with(Value::Object(1))), &[]), 2);
+    refused(run(&mut pair, &define(0, Value::Symbol(1), with(Value::Object(u64::MAX))), &[]), 2);
+    result(run(&mut pair, &step(2, 0, NONE, Value::Integer32(2047)), &[]));
+    refused(run(&mut pair, &step(2, 0, NONE, Value::Integer32(2048)), &[]), 1);
+    refused(run(&mut pair, &step(2, 0, NONE, Value::Integer32(-1)), &[]), 1);
+}
+
+#[test]
+fn answers_and_keys() {
+    let mut pair = Pair::new();
+    make(&mut pair);
+    proxy(&mut pair, 0, 1024);
+    let empty = || Answer::Keys(vec![]);
+    result(run(&mut pair, &step(14, 1, NONE, NONE), &vec![empty(); 64]));
+    refused(run(&mut pair, &step(14, 1, NONE, NONE), &vec![empty(); 65]), 1);
+    let keys = |n: u64| Answer::Keys((0..n).map(Value::Symbol).collect());
+    let Outcome::Result(Completion::Keys(listed)) = run(&mut pair, &step(14, 1, NONE, NONE), &[keys(256)]).outcome else { panic!() };
+    assert_eq!(listed.len(), 256);
+    refused(run(&mut pair, &step(14, 1, NONE, NONE), &[keys(257)]), 1);
+    // the longest sheet
+    assert_eq!(result(run(&mut pair, &step(14, 1, NONE, NONE), &vec![keys(256); 64])).answers, 1);
+    let sheet = sheet_bytes(&[keys(256)]);
+    result(pair.step(&step(14, 1, NONE, NONE), &sheet, 9 * 256).report);
+    refused(pair.step(&step(14, 1, NONE, NONE), &sheet, 9 * 256 - 1).report, 11);
+    result(pair.step(&step(14, 0, NONE, NONE), &[0], 0).report);
+}
+
+/// -0 is not +0, 1 is 1.0, and all NaNs are alike: over a fixed value, and through a get trap.
+#[test]
+fn same_value() {
+    let float = |bits: u64| Value::Float64(f64::from_bits(bits));
+    for (fixed, told, same) in [
+        (Value::Integer32(0), Value::Float64(-0.0), false),
+        (Value::Integer32(0), Value::Float64(0.0), true),
+        (Value::Float64(-0.0), Value::Float64(0.0), false),
+        (Value::Integer32(1), Value::Float64(1.0), true),
+        (Value::Integer32(70000), Value::Integer32(4464), false),
+        (float(0x7ff8_0000_0000_0000), float(0xfff0_0000_0000_0001), true),
+        (Value::Float64(1.0), Value::Boolean(true), false),
+    ] {
+        let mut pair = Pair::new();
+        make(&mut pair);
+        proxy(&mut pair, 0, 128);
+        result(run(&mut pair, &define(0, Value::Symbol(0), Descriptor::data(fixed, false, false, false)), &[]));
+        let again = run(&mut pair, &define(0, Value::Symbol(0), Descriptor { value: Some(told), ..Descriptor::default() }), &[]);
+        assert!(matches!(again.outcome, Outcome::Result(Completion::Value(Value::Boolean(b))) if b == same), "{fixed:?} {told:?}");
+        let get = step(11, 1, Value::Symbol(0), NONE);
+        let got = run(&mut pair, &get, &[Answer::Value(told)]);
+        assert_eq!(matches!(got.outcome, Outcome::TypeError(17)), !same, "{fixed:?} {told:?}");
+        assert_eq!((got.answers, got.calls), (1, 2));
+    }
+}

@@ -1,0 +1,30 @@
+use mathlib.Core.Path.{_≡_, sym, _∙_}
+use Prim.Native.Nat.{_≤_, _<_, _-_, _*_, _+_}
+use lib.ListN.{length, length-take}
+use native.Mathlib.Omega.{arith}
+use borrow.Author.Needs.{needs}
+use Rattle.comparison.proofs.right_count.Statement.{statement}
+use Rattle.comparison.proofs.right_count.Tie as tie
+
+abbrev Inv-loop : tie.InvT-loop
+Inv-loop expected i₀ count₀ i count = (i ≤ 32) × (count ≤ i)
+
+abbrev μ-loop : tie.MeasureT-loop
+μ-loop expected i₀ count₀ i count = 32 - i
+
+pub right-count-spec : {M : Type 1} → statement M
+right-count-spec =
+    tie.close
+    (tie.spec
+    Inv-loop
+    μ-loop
+    (λ c. search needs)
+    (λ c κs. search needs)
+    (λ c. search needs)
+    (λ c. search needs)
+    (λ c. search needs)
+    (λ c. search needs)
+    (λ c. search needs)
+    (λ c. search needs)
+    (λ c. search needs)
+    (λ c. search needs))

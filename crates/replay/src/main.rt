@@ -1,0 +1,295 @@
+// Performs the calls that a JavaScript engine performed, and counts those that end otherwise here than there.
+// tests/engines/1-records.js has the layout of a line.
+mod perform;
+
+use comparison::Ending;
+use perform::perform;
+ghost use Prim.Native.Nat.{_<_, _≤_, _+_, _*_};
+ghost use lib.ListN.{length};
+
+// How many differences are shown.
+const SHOWN: u64 = 10;
+
+fn wide(b: u8) -> usize
+    ensures { λ r. ⌜ r < 256 ⌝ }
+{
+    b as usize
+}
+
+fn short(head: &[u8; 9], at: usize) -> usize
+    requires { ⌜ at + 2 ≤ 9 ⌝ }
+    ensures { λ r. ⌜ r < 65536 ⌝ }
+{
+    wide(head[at]) + 256 * wide(head[at + 1])
+}
+
+// The value of a hexadecimal digit, and 16 of anything else.
+fn digit(b: u8) -> u8
+    ensures { λ r. ⌜ r ≤ 16 ⌝ }
+{
+    match b {
+        48..=57 => b - 48,
+        97..=102 => b - 87,
+        _ => 16,
+    }
+}
+
+fn is_digit(b: u8) -> bool {
+    digit(b) < 16
+}
+
+fn joined(high: u8, low: u8) -> u8 {
+    (digit(high) % 16) * 16 + digit(low) % 16
+}
+
+// Each two digits as a byte; false where one is no digit.
+fn decode(text: &[u8], out: &mut [u8]) -> bool
+    requires { ⌜ 2 * length (now out) ≤ length (now text) ⌝ }
+{
+    let n = out.len();
+    let mut i: usize = 0;
+    let mut formed = true;
+    while i < n {
+        let high = text[2 * i];
+        let low = text[2 * i + 1];
+        formed = formed && is_digit(high) && is_digit(low);
+        out[i] = joined(high, low);
+        i += 1;
+    }
+    formed
+}
+
+fn fill(output: &mut [u8]) {
+    let n = output.len();
+    let mut i: usize = 0;
+    while i < n {
+        output[i] = 238;
+        i += 1;
+    }
+}
+
+// The call, over an output of 0xee.
+fn performed(
+    words: &mut [u64],
+    strings: &mut [u16],
+    kind: u8,
+    bytes: &[u8],
+    given: &[u8],
+    output: &mut [u8],
+    ours: &mut [u8],
+) -> Ending {
+    fill(output);
+    perform(words, strings, kind, bytes, given, output, ours)
+}
+
+// Counts a call, and shows it if it is among the first differences.
+fn report(
+    tally: &mut [u64; 128],
+    part: u64,
+    kind: u8,
+    expected: &[u8],
+    e: Ending,
+    ours: &[u8],
+    output: &[u8],
+    dump: &[u8],
+    size: usize,
+) {
+    let told = comparison::is_told(expected, e.number);
+    tally::count_call(tally, kind, e.outcome, e.number, told);
+    if part != 0 {
+        tally::count_difference(tally);
+        if tally::differences(tally) <= SHOWN {
+            comparison::show(
+                tally::lines(tally),
+                part,
+                expected,
+                e,
+                ours,
+                output,
+                dump,
+                size,
+            );
+        }
+    }
+}
+
+// One call over a line's parts.
+fn call(
+    words: &mut [u64],
+    strings: &mut [u16],
+    kind: u8,
+    bytes: &[u8],
+    given: &[u8],
+    expected: &[u8],
+    output: &mut [u8],
+    ours: &mut [u8],
+    dump: &mut [u8],
+    tally: &mut [u64; 128],
+) {
+    let e = performed(words, strings, kind, bytes, given, output, ours);
+    let size = readout::put_store(dump, words, strings);
+    let part = comparison::difference(expected, e, ours, output, dump, size);
+    report(tally, part, kind, expected, e, ours, output, dump, size);
+}
+
+fn run(
+    words: &mut [u64],
+    strings: &mut [u16],
+    kind: u8,
+    body: &[u8],
+    size: usize,
+    given: usize,
+    output: &mut [u8],
+    ours: &mut [u8],
+    dump: &mut [u8],
+    tally: &mut [u64; 128],
+)
+    requires { ⌜ (size + given ≤ length (now body)) × ((size < 65536) × (given < 65536)) ⌝ }
+{
+    let end = size + given;
+    call(
+        words,
+        strings,
+        kind,
+        &body[..size],
+        &body[size..end],
+        &body[end..],
+        output,
+        ours,
+        dump,
+        tally,
+    );
+}
+
+// The rest of a line, decoded; false where it is broken off or has something else than digits.
+fn read_rest(text: &mut [u8], body: &mut [u8]) -> bool
+    requires { ⌜ 2 * length (now body) ≤ length (now text) ⌝ }
+{
+    if io::read_full(0, text) < text.len() {
+        return false;
+    }
+    decode(text, body)
+}
+
+// A line that cannot be read counts as a difference, and is the last.
+fn broken(tally: &mut [u64; 128]) -> bool {
+    io::write_all(1, b"a line is broken\n");
+    tally::count_difference(tally);
+    false
+}
+
+// A line whose head is read.
+fn read_and_run(
+    words: &mut [u64],
+    strings: &mut [u16],
+    kind: u8,
+    text: &mut [u8],
+    body: &mut [u8],
+    size: usize,
+    given: usize,
+    output: &mut [u8],
+    ours: &mut [u8],
+    dump: &mut [u8],
+    tally: &mut [u64; 128],
+) -> bool
+    requires { ⌜ (2 * length (now body) ≤ length (now text)) × ((size + given ≤ length (now body)) × ((size < 65536) × (given < 65536))) ⌝ }
+{
+    if read_rest(text, body) {
+        run(
+            words,
+            strings,
+            kind,
+            body,
+            size,
+            given,
+            output,
+            ours,
+            dump,
+            tally,
+        );
+        return true;
+    }
+    broken(tally)
+}
+
+// One line, if there is another.
+fn turn(
+    words: &mut [u64],
+    strings: &mut [u16],
+    text: &mut [u8],
+    body: &mut [u8],
+    output: &mut [u8],
+    ours: &mut [u8],
+    dump: &mut [u8],
+    tally: &mut [u64; 128],
+) -> bool {
+    let mut digits = [0u8; 18];
+    let got = io::read_full(0, &mut digits);
+    if got == 0 {
+        return false;
+    }
+    let mut head = [0u8; 9];
+    let formed = decode(&digits, &mut head);
+    let kind = head[0];
+    let room = short(&head, 1);
+    let size = short(&head, 3);
+    let given = short(&head, 5);
+    let end = size + given + short(&head, 7);
+    if got < 18 {
+        return broken(tally);
+    }
+    if !formed {
+        return broken(tally);
+    }
+    if output.len() < room {
+        return broken(tally);
+    }
+    if body.len() < end {
+        return broken(tally);
+    }
+    if text.len() < 2 * end + 1 {
+        return broken(tally);
+    }
+    read_and_run(
+        words,
+        strings,
+        kind,
+        &mut text[..2 * end + 1],
+        &mut body[..end],
+        size,
+        given,
+        &mut output[..room],
+        ours,
+        dump,
+        tally,
+    )
+}
+
+fn main() {
+    let mut words = [0u64; 1634];
+    let mut strings = [0u16; 8449];
+    let mut text = io::large_buffer();
+    let mut body = [0u8; 32768];
+    let mut output = io::buffer();
+    let mut ours = io::buffer();
+    let mut dump = [0u8; 32768];
+    let mut tally = [0u64; 128];
+    let mut turns: u64 = 1000000000;
+    store_write::make_empty(&mut words);
+    text::make_empty(&mut strings);
+    while turns > 0
+        && turn(
+            &mut words,
+            &mut strings,
+            &mut text,
+            &mut body,
+            &mut output,
+            &mut ours,
+            &mut dump,
+            &mut tally,
+        )
+    {
+        turns -= 1;
+    }
+    tally::print_tally(&tally);
+}

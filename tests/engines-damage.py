@@ -1,0 +1,173 @@
+#!/usr/bin/env python3
+"""Shows that the comparison of crates/replay can fail: changes one part of one expectation of the fixed list at a time.
+
+    tests/engines-damage.py
+
+Each change must be counted as one difference, in that line and that part; a line that is broken must be noticed too. It reads
+crates/replay/stdin and runs target/bin/replay; tests/engines/1-records.js has the layout.
+"""
+import pathlib
+import subprocess
+import sys
+
+ROOT = pathlib.Path(__file__).resolve().parent.parent
+
+
+class Line:
+    def __init__(self, text):
+        b = bytes.fromhex(text)
+        self.kind, self.room = b[0], int.from_bytes(b[1:3], "little")
+        record, sheet = (int.from_bytes(b[i:i + 2], "little") for i in (3, 5))
+        self.begin = 9 + record + sheet
+        self.bytes = bytearray(b)
+        e = b[self.begin:]
+        self.outcome, self.numbers = e[0], int.from_bytes(e[1:5], "little")
+        self.completion = self.begin + 8
+        self.output = self.completion + int.from_bytes(e[6:8], "little")
+        self.store = self.output + self.room
+        self.form = b[self.completion] if self.output > self.completion else 0
+        self.objects()
+
+    def value(self, at):
+        return at + {0: 1, 1: 1, 2: 2, 4: 9}.get(self.bytes[at], 2)
+
+    # Where the parts of the ordinary objects stand.
+    def objects(self):
+        b, at = self.bytes, self.store + 3
+        self.extensible, self.prototypes, self.keys, self.proxies = [], [], [], []
+        for _ in range(b[self.store + 2]):
+            if b[at] == 2:
+                self.proxies.append(at)
+                at += 1
+                continue
+            self.extensible.append(at)
+            self.prototypes.append(at + 1)
+            at = self.value(at + 1)
+            count, at = int.from_bytes(b[at:at + 2], "little"), at + 2
+            keys = []
+            for _ in range(count):
+                end = self.value(at + 3)
+                if b[at + 2] & 1:
+                    end = self.value(end)
+                keys.append((at, end))
+                at = end
+            self.keys.append(keys)
+        assert at == len(b)
+
+
+def flip(at, mask):
+    def change(line):
+        line.bytes[at(line)] ^= mask
+    return change
+
+
+def swap_entries(line):
+    (a, m), (_, z) = next(keys for keys in line.keys if len(keys) > 1)[:2]
+    line.bytes[a:z] = line.bytes[m:z] + line.bytes[a:m]
+
+
+def swap_keys(line):
+    o = line.output
+    line.bytes[o:o + 18] = line.bytes[o + 9:o + 18] + line.bytes[o:o + 9]
+
+
+def number(line):
+    n = line.bytes[line.begin + 1:line.begin + 5]
+    line.bytes[line.begin + 1:line.begin + 5] = (2 if n[0] != 2 else 4).to_bytes(4, "little")
+
+
+def entry(line):
+    return next(keys for keys in line.keys if keys)[0][0]
+
+
+def data(line, kind):
+    return next((a for keys in line.keys for a, _ in keys if line.bytes[a + 2] & 1 == 0 and line.bytes[a + 3] == kind), None)
+
+
+def accessor(line):
+    return next((a for keys in line.keys for a, _ in keys if line.bytes[a + 2] & 1 and line.bytes[a + 3] == 8), None)
+
+
+def is_result(form):
+    return lambda line: line.kind == 1 and line.outcome == 1 and line.form == form
+
+
+DAMAGES = [
+    ("a result told as a throw", "outcome", is_result(1), flip(lambda l: l.begin, 2)),
+    ("a refusal told as a TypeError", "outcome", lambda l: l.outcome == 0, flip(lambda l: l.begin, 2)),
+    ("a TypeError told as a refusal", "outcome", lambda l: l.outcome == 2, flip(lambda l: l.begin, 2)),
+    ("another refusal", "number", lambda l: l.outcome == 0, number),
+    ("another message", "number", lambda l: l.outcome == 2, number),
+    ("an answer more, of a result", "answers", is_result(1), flip(lambda l: l.begin + 5, 1)),
+    ("an answer more, of a TypeError", "answers", lambda l: l.outcome == 2, flip(lambda l: l.begin + 5, 1)),
+    ("an answer more, of a refusal", "answers", lambda l: l.outcome == 0, flip(lambda l: l.begin + 5, 1)),
+    ("a boolean result", "completion", lambda l: is_result(1)(l) and l.bytes[l.completion + 1] == 2, flip(lambda l: l.completion + 2, 1)),
+    ("a number's last bit", "completion", lambda l: is_result(1)(l) and l.bytes[l.completion + 1] == 4, flip(lambda l: l.completion + 2, 1)),
+    ("a number's sign", "completion", lambda l: is_result(1)(l) and l.bytes[l.completion + 1] == 4, flip(lambda l: l.completion + 9, 128)),
+    ("a thrown value", "completion", lambda l: l.outcome == 3 and l.bytes[l.completion + 1] == 7, flip(lambda l: l.completion + 2, 1)),
+    ("a descriptor's writable", "completion", lambda l: is_result(2)(l) and not l.bytes[l.completion + 1] & 1, flip(lambda l: l.completion + 1, 2)),
+    ("a descriptor's enumerable", "completion", is_result(2), flip(lambda l: l.completion + 1, 4)),
+    ("a descriptor's configurable", "completion", is_result(2), flip(lambda l: l.completion + 1, 8)),
+    ("a descriptor's value", "completion", lambda l: is_result(2)(l) and l.bytes[l.completion + 2] == 4, flip(lambda l: l.completion + 9, 1)),
+    ("absence told as null", "completion", is_result(3), flip(lambda l: l.completion, 2)),
+    ("a key more", "completion", is_result(4), flip(lambda l: l.completion + 1, 1)),
+    ("a verdict", "completion", lambda l: l.outcome == 1 and l.form == 5, flip(lambda l: l.completion + 1, 1)),
+    ("the property after a verdict", "completion", lambda l: l.outcome == 1 and l.form == 5 and l.bytes[l.completion + 2] == 2, flip(lambda l: l.completion + 3, 4)),
+    ("a completed property", "completion", lambda l: l.kind == 3 and l.outcome == 1, flip(lambda l: l.completion + 1, 4)),
+    ("a merged property", "completion", lambda l: l.kind == 6 and l.outcome == 1, flip(lambda l: l.completion + 1, 4)),
+    ("a string's number", "completion", lambda l: l.kind == 2 and l.outcome == 1, flip(lambda l: l.completion + 2, 1)),
+    ("the order of listed keys", "output", lambda l: is_result(4)(l) and l.bytes[l.completion + 1] > 1, swap_keys),
+    ("a listed key", "output", lambda l: is_result(4)(l) and l.bytes[l.completion + 1] > 1, flip(lambda l: l.output + 1, 1)),
+    ("an output byte after the keys", "output", lambda l: is_result(4)(l) and l.room > 9 * l.bytes[l.completion + 1], flip(lambda l: l.store - 1, 1)),
+    ("an output byte of a refusal", "output", lambda l: l.outcome == 0 and l.room > 0, flip(lambda l: l.output, 1)),
+    ("how many strings there are", "store", lambda l: l.kind == 1, flip(lambda l: l.store, 1)),
+    ("a proxy", "store", lambda l: l.kind == 1 and l.proxies, flip(lambda l: l.proxies[0], 1)),
+    ("extensible", "store", lambda l: l.extensible, flip(lambda l: l.extensible[0], 1)),
+    ("a prototype", "store", lambda l: any(l.bytes[p] == 7 for p in l.prototypes), flip(lambda l: next(p for p in l.prototypes if l.bytes[p] == 7) + 1, 1)),
+    ("a key", "store", lambda l: any(l.keys), flip(lambda l: entry(l) + 1, 1)),
+    ("a string key told as a symbol", "store", lambda l: any(l.keys), flip(lambda l: entry(l), 3)),
+    ("an accessor told as data", "store", accessor, flip(lambda l: accessor(l) + 2, 1)),
+    ("writable", "store", lambda l: data(l, 4), flip(lambda l: data(l, 4) + 2, 2)),
+    ("enumerable", "store", lambda l: any(l.keys), flip(lambda l: entry(l) + 2, 4)),
+    ("configurable", "store", lambda l: any(l.keys), flip(lambda l: entry(l) + 2, 8)),
+    ("a stored number", "store", lambda l: data(l, 4), flip(lambda l: data(l, 4) + 11, 1)),
+    ("a stored number's sign", "store", lambda l: data(l, 4), flip(lambda l: data(l, 4) + 11, 128)),
+    ("a getter", "store", accessor, flip(lambda l: accessor(l) + 4, 1)),
+    ("the order of own keys", "store", lambda l: any(len(k) > 1 for k in l.keys), swap_entries),
+    ("the store after a refusal", "store", lambda l: l.kind == 1 and l.outcome == 0 and any(l.keys), flip(lambda l: entry(l) + 2, 4)),
+    ("the store after a TypeError", "store", lambda l: l.outcome == 2 and any(l.keys), flip(lambda l: entry(l) + 2, 4)),
+]
+
+
+def replay(lines):
+    text = "".join(line + "\n" for line in lines)
+    return subprocess.run([ROOT / "target/bin/replay"], input=text, capture_output=True, text=True, check=True).stdout.splitlines()
+
+
+def main():
+    lines = (ROOT / "crates/replay/stdin").read_text().split()
+    calls = replay(lines)[-1].split()[0]
+    if replay(lines)[-1] != f"{calls} calls, 0 differences":
+        sys.exit("the fixed list differs as it is")
+    bad = 0
+    for name, part, fits, change in DAMAGES:
+        at, line = next((i, l) for i, l in ((i, Line(text)) for i, text in enumerate(lines)) if fits(l))
+        change(line)
+        told = replay(lines[:at] + [line.bytes.hex()] + lines[at + 1:])
+        ok = told[0].startswith(f"line {at + 1}: the {part} differs") and told[-1] == f"{calls} calls, 1 differences"
+        bad += not ok
+        print(f"{name}: {'counted in ' + part if ok else 'NOT counted: ' + told[0][:80] + ' / ' + told[-1]}")
+    broken = [("a line cut short", lines[:-1] + [lines[-1][:-2]]), ("a line without a digit", lines[:-1] + [lines[-1][:40] + "g" + lines[-1][41:]]),
+              ("a store with a byte more", lines[:-1] + [lines[-1][:14] + f"{int(lines[-1][14:16], 16) + 1:02x}" + lines[-1][16:] + "00"])]
+    for name, text in broken:
+        ok = replay(text)[-1].endswith(" 1 differences")
+        bad += not ok
+        print(f"{name}: {'counted' if ok else 'NOT counted'}")
+    missing = replay(lines[:-1])[-1] != f"{calls} calls, 0 differences"
+    bad += not missing
+    print(f"a line less: {'the number of calls tells' if missing else 'NOT noticed'}")
+    print(f"{len(DAMAGES) + len(broken) + 1} changes, {bad} unnoticed")
+    sys.exit(1 if bad else 0)
+
+
+main()

@@ -1,0 +1,308 @@
+// The performer: objects, proxies and strings of the engine itself, by number.
+
+const FULL = { objects: 32, properties: 256, strings: 256, units: 32, answers: 64 };
+const SYMBOLS = Array.from({ length: 256 }, (_, n) => Symbol(n));
+const symbolNumber = new Map(SYMBOLS.map((s, n) => [s, n]));
+const refusal8 = { refusal: 8 }, refusal9 = { refusal: 9 };
+
+// The answers of the call that runs. `grow`, where it is there, makes the next answer for whoever asks, after the given ones.
+let sheet = { answers: [], used: 0, grow: null };
+
+function next(asks) {
+  if (sheet.used === sheet.answers.length) {
+    const made = sheet.grow !== null && sheet.answers.length < FULL.answers ? sheet.grow(asks) : null;
+    if (made === null) throw refusal8;
+    sheet.answers.push(made);
+  }
+  return sheet.answers[sheet.used++];
+}
+
+// Functions: as getter or setter each takes the next answer.
+const FUNCTIONS = Array.from({ length: 256 }, () => function () { return valueOf(valueAnswer({ trap: 'function' })); });
+const functionNumber = new Map(FUNCTIONS.map((f, n) => [f, n]));
+
+let world;
+
+function newWorld() {
+  world = { objects: [], numbers: new Map(), strings: [], stringNumber: new Map() };
+  keep(dumpStore());
+}
+
+const counts = () => ({ objects: world.objects.length, strings: world.strings.length, isProxy: (o) => world.objects[o].proxy });
+
+// The JavaScript value that 9 bytes stand for.
+function valueOf(v) {
+  switch (v[0]) {
+    case 0: return undefined;
+    case 1: return null;
+    case 2: return v[1] === 1;
+    case 3: for (let i = 0; i < 4; i++) view.setUint8(i, v[1 + i]); return view.getInt32(0, true);
+    case 4: for (let i = 0; i < 8; i++) view.setUint8(i, v[1 + i]); return view.getFloat64(0, true);
+    case 5: return world.strings[payload(v)];
+    case 6: return SYMBOLS[payload(v)];
+    case 7: return world.objects[payload(v)].it;
+    default: return FUNCTIONS[payload(v)];
+  }
+}
+
+function descriptorObject(d) {
+  const it = Object.create(null);
+  for (const [name, bit] of FIELDS) if (name in d) it[name] = bit < 8 ? d[name] : valueOf(d[name]);
+  return it;
+}
+
+// A value of the engine's as 9 bytes; numbers as Float64.
+function bytesOf(x) {
+  switch (typeof x) {
+    case 'undefined': return UNDEFINED;
+    case 'boolean': return boolean(x);
+    case 'number': return x === x ? float(x) : [4, 0, 0, 0, 0, 0, 0, 0xf8, 0x7f];
+    case 'string': return string(world.stringNumber.get(x));
+    case 'symbol': return symbol(symbolNumber.get(x));
+    case 'function': return callable(functionNumber.get(x));
+    default: return x === null ? NULL : object(world.numbers.get(x));
+  }
+}
+
+// The same as the expectation's text.
+const numberText = new Map();
+
+function valueText(x) {
+  switch (typeof x) {
+    case 'undefined': return '00';
+    case 'boolean': return x ? '0201' : '0200';
+    case 'number': {
+      if (x === 0) return Object.is(x, -0) ? '040000000000000080' : '040000000000000000';
+      let text = numberText.get(x);
+      if (text === undefined) numberText.set(x, text = hexOf(bytesOf(x)));
+      return text;
+    }
+    case 'string': return '05' + HEX[world.stringNumber.get(x)];
+    case 'symbol': return '06' + HEX[symbolNumber.get(x)];
+    case 'function': return '08' + HEX[functionNumber.get(x)];
+    default: return x === null ? '01' : '07' + HEX[world.numbers.get(x)];
+  }
+}
+
+function propertyText(p) {
+  const flags = (p.enumerable ? 4 : 0) + (p.configurable ? 8 : 0);
+  if ('value' in p) return HEX[flags + (p.writable ? 2 : 0)] + valueText(p.value);
+  return HEX[flags + 1] + valueText(p.get) + valueText(p.set);
+}
+
+// The whole store, and how many properties each object has.
+function dumpStore() {
+  let text = hex2(world.strings.length) + HEX[world.objects.length];
+  const sizes = [];
+  for (const { it, proxy } of world.objects) {
+    const keys = proxy ? [] : Reflect.ownKeys(it);
+    sizes.push(keys.length);
+    if (proxy) { text += '02'; continue; }
+    text += (Reflect.isExtensible(it) ? '01' : '00') + valueText(Reflect.getPrototypeOf(it)) + hex2(keys.length);
+    for (const key of keys) text += valueText(key) + propertyText(Reflect.getOwnPropertyDescriptor(it, key));
+  }
+  return { text, sizes };
+}
+
+// Handlers ----------------------------------------------------------------------------
+
+const TRAPS = ['getPrototypeOf', 'setPrototypeOf', 'isExtensible', 'preventExtensions', 'getOwnPropertyDescriptor', 'defineProperty',
+  'has', 'get', 'set', 'deleteProperty', 'ownKeys'];
+
+// The next answer where a value is to stand: its bytes, or a throw.
+function valueAnswer(asks) {
+  const a = next(asks);
+  if (a.tag === 4) throw valueOf(a.value);
+  if (a.tag !== 1) throw refusal9;
+  return a.value;
+}
+
+function prototypeAnswer(asks) {
+  const v = valueAnswer(asks);
+  if (v[0] === 8) throw refusal9;
+  return valueOf(v);
+}
+
+// The next answer where a descriptor (tag 2) or a key list (tag 3) is to stand: another primitive is left to the engine.
+function objectAnswer(asks, tag, made) {
+  const a = next(asks);
+  if (a.tag === 4) throw valueOf(a.value);
+  if (a.tag === tag) return made(a);
+  if (a.tag !== 1 || a.value[0] === 7 || a.value[0] === 8) throw refusal9;
+  return valueOf(a.value);
+}
+
+function handlerOf(target, mask) {
+  const handler = Object.create(null);
+  const traps = {
+    getPrototypeOf: () => prototypeAnswer({ trap: 'getPrototypeOf', target }),
+    getOwnPropertyDescriptor: (_, key) => objectAnswer({ trap: 'getOwnPropertyDescriptor', target, key }, 2, (a) => descriptorObject(a.descriptor)),
+    ownKeys: () => objectAnswer({ trap: 'ownKeys', target }, 3, (a) => a.list.map(valueOf)),
+  };
+  TRAPS.forEach((trap, i) => {
+    if (mask & (1 << i)) handler[trap] = traps[trap] || ((_, key, more) => valueOf(valueAnswer({ trap, target, key, more })));
+  });
+  return handler;
+}
+
+// Steps -------------------------------------------------------------------------------
+
+function add(it, proxy, more) {
+  world.numbers.set(it, world.objects.length);
+  world.objects.push(Object.assign({ it, proxy }, more));
+  return it;
+}
+
+// What each code does on the engine's objects: the completion, as text.
+function run(s) {
+  const it = s.code === 1 ? null : world.objects[s.object].it;
+  const key = valueOf(s.key), value = s.code === 2 ? null : valueOf(s.value), receiver = valueOf(s.receiver);
+  const told = (x) => '01' + valueText(x);
+  switch (s.code) {
+    case 1: return told(add(Object.create(value), false, {}));
+    case 2: {
+      const mask = s.value[1] + 256 * s.value[2];
+      const made = Proxy.revocable(it, handlerOf(s.object, mask));
+      return told(add(made.proxy, true, { target: s.object, mask, revoke: made.revoke }));
+    }
+    case 3: world.objects[s.object].revoke(); world.objects[s.object].revoked = true; return told(true);
+    case 4: return told(Reflect.getPrototypeOf(it));
+    case 5: return told(Reflect.setPrototypeOf(it, value));
+    case 6: return told(Reflect.isExtensible(it));
+    case 7: return told(Reflect.preventExtensions(it));
+    case 8: { const p = Reflect.getOwnPropertyDescriptor(it, key); return p === undefined ? '03' : '02' + propertyText(p); }
+    case 9: return told(Reflect.defineProperty(it, key, descriptorObject(s.descriptor)));
+    case 10: return told(Reflect.has(it, key));
+    case 11: return told(Reflect.get(it, key, receiver));
+    case 12: return told(Reflect.set(it, key, value, receiver));
+    case 13: return told(Reflect.deleteProperty(it, key));
+    default: return Reflect.ownKeys(it);
+  }
+}
+
+const refused = (n) => ({ outcome: 0, numbers: 1 << n, answers: 0, completion: '' });
+
+// What was thrown while a step ran.
+function failed(e) {
+  if (e === refusal8 || e === refusal9) return refused(e.refusal);
+  const isObject = typeof e === 'object' && e !== null;
+  if (!isObject || world.numbers.has(e)) return { outcome: 3, numbers: 0, answers: sheet.used, completion: '01' + valueText(e) };
+  if (e instanceof TypeError) return { outcome: 2, numbers: messagesOf(e.message), answers: sheet.used, completion: '' };
+  if (isOverflow(e)) return refused(10);
+  throw e;
+}
+
+// One step over tested records; `room` is the output's length. The expectation, and what the output then holds.
+function perform(s, room) {
+  if (s.code <= 2 && world.objects.length === FULL.objects) return refused(7);
+  try {
+    const done = run(s);
+    if (s.code !== 14) return { outcome: 1, numbers: 0, answers: sheet.used, completion: done };
+    if (9 * done.length > room) return refused(11);
+    let output = '';
+    for (const key of done) output += hexOf(bytesOf(key));
+    return { outcome: 1, numbers: 0, answers: sheet.used, completion: '04' + hex2(done.length), output };
+  } catch (e) {
+    return failed(e);
+  }
+}
+
+// Refusal 7: an engine has no limit, so the 257th property is taken back; false where it cannot be.
+function takeBack(sizes, key) {
+  const grown = world.objects[sizes.findIndex((n, o) => n > world.sizes[o])].it;
+  return Reflect.deleteProperty(grown, key) && dumpStore().text === world.dump;
+}
+
+// Keeps what the store holds now.
+function keep(dump) {
+  world.dump = dump.text;
+  world.sizes = dump.sizes;
+}
+
+// Lines -------------------------------------------------------------------------------
+
+let calls = 0;
+
+function line(kind, room, record, given, expected) {
+  const output = expected.output || '';
+  const text = HEX[expected.outcome] + hex2(expected.numbers & 0xffff) + hex2(expected.numbers >>> 16) + HEX[expected.answers] +
+    hex2(expected.completion.length / 2) + expected.completion + output + 'ee'.repeat(room - output.length / 2) + world.dump;
+  emit(HEX[kind] + hex2(room) + hex2(record.length) + hex2(given.length) + hex2(text.length / 2) + hexOf(record) + hexOf(given) + text);
+  if (kind !== 0) calls++;
+}
+
+const nothing = { outcome: 1, numbers: 0, answers: 0, completion: '' };
+
+function emptied() {
+  newWorld();
+  line(0, 0, [], [], nothing);
+}
+
+// A step. `given` is a sheet's bytes, or a function that makes each answer when it is asked for; `after` adds answers that nothing asks for.
+// True where the engine's objects are still those of the store.
+function doStep(record, given, room, after) {
+  const growing = typeof given === 'function', before = counts();
+  let n = stepRefusal(record, before);
+  if (n === 0 && !growing) n = sheetRefusal(given, before);
+  sheet = { answers: n === 0 && !growing ? sheetOf(given) : [], used: 0, grow: growing ? given : null };
+  const s = n === 0 ? stepOf(record) : null;
+  let expected = n === 0 ? perform(s, room) : refused(n), whole = true;
+  const dump = dumpStore();
+  if (dump.sizes.reduce((sum, n) => sum + n, 0) > FULL.properties) {
+    expected = refused(7);
+    whole = takeBack(dump.sizes, valueOf(s.key));
+  } else {
+    keep(dump);
+  }
+  if (growing) {
+    for (const a of after || []) if (sheet.answers.length < FULL.answers) sheet.answers.push(a);
+    given = sheetBytes(sheet.answers);
+    if (sheetRefusal(given, before) !== 0) throw new Error('a sheet that was made is refused');
+  }
+  line(1, room, record, given, expected);
+  return whole;
+}
+
+function doEnter(text) {
+  const record = [];
+  for (let i = 0; i < text.length; i++) record.push(text.charCodeAt(i) & 255, text.charCodeAt(i) >> 8);
+  let n = world.stringNumber.get(text), expected;
+  if (text.length > FULL.units) expected = refused(3);
+  else if (n === undefined && world.strings.length === FULL.strings) expected = refused(7);
+  else {
+    if (n === undefined) {
+      n = world.strings.length;
+      world.strings.push(text);
+      world.stringNumber.set(text, n);
+    }
+    expected = { outcome: 1, numbers: 0, answers: 0, completion: '01' + valueText(text) };
+    keep(dumpStore());
+  }
+  line(2, 0, record, [], expected);
+}
+
+// Completing, validating and merging by themselves --------------------------------------
+
+const isComplete = (mask) => (mask & 3) === 3 && ((mask & 12) === 12 || (mask & 48) === 48);
+
+function alone(kind, record, current) {
+  const over = kind === 6 || current.length > 0;
+  let n = descriptorRefusal(over ? [record, current] : [record], counts());
+  if (n === 0 && over && !isComplete(current[0])) n = 5;
+  if (n === 0 && kind === 6 && ((current[0] & 12 && record[0] & 48) || (current[0] & 48 && record[0] & 12))) n = 6;
+  if (n !== 0) return refused(n);
+  const result = (completion) => ({ outcome: 1, numbers: 0, answers: 0, completion });
+  const it = {}, d = descriptorObject(descriptorOf(record));
+  if (kind === 6) {                                       // boa's fill_with: each field that the second has replaces the first's
+    const merged = descriptorObject(descriptorOf(current));
+    for (const [name] of FIELDS) if (name in d) merged[name] = d[name];
+    return result('02' + propertyText(merged));
+  }
+  if (over) Reflect.defineProperty(it, 'k', descriptorObject(descriptorOf(current)));
+  if (kind === 4) Reflect.preventExtensions(it);
+  const accepted = Reflect.defineProperty(it, 'k', d), p = Reflect.getOwnPropertyDescriptor(it, 'k');
+  if (kind === 3) return result('02' + propertyText(p));
+  return result('05' + (accepted ? '01' : '00') + (p === undefined ? '03' : '02' + propertyText(p)));
+}
+
+const doAlone = (kind, record, current) => line(kind, 0, record, current, alone(kind, record, current));

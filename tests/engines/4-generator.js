@@ -1,0 +1,307 @@
+// The generator: worlds of calls, from a seed.
+
+let state = 1;
+
+function random(n) {
+  state ^= state << 13;
+  state ^= state >>> 17;
+  state ^= state << 5;
+  return (state >>> 0) % n;
+}
+
+const chance = (percent) => random(100) < percent;
+const pick = (list) => list[random(list.length || 1)];
+const shuffled = (list) => { const l = list.slice(); for (let i = l.length - 1; i > 0; i--) { const j = random(i + 1), x = l[i]; l[i] = l[j]; l[j] = x; } return l; };
+
+// By weights: [[weight, what], ..]
+function weighed(rows) {
+  let n = random(rows.reduce((sum, row) => sum + row[0], 0));
+  for (const row of rows) if ((n -= row[0]) < 0) return row[1];
+  return rows[0][1];
+}
+
+// Strings, keys and values -------------------------------------------------------------
+
+const INDICES = ['0', '1', '7', '9', '10', '01', '00', '99', '4294967293', '4294967294', '4294967295', '4294967296', '2147483647', '2147483648', '-1', '1e3', '+1', '12345678901'];
+const NAMES = ['', 'a', 'b', 'c', 'visits', 'name', 'length', '__proto__', 'constructor', 'toString', 'value', 'get', '\ud800', '\udc00\ud800', 'a\ud83d\ude00',
+  '\u0660', 'x'.repeat(32), 'x'.repeat(31) + 'y', '\u00e9', 'e\u0301', ' 1', '1 '];
+
+function someText() {
+  return weighed([[40, () => pick(NAMES)], [35, () => pick(INDICES)], [10, () => String(random(2) ? random(300) : random(4294967296))],
+    [13, () => { let t = ''; for (let n = 1 + random(4); n > 0; n--) t += String.fromCharCode(random(3) ? 97 + random(3) : random(65536)); return t; }],
+    [2, () => 'y'.repeat(33 + random(3))]])();
+}
+
+const PRIMITIVES = [UNDEFINED, NULL, boolean(true), boolean(false), integer(0), integer(1), integer(-1), integer(70000), integer(4464), integer(2147483647),
+  integer(-2147483648), float(0), float(-0), float(1), float(-1), float(70000), float(4464), float(0.5), float(2147483648), float(Infinity), float(-Infinity),
+  float(5e-324), float(1.7976931348623157e308), [4, 0, 0, 0, 0, 0, 0, 0xf8, 0x7f], [4, 1, 0, 0, 0, 0, 0, 0xf0, 0xff], [4, 255, 255, 255, 255, 255, 255, 255, 127]];
+
+const someObject = () => (world.objects.length > 0 ? object(random(world.objects.length)) : NULL);
+const someString = () => (world.strings.length > 0 ? string(random(world.strings.length)) : symbol(0));
+const someSymbol = () => symbol(weighed([[8, random(4)], [1, 255], [1, random(256)]]));
+const someFunction = () => callable(weighed([[6, random(3)], [1, 255], [1, random(256)]]));
+const someValue = () => weighed([[12, () => pick(PRIMITIVES)], [3, someString], [2, someSymbol], [3, someObject], [2, someFunction]])();
+const somePrimitive = () => weighed([[10, () => pick(PRIMITIVES)], [3, someString], [2, someSymbol]])();
+
+// The ordinary object at the end of the targets.
+function baseOf(o) {
+  let at = world.objects[o];
+  while (at.proxy) at = world.objects[at.target];
+  return at.it;
+}
+
+const ownKeys = (o) => Reflect.ownKeys(baseOf(o)).map(bytesOf);
+
+function someKey(o, style) {
+  const own = chance(style.crowd ? 25 : 70) ? ownKeys(o) : [];
+  return own.length > 0 ? pick(own) : chance(80) ? someString() : someSymbol();
+}
+
+// Numbers that are read back are Float64; write some as Integer32 again.
+function rewritten(v) {
+  const x = v[0] === 4 ? valueOf(v) : 0.5;
+  return Object.is(x | 0, x) && chance(60) ? integer(x) : v;
+}
+
+// Descriptors ---------------------------------------------------------------------------
+
+const flag = () => chance(50);
+
+function someDescriptor() {
+  const d = {};
+  for (const name of ['enumerable', 'configurable']) if (chance(65)) d[name] = flag();
+  const kind = random(10);
+  if (kind < 6) {
+    if (chance(80)) d.value = someValue();
+    if (chance(65)) d.writable = flag();
+  } else if (kind < 9) {
+    if (chance(75)) d.get = chance(70) ? someFunction() : UNDEFINED;
+    if (chance(75)) d.set = chance(70) ? someFunction() : UNDEFINED;
+  }
+  return d;
+}
+
+// The base's own property as a descriptor; null where there is none.
+function current(o, key) {
+  const p = Reflect.getOwnPropertyDescriptor(baseOf(o), key);
+  if (p === undefined) return null;
+  const d = { enumerable: p.enumerable, configurable: p.configurable };
+  if ('value' in p) { d.value = rewritten(bytesOf(p.value)); d.writable = p.writable; } else { d.get = bytesOf(p.get); d.set = bytesOf(p.set); }
+  return d;
+}
+
+// A descriptor like another: as it is, or with fields changed or dropped.
+function near(d) {
+  const e = Object.assign({}, d);
+  const change = () => {
+    const name = pick(Object.keys(e));
+    if (name !== undefined) e[name] = name === 'value' ? someValue() : name === 'get' || name === 'set' ? pick([UNDEFINED, someFunction()]) : !e[name];
+  };
+  const drop = () => { delete e[pick(Object.keys(e))]; };
+  weighed([[40, () => {}], [30, change], [8, () => { change(); change(); }], [12, drop], [6, () => { drop(); change(); }], [4, () => { drop(); drop(); drop(); }]])();
+  return e;
+}
+
+const FIXED = [{ writable: false, configurable: false }, { configurable: false }, { writable: false, configurable: false, enumerable: true }, { configurable: false, writable: true }];
+
+// What a step hands in: near what is there, fixing it, or anything.
+function handedDescriptor(o, key) {
+  const there = current(o, key);
+  if (there !== null && chance(60)) return near(there);
+  if (chance(35)) return Object.assign(chance(80) ? { value: someValue() } : {}, pick(FIXED));
+  if (chance(15)) return Object.assign({ get: chance(50) ? UNDEFINED : someFunction(), set: chance(50) ? UNDEFINED : someFunction() }, { configurable: flag() });
+  return someDescriptor();
+}
+
+// Answers --------------------------------------------------------------------------------
+
+// A value that counts as true, or as false; the empty string is one of the entered ones.
+const someTrue = () => weighed([[3, () => pick([boolean(true), integer(1), float(-0.5), float(Infinity)])], [2, someSymbol], [2, someObject], [1, someFunction]])();
+const someFalse = () => pick([UNDEFINED, NULL, integer(0), float(0), float(-0), float(NaN), someString()]);
+const truth = (b) => answered(chance(90) ? boolean(b) : b ? someTrue() : someFalse());
+
+function keyListAnswer(o) {
+  const own = ownKeys(o);
+  const list = chance(30) ? shuffled(own) : own;
+  const at = random(list.length + 1);
+  const without = () => list.filter((_, i) => i !== at);
+  const added = (v) => list.slice(0, at).concat([v], list.slice(at));
+  const key = chance(60) ? someString() : someSymbol();
+  return listed(weighed([[36, () => list], [20, without], [14, () => added(key)], [10, () => (list.length > 0 ? added(pick(list)) : [key, key])],
+    [8, () => list.map((v, i) => (i === at ? key : v))], [4, () => added(somePrimitive())], [1, () => added(chance(50) ? someObject() : someFunction())],
+    [3, () => []], [5, () => { const l = []; for (let n = random(6); n > 0; n--) l.push(chance(50) ? someString() : someSymbol()); return l; }]])().slice(0, 256));
+}
+
+function ownPropertyAnswer(o, key) {
+  const there = current(o, key);
+  const spoilt = () => Object.assign(someDescriptor(), weighed([[3, { get: somePrimitive() }], [3, { set: somePrimitive() }], [2, { get: someObject() }], [3, { get: someFunction(), value: someValue() }], [2, { set: UNDEFINED, writable: false }]]));
+  return weighed([[there ? 55 : 12, () => described(near(there || { value: someValue(), writable: true, enumerable: true, configurable: true }))], [there ? 20 : 55, () => answered(UNDEFINED)],
+    [10, () => described(someDescriptor())], [5, () => described(spoilt())], [3, () => answered(somePrimitive())]])();
+}
+
+// The next answer, mostly near the truth about the ordinary object at the end.
+function someAnswer(asks) {
+  if (chance(3)) return thrown(someValue());
+  if (chance(1) && chance(60)) return weighed([[1, () => described(someDescriptor())], [1, () => listed([someString()])], [2, () => answered(someObject())], [2, () => answered(someFunction())]])();
+  const o = asks.target;
+  switch (asks.trap) {
+    case 'getPrototypeOf': {
+      const p = Reflect.getPrototypeOf(baseOf(o));
+      return answered(weighed([[70, () => bytesOf(p)], [8, () => NULL], [14, someObject], [8, somePrimitive]])());
+    }
+    case 'isExtensible': return truth(chance(85) === Reflect.isExtensible(baseOf(o)));
+    case 'getOwnPropertyDescriptor': return ownPropertyAnswer(o, asks.key);
+    case 'has': return truth(chance(65) === Reflect.ownKeys(baseOf(o)).includes(asks.key));
+    case 'get': { const there = current(o, asks.key); return answered(there && there.value && chance(65) ? there.value : chance(30) ? UNDEFINED : someValue()); }
+    case 'ownKeys': return chance(96) ? keyListAnswer(o) : answered(somePrimitive());
+    case 'function': return answered(someValue());
+    default: return truth(chance(70));
+  }
+}
+
+// Loops and long walks -------------------------------------------------------------------
+
+// Whether [[Get]] of a missing key would come back to where it was: from prototype to prototype, through proxies to their targets.
+function isLoop(from) {
+  const seen = new Set();
+  for (let o = from; o !== undefined; ) {
+    if (seen.has(o)) return true;
+    seen.add(o);
+    const at = world.objects[o];
+    o = at.proxy ? at.target : world.numbers.get(Reflect.getPrototypeOf(at.it));
+  }
+  return false;
+}
+
+// [[OwnPropertyKeys]] asks a proxy's target for each key, and so on inward: no more than this many calls, from what an answer may list.
+function walk(o) {
+  let depth = 0, fan = 1;
+  for (let at = world.objects[o]; at.proxy; at = world.objects[at.target]) { depth++; if (at.mask & 16) fan++; }
+  return (Reflect.ownKeys(baseOf(o)).length + 8) * depth * depth * fan;
+}
+
+// Steps ----------------------------------------------------------------------------------
+
+const MASKS = [0, 0, 0, 1, 2, 4, 8, 16, 32, 64, 128, 256, 512, 1024, 16 + 1024, 32 + 256, 16 + 32];
+const someMask = (style) => integer(style.loops && chance(60) ? 0 : weighed([[45, 2047], [20, pick(MASKS)], [35, random(2048)]]));
+const someReceiver = (o) => weighed([[50, () => object(o)], [22, someObject], [10, () => UNDEFINED], [18, somePrimitive]])();
+
+function someStep(style) {
+  const n = world.objects.length;
+  const code = n < 2 ? 1 + random(2) * (n > 0 ? 1 : 0) : weighed(style.codes);
+  if (code === 1) return { code, value: n > 0 && chance(60) ? someObject() : NULL };
+  const proxies = world.objects.map((_, i) => i).filter((i) => world.objects[i].proxy && !world.objects[i].revoked);
+  const o = code !== 2 && proxies.length > 0 && chance(style.proxies) ? pick(proxies) : chance(style.last) ? n - 1 - random(Math.min(n, 3)) : random(n), key = someKey(o, style);
+  if (code === 7 && chance(50)) return { code, object: world.numbers.get(baseOf(o)) };
+  if (style.loops && proxies.length > 0 && chance(12)) { const p = pick(proxies); return { code: 5, object: world.numbers.get(baseOf(p)), value: object(p) }; }
+  switch (code) {
+    case 2: return { code, object: o, value: someMask(style) };
+    case 3: return proxies.length > 0 && chance(30) ? { code, object: o === proxies[0] || chance(80) ? pick(proxies) : o } : { code: 6, object: o };
+    case 5: return { code, object: o, value: chance(80) ? someObject() : NULL };
+    case 9: return { code, object: o, key, descriptor: handedDescriptor(o, valueOf(key)) };
+    case 11: return { code, object: o, key, receiver: someReceiver(o) };
+    case 12: { const there = current(o, valueOf(key)); return { code, object: o, key, value: there && there.value && chance(35) ? there.value : someValue(), receiver: someReceiver(o) }; }
+    case 8: case 10: case 13: return { code, object: o, key };
+    default: return { code, object: o };
+  }
+}
+
+// Refusals 2 to 4: a part that cannot be used.
+function spoilt(s) {
+  const t = Object.assign({}, s);
+  const d = Object.assign({}, s.descriptor || {});
+  const spoil = (name) => { t[name] = pick([object(world.objects.length), object(world.objects.length + random(300)), string(world.strings.length), symbol(256), callable(256), someFunction(), [7, 0, 0, 0, 0, 1, 0, 0, 0], [5, 0, 0, 0, 0, 0, 0, 0, 1], someValue()]); };
+  weighed([[3, () => { t.object = world.objects.length + random(3); }], [3, () => spoil('key')], [2, () => spoil('value')], [2, () => spoil('receiver')],
+    [2, () => { t.code = 3; delete t.key; delete t.value; delete t.receiver; delete t.descriptor; }],
+    [4, () => { t.code = 9; t.key = s.key || someString(); delete t.value; delete t.receiver; Object.assign(d, pick([{ get: someFunction(), value: someValue() }, { set: UNDEFINED, writable: true }, { get: somePrimitive() }, { set: someObject() }])); t.descriptor = d; }]])();
+  return t;
+}
+
+// Some bytes changed, dropped or added.
+function damaged(bytes) {
+  const copy = bytes.slice();
+  for (let turns = 1 + random(2); turns > 0; turns--) {
+    const at = random(copy.length || 1);
+    weighed([[2, () => copy.splice(at, 1)], [2, () => copy.splice(at, 0, random(256))], [3, () => { copy[at] = 0; }], [5, () => { copy[at] = random(12); }], [4, () => { copy[at] = random(256); }], [1, () => { copy.length = at; }]])();
+  }
+  return copy;
+}
+
+// The output of a listing: room for the keys and some more, just enough, or too little.
+function someRoom(o) {
+  const n = 9 * ownKeys(o).length;
+  return weighed([[85, n + 36], [8, n], [4, Math.max(0, n - 1)], [3, random(40)]]);
+}
+
+const anyAnswer = () => weighed([[4, () => answered(someValue())], [2, () => described(someDescriptor())], [2, () => listed([someString(), someSymbol()])], [1, () => thrown(someValue())]])();
+
+// Whether a prototype would make a loop.
+function wouldLoop(o, p) {
+  const base = world.numbers.get(baseOf(o)), seen = new Set();
+  for (let at = p; at !== undefined && !seen.has(at); ) {
+    if (at === base) return true;
+    seen.add(at);
+    const made = world.objects[at];
+    at = made.proxy ? made.target : world.numbers.get(Reflect.getPrototypeOf(made.it));
+  }
+  return false;
+}
+
+// A step as the style has it, or another where it would walk too far or make a loop that is not asked for.
+function chosenStep(style) {
+  const s = someStep(style);
+  if (s.code === 5 && !style.loops && s.value[0] === 7 && (isLoop(s.object) || wouldLoop(s.object, payload(s.value)))) return { code: 4, object: s.object };
+  return chance(4) ? spoilt(s) : s;
+}
+
+// False where the world cannot go on.
+function step(style) {
+  const whole = stepBytes(chosenStep(style)), record = chance(2) ? damaged(whole) : whole;
+  const lists = record[0] === 14 && record[1] < world.objects.length;
+  if (lists && walk(record[1]) > 1500) record[0] = 6;
+  const room = lists ? someRoom(record[1]) : random(4) * random(12);
+  if (chance(3)) {
+    const bytes = sheetBytes(Array.from({ length: random(4) }, anyAnswer));
+    return doStep(record, chance(75) ? damaged(bytes) : bytes, room);
+  }
+  const end = chance(8) ? random(4) : FULL.answers;       // where the sheet ends too soon
+  let given = 0;
+  const extra = end === FULL.answers && chance(15) ? [anyAnswer(), anyAnswer()].slice(random(2)) : [];
+  return doStep(record, (asks) => (given++ < end ? someAnswer(asks) : null), room, extra);
+}
+
+// Descriptors by themselves --------------------------------------------------------------
+
+function stepAlone() {
+  const kind = 3 + random(4);
+  const whole = (d) => Object.assign('get' in d || 'set' in d ? { get: UNDEFINED, set: UNDEFINED } : { value: UNDEFINED, writable: false }, { enumerable: false, configurable: false }, d);
+  const there = chance(92) ? whole(someDescriptor()) : someDescriptor();
+  const d = chance(60) ? near(there) : chance(94) ? someDescriptor() : Object.assign(someDescriptor(), { get: someFunction(), value: somePrimitive() });
+  if (chance(3)) d.value = pick([object(world.objects.length), string(world.strings.length), symbol(300)]);
+  const record = descriptorBytes(d), other = kind === 3 || (kind < 6 && chance(15)) ? [] : descriptorBytes(there);
+  doAlone(kind, chance(3) ? damaged(record) : record, chance(3) && kind > 3 ? damaged(other) : other);
+}
+
+// Worlds ---------------------------------------------------------------------------------
+
+const EVEN = [[4, 1], [5, 2], [1, 3], [6, 4], [5, 5], [5, 6], [4, 7], [12, 8], [20, 9], [9, 10], [10, 11], [12, 12], [6, 13], [10, 14]];
+const STYLES = [
+  [70, { calls: 150, strings: 8, last: 30, proxies: 60, codes: EVEN }],
+  [10, { calls: 60, strings: 4, last: 60, proxies: 75, codes: [[2, 1], [14, 2], [1, 3], [4, 4], [3, 5], [4, 6], [3, 7], [10, 8], [12, 9], [6, 10], [8, 11], [8, 12], [5, 13], [8, 14]] }],
+  [24, { calls: 60, strings: 5, last: 40, proxies: 65, codes: [[2, 1], [4, 2], [3, 4], [3, 5], [3, 6], [9, 7], [16, 8], [22, 9], [9, 10], [12, 11], [9, 12], [6, 13], [16, 14]] }],
+  [6, { calls: 50, strings: 4, last: 40, proxies: 40, loops: true, codes: EVEN }],
+  [4, { calls: 120, strings: 3, last: 5, proxies: 20, codes: [[30, 1], [30, 2], [2, 3], [5, 9], [5, 11], [5, 12]] }],
+  [2, { calls: 700, strings: 4, last: 0, proxies: 10, crowd: true, codes: [[1, 1], [1, 2], [90, 9], [2, 10], [12, 12], [3, 13], [1, 14]] }],
+];
+
+function someWorld(limit) {
+  const style = weighed(STYLES), end = Math.min(limit, calls + style.calls / 2 + random(style.calls));
+  emptied();
+  for (let i = random(style.strings); i >= 0 && calls < end; i--) doEnter(someText());
+  if (style.crowd) for (let i = 0, n = pick([40, 120, 250, 270]); i < n && calls < end; i++) doEnter('k' + i);
+  while (calls < end) {
+    if (chance(3)) doEnter(someText());
+    else if (world.objects.length > 0 && chance(5)) stepAlone();
+    else if (!step(style)) return;
+  }
+}

@@ -1,0 +1,12 @@
+#!/bin/sh
+# The gate: formatting; `rt ci`, which proves everything from nothing and tries the must-fail edits; then, over what was just proved, calls against node's
+# own objects, the C program and the Rust crate's tests. It fails at the first that fails. The tally of `rt ci` is printed last.
+set -eu
+cd "$(dirname "$0")/.."
+log=$(mktemp)
+trap 'rm -f "$log"' EXIT
+rt fmt --check
+{ rt ci || echo 'rt ci failed'; } | tee "$log"
+grep -q ' passed, 0 failed$' "$log"
+make engine-check c-test bindings
+grep ' passed, 0 failed$' "$log"
