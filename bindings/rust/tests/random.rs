@@ -20,7 +20,7 @@ fn list_of_calls(seed: u64, size: usize) -> Tally {
 }
 
 /// LISTS in the environment makes fewer lists of calls, for a run under a memory checker.
-const LISTS: u64 = 3000;
+const LISTS: u64 = 1500;
 
 #[test]
 fn every_call_is_as_the_plain_implementation_says() {

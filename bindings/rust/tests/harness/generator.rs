@@ -334,7 +334,11 @@ impl Generator {
             answers.push(Answer::Value(self.value(world)));
         }
         if self.random.once_in(100) {
-            answers.resize(63 + self.random.below(3), Answer::Value(Value::Null));
+            let size = 63 + self.random.below(3);
+            answers.truncate(size);
+            while answers.len() < size {
+                answers.push(Answer::Value(Value::Null));
+            }
         }
         answers
     }
