@@ -32,8 +32,8 @@ function someText() {
     [2, () => 'y'.repeat(33 + random(3))]])();
 }
 
-const PRIMITIVES = [UNDEFINED, NULL, boolean(true), boolean(false), integer(0), integer(1), integer(-1), integer(70000), integer(4464), integer(2147483647),
-  integer(-2147483648), float(0), float(-0), float(1), float(-1), float(70000), float(4464), float(0.5), float(2147483648), float(Infinity), float(-Infinity),
+const PRIMITIVES = [UNDEFINED, NULL, boolean(true), boolean(false), integer(0), integer(0), integer(1), integer(-1), integer(70000), integer(4464), integer(2147483647),
+  integer(-2147483648), float(0), float(-0), float(-0), float(1), float(-1), float(70000), float(4464), float(0.5), float(2147483648), float(Infinity), float(-Infinity),
   float(5e-324), float(1.7976931348623157e308), [4, 0, 0, 0, 0, 0, 0, 0xf8, 0x7f], [4, 1, 0, 0, 0, 0, 0, 0xf0, 0xff], [4, 255, 255, 255, 255, 255, 255, 255, 127]];
 
 const someObject = () => (world.objects.length > 0 ? object(random(world.objects.length)) : NULL);
@@ -42,6 +42,14 @@ const someSymbol = () => symbol(weighed([[8, random(4)], [1, 255], [1, random(25
 const someFunction = () => callable(weighed([[6, random(3)], [1, 255], [1, random(256)]]));
 const someValue = () => weighed([[12, () => pick(PRIMITIVES)], [3, someString], [2, someSymbol], [3, someObject], [2, someFunction]])();
 const somePrimitive = () => weighed([[10, () => pick(PRIMITIVES)], [3, someString], [2, someSymbol]])();
+
+// A value like another: a number written otherwise, or nearly the number; a zero of the other sign; another NaN.
+function nearValue(v) {
+  if (v[0] !== 3 && v[0] !== 4) return someValue();
+  const x = valueOf(v);
+  if (x !== x) return pick(PRIMITIVES.slice(-3));
+  return weighed([[3, () => (x === 0 ? float(-1 / x === Infinity ? 0 : -0) : float(-x))], [2, () => float(x)], [2, () => (Object.is(x | 0, x) ? integer(x) : float(x))], [1, () => float(x + 1)], [1, someValue]])();
+}
 
 // The ordinary object at the end of the targets.
 function baseOf(o) {
@@ -95,7 +103,7 @@ function near(d) {
   const e = Object.assign({}, d);
   const change = () => {
     const name = pick(Object.keys(e));
-    if (name !== undefined) e[name] = name === 'value' ? someValue() : name === 'get' || name === 'set' ? pick([UNDEFINED, someFunction()]) : !e[name];
+    if (name !== undefined) e[name] = name === 'value' ? nearValue(e.value) : name === 'get' || name === 'set' ? pick([UNDEFINED, someFunction()]) : !e[name];
   };
   const drop = () => { delete e[pick(Object.keys(e))]; };
   weighed([[40, () => {}], [30, change], [8, () => { change(); change(); }], [12, drop], [6, () => { drop(); change(); }], [4, () => { drop(); drop(); drop(); }]])();
@@ -152,7 +160,7 @@ function someAnswer(asks) {
     case 'isExtensible': return truth(chance(85) === Reflect.isExtensible(baseOf(o)));
     case 'getOwnPropertyDescriptor': return ownPropertyAnswer(o, asks.key);
     case 'has': return truth(chance(65) === Reflect.ownKeys(baseOf(o)).includes(asks.key));
-    case 'get': { const there = current(o, asks.key); return answered(there && there.value && chance(65) ? there.value : chance(30) ? UNDEFINED : someValue()); }
+    case 'get': { const there = current(o, asks.key); return answered(!there || !there.value ? (chance(40) ? UNDEFINED : someValue()) : weighed([[60, () => there.value], [20, () => nearValue(there.value)], [5, () => UNDEFINED], [15, someValue]])()); }
     case 'ownKeys': return chance(96) ? keyListAnswer(o) : answered(somePrimitive());
     case 'function': return answered(someValue());
     default: return truth(chance(70));
@@ -200,7 +208,7 @@ function someStep(style) {
     case 5: return { code, object: o, value: chance(80) ? someObject() : NULL };
     case 9: return { code, object: o, key, descriptor: handedDescriptor(o, valueOf(key)) };
     case 11: return { code, object: o, key, receiver: someReceiver(o) };
-    case 12: { const there = current(o, valueOf(key)); return { code, object: o, key, value: there && there.value && chance(35) ? there.value : someValue(), receiver: someReceiver(o) }; }
+    case 12: { const there = current(o, valueOf(key)); return { code, object: o, key, value: there && there.value && chance(50) ? (chance(60) ? there.value : nearValue(there.value)) : someValue(), receiver: someReceiver(o) }; }
     case 8: case 10: case 13: return { code, object: o, key };
     default: return { code, object: o };
   }

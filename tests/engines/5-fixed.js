@@ -53,6 +53,18 @@ function fixedCalls() {
   run(8, p, { key: a }, [described({ get: f, value: NULL })]); run(8, p, { key: a }, [described({ set: UNDEFINED, writable: false })]);
   for (const v of [integer(1), NULL, object(o), f]) run(14, p, {}, [listed([a, v, a])]);
   for (const v of [integer(1), UNDEFINED, a]) run(14, p, {}, [answered(v)]);
+  // SameValue: zeros of both signs, NaNs of different bits, Integer32 beside Float64
+  const zero = make(), z = proxy(zero), zeros = [integer(0), float(0), float(-0), integer(1), float(1)], nans = PRIMITIVES.slice(-3);
+  [integer(0), float(-0), nans[0], float(1)].forEach((v, i) => define(zero, symbol(i), { value: v, writable: false, configurable: false }));
+  for (let i = 0; i < 4; i++) {
+    for (const v of i === 2 ? nans : zeros) {
+      run(11, z, { key: symbol(i), receiver: NULL }, [answered(v)]);
+      run(12, z, { key: symbol(i), value: v, receiver: NULL }, [yes]);
+      run(8, z, { key: symbol(i) }, [described({ value: v })]);
+      define(z, symbol(i), { value: v }, [yes]);
+      define(zero, symbol(i), { value: v });
+    }
+  }
   // throws of each kind of value
   for (const v of PRIMITIVES.concat([a, s, object(o), object(p), f])) run(11, p, { key: a, receiver: NULL }, [thrown(v)]);
   // refusals 1 to 4

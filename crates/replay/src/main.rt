@@ -1,9 +1,6 @@
 // Performs the calls that a JavaScript engine performed, and counts those that end otherwise here than there.
 // tests/engines/1-records.js has the layout of a line.
-mod perform;
-
 use comparison::Ending;
-use perform::perform;
 ghost use Prim.Native.Nat.{_<_, _≤_, _+_, _*_};
 ghost use lib.ListN.{length};
 
@@ -79,7 +76,7 @@ fn performed(
     ours: &mut [u8],
 ) -> Ending {
     fill(output);
-    perform(words, strings, kind, bytes, given, output, ours)
+    entry_calls::perform(words, strings, kind, bytes, given, output, ours)
 }
 
 // Counts a call, and shows it if it is among the first differences.

@@ -1,7 +1,4 @@
-use mathlib.Core.Path.{_≡_, sym, _∙_}
-use Prim.Native.Nat.{_≤_, _<_, _-_, _*_, _+_}
-use lib.ListN.{length, length-take}
-use native.Mathlib.Omega.{arith}
+use Prim.Native.Nat.{_≤_, _-_}
 use borrow.Author.Needs.{needs}
 use Rattle.tally.proofs.print_refusals.Statement.{statement}
 use Rattle.tally.proofs.print_refusals.Tie as tie

@@ -1,10 +1,10 @@
-use mathlib.Core.Path.{_≡_, sym, _∙_}
-use Prim.Native.Nat.{_≤_, _<_, _-_, _*_, _+_}
+use mathlib.Core.Path.{_≡_}
+use Prim.Native.Nat.{_≤_, _-_}
 use lib.ListN.{length, length-take}
 use native.Mathlib.Omega.{arith}
 use borrow.Author.Needs.{needs}
-use Rattle.replay.proofs.perform.enter.Statement.{statement}
-use Rattle.replay.proofs.perform.enter.Tie as tie
+use Rattle.entry_calls.proofs.enter.Statement.{statement}
+use Rattle.entry_calls.proofs.enter.Tie as tie
 
 abbrev Inv-loop : tie.InvT-loop
 Inv-loop strings bytes ours units₀ size i₀ units i = (i ≤ size) × ((size ≤ 64) × (length units ≡ 64))

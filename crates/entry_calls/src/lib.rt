@@ -1,4 +1,4 @@
-// A call by its kind, and what it ends in.
+// A call of an entry by its kind (tests/engines/1-records.js), and what it ends in.
 use alone::DescriptorAnswer;
 use alone::Verdict;
 use comparison::Ending;

@@ -1,10 +1,7 @@
-use mathlib.Core.Path.{_≡_, sym, _∙_}
-use Prim.Native.Nat.{_≤_, _<_, _-_, _*_, _+_}
-use lib.ListN.{length, length-take}
-use native.Mathlib.Omega.{arith}
+use mathlib.Core.Path.{sym, _∙_}
 use borrow.Author.Needs.{needs}
-use Rattle.replay.proofs.perform.object_count.Statement.{statement}
-use Rattle.replay.proofs.perform.object_count.Tie as tie
+use Rattle.entry_calls.proofs.object_count.Statement.{statement}
+use Rattle.entry_calls.proofs.object_count.Tie as tie
 
 object-count-requires : tie.Need-object-count-requires
 object-count-requires c κs = sym (c .before .is-store .ensures) ∙ c .if1 .taken
