@@ -11,7 +11,7 @@
  *   report    ten words
  * Memory that is all zeros is an empty store and an empty table; demnyaluz_empty_store and demnyaluz_empty_strings make memory of any content so.
  * Each pointer is good for its length, also where that is 0 (it is then not null, but is never read). What a call writes overlaps
- * nothing else that it is lent. A call takes at most 1 MB of stack (a step of 2,048 nested calls).
+ * nothing else that it is lent. A step of 2,048 nested calls runs in a stack of 1 MB.
  *
  * A store or table of another length, or whose counts exceed what it can hold, is refused as 1, and so is a record of a wrong length. A
  * refusal changes nothing. Only a result changes the store.

@@ -15,7 +15,7 @@ const LIST: u64 = 200;
 
 fn list_of_calls(seed: u64) -> Tally {
     let mut generator = Generator::new(seed);
-    // two records in three are damaged
+    // about three steps in four have a damaged record or sheet
     generator.habits.damage = generator.random.pick(&[1, 2, 2, 3]);
     let mut pair = Pair::new();
     generator.begin(&mut pair);

@@ -1,27 +1,19 @@
-use mathlib.Core.Path.{sym, ap, _∙_}
+use mathlib.Core.Path.{ap, _∙_}
 use Rattle.report_words.specs.ReportWords.{reportWords}
 use Rattle.reporting.specs.Memory.{Shown}
 use borrow.Author.Needs.{needs}
 use Rattle.demnyaluz.proofs.demnyaluz_enter_string.Statement.{statement}
 use Rattle.demnyaluz.proofs.demnyaluz_enter_string.Tie as tie
-use Rattle.demnyaluz.proofs.demnyaluz_enter_string.Reads as reads
-use Rattle.demnyaluz.proofs.demnyaluz_enter_string.Lts as lts
-use Rattle.report_words.proofs.report_words.Reads as report-words-reads
-use Rattle.step.proofs.enter_string.Reads as enter-string-reads
 
--- src/lib.rt:34:42
 enter-string-requires : tie.Need-enter-string-requires
 enter-string-requires c κs = search needs
 
--- src/lib.rt:34:15
 report-words-requires : tie.Need-report-words-requires
 report-words-requires c κs = search needs
 
--- src/lib.rt:29:1
 same-length : tie.Need-same-length
 same-length c = search needs
 
--- src/lib.rt:29:1
 returns : tie.Need-returns
 returns c = ((λ σ. c .report-words .ensures ∙ ap (λ (s : Shown). reportWords (s .report)) (c .before .before .before .enter-string .ensures .0 σ)), c .before .before .before .enter-string .ensures .1 .0)
 

@@ -9,7 +9,7 @@ same-length : tie.Need-same-length
 same-length c = search needs
 
 returns : tie.Need-returns
-returns c = c .before .before .write-message .ensures
+returns c = (c .before .before .write-message .ensures .0, c .before .before .write-message .ensures .1)
 
 pub demnyaluz-message-spec : {M : Type 1} → statement M
 demnyaluz-message-spec = tie.close (tie.spec write-message-requires same-length returns)

@@ -1,32 +1,23 @@
 use Rattle.demnyaluz.proofs.ShownLaws.{words-told}
-use mathlib.Core.Path.{sym, ap, _∙_}
+use mathlib.Core.Path.{ap, _∙_}
 use Rattle.report_words.specs.ReportWords.{reportWords}
 use Rattle.reporting.specs.Memory.{Shown}
 use borrow.Author.Needs.{needs}
 use Rattle.demnyaluz.proofs.demnyaluz_step.Statement.{statement}
 use Rattle.demnyaluz.proofs.demnyaluz_step.Tie as tie
-use Rattle.demnyaluz.proofs.demnyaluz_step.Reads as reads
-use Rattle.demnyaluz.proofs.demnyaluz_step.Lts as lts
-use Rattle.report_words.proofs.report_words.Reads as report-words-reads
-use Rattle.step.proofs.step.Reads as step-reads
 
--- src/lib.rt:25:42
 step-requires : tie.Need-step-requires
 step-requires c κs = search needs
 
--- src/lib.rt:25:15
 report-words-requires : tie.Need-report-words-requires
 report-words-requires c κs = search needs
 
--- src/lib.rt:11:1
 same-length : tie.Need-same-length
 same-length c = search needs
 
--- src/lib.rt:11:1
 same-length-2 : tie.Need-same-length-2
 same-length-2 c = search needs
 
--- src/lib.rt:11:1
 returns : tie.Need-returns
 returns c = (c .report-words .ensures ∙ ap (λ (s : Shown). reportWords (s .report)) (c .before .before .before .before .before .step .ensures .0), (ap (λ (s : Shown). s .world) (c .before .before .before .before .before .step .ensures .0), (ap (λ (s : Shown). s .output) (c .before .before .before .before .before .step .ensures .0), words-told _ _ _ _ (c .before .before .before .before .before .step .ensures .0) (c .before .before .before .before .before .step .ensures .1))))
 

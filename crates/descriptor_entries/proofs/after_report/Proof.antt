@@ -1,22 +1,16 @@
 use borrow.Author.Needs.{needs}
 use Rattle.descriptor_entries.proofs.after_report.Statement.{statement}
 use Rattle.descriptor_entries.proofs.after_report.Tie as tie
-use Rattle.descriptor_entries.proofs.after_report.Reads as reads
-use Rattle.descriptor_entries.proofs.after_report.Lts as lts
 
--- src/lib.rt:48:38
 enum-told : tie.Need-enum-told
 enum-told c = search needs
 
--- src/lib.rt:52:30
 enum-known-after : tie.Need-enum-known-after
 enum-known-after c = search needs
 
--- src/lib.rt:43:1
 returns : tie.Need-returns
 returns c = rw (c .enum-told .given .1)
 
--- src/lib.rt:43:1
 returns-2 : tie.Need-returns-2
 returns-2 c = rw (c .before .after .given .1)
 

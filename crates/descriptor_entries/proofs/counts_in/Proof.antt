@@ -1,38 +1,27 @@
-use mathlib.Core.Path.{sym, ap, _∙_}
+use mathlib.Core.Path.{sym, _∙_}
 use Rattle.reporting.specs.Memory.{isMemory}
 use Rattle.descriptor_entries.specs.Entries.{countsIn}
 use borrow.Author.Needs.{needs}
 use Rattle.descriptor_entries.proofs.counts_in.Statement.{statement}
 use Rattle.descriptor_entries.proofs.counts_in.Tie as tie
-use Rattle.descriptor_entries.proofs.counts_in.Reads as reads
-use Rattle.descriptor_entries.proofs.counts_in.Lts as lts
-use Rattle.record_tests.proofs.counts_of.Reads as counts-of-reads
-use Rattle.store_read.proofs.is_store.Reads as is-store-reads
-use Rattle.text.proofs.is_table.Reads as is-table-reads
 
--- src/lib.rt:21:8
 is-store-requires : tie.Need-is-store-requires
 is-store-requires c κs = search needs
 
--- src/lib.rt:22:12
 is-table-requires : tie.Need-is-table-requires
 is-table-requires c κs = search needs
 
--- src/lib.rt:23:33
 counts-of-requires : tie.Need-counts-of-requires
 counts-of-requires c κs = (sym (c .before .before .before .is-store .ensures) ∙ c .before .before .if1 .taken, sym (c .before .is-table .ensures) ∙ c .if2 .taken)
 
--- src/lib.rt:23:13
 returns : tie.Need-returns
 unfolding countsIn isMemory
 returns c = rw (sym (c .before .before .before .before .is-store .ensures) ∙ c .before .before .before .if1 .taken, sym (c .before .before .is-table .ensures) ∙ c .before .if2 .taken, sym (c .counts-of .ensures))
 
--- src/lib.rt:25:9
 returns-2 : tie.Need-returns-2
 unfolding countsIn isMemory
 returns-2 c = rw (sym (c .before .before .before .is-store .ensures) ∙ c .before .before .if1 .taken, sym (c .before .is-table .ensures) ∙ c .if2 .left)
 
--- src/lib.rt:18:1
 returns-3 : tie.Need-returns-3
 unfolding countsIn isMemory
 returns-3 c = rw (sym (c .before .is-store .ensures) ∙ c .if1 .left)

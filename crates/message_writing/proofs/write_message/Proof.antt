@@ -1,38 +1,26 @@
 use native.Mathlib.Omega.{arith}
-use mathlib.Core.Path.{_≡_, sym, _∙_}
-use lib.ListN.{length}
+use mathlib.Core.Path.{_∙_}
 use Rattle.internal_methods.specs.Messages.{messageText}
 use Rattle.message_writing.proofs.WrittenLaws.{written-fits, written-not}
 use borrow.Author.Needs.{needs}
 use Rattle.message_writing.proofs.write_message.Statement.{statement}
 use Rattle.message_writing.proofs.write_message.Tie as tie
-use Rattle.message_writing.proofs.write_message.Reads as reads
-use Rattle.message_writing.proofs.write_message.Lts as lts
-use Rattle.message.proofs.message_length.Reads as message-length-reads
-use Rattle.message_writing.proofs.wide.Reads as wide-reads
-use Rattle.message_writing.proofs.write.Reads as write-reads
 
--- src/lib.rt:31:21
 message-length-requires : tie.Need-message-length-requires
 message-length-requires c κs = search needs
 
--- src/lib.rt:31:9
 wide-requires : tie.Need-wide-requires
 wide-requires c κs = search needs
 
--- src/lib.rt:33:9
 write-requires : tie.Need-write-requires
 write-requires c κs = (c .before .before .wide .ensures ∙ c .before .before .before .message-length .ensures, omega arith)
 
--- src/lib.rt:34:9
 same-length : tie.Need-same-length
 same-length c = search needs
 
--- src/lib.rt:34:9
 returns : tie.Need-returns
 returns c = (c .before .before .before .before .before .wide .ensures ∙ c .before .before .before .before .before .before .message-length .ensures, c .before .before .write .ensures ∙ written-fits (messageText (c .before .before .before .before .before .before .before .before .args .n)) (c .before .before .before .before .before .before .before .before .args .text .now) (omega (arith, c .before .before .before .before .before .wide .ensures ∙ c .before .before .before .before .before .before .message-length .ensures)))
 
--- src/lib.rt:27:1
 returns-2 : tie.Need-returns-2
 returns-2 c = (c .before .wide .ensures ∙ c .before .before .message-length .ensures, written-not (messageText (c .before .before .before .before .args .n)) (c .before .before .before .before .args .text .now) (omega (arith, c .before .wide .ensures ∙ c .before .before .message-length .ensures)))
 
