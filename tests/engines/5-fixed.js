@@ -65,6 +65,9 @@ function fixedCalls() {
       define(zero, symbol(i), { value: v });
     }
   }
+  // ToBoolean of each kind of value
+  const empty = enter('');
+  for (const v of PRIMITIVES.concat([empty, a, s, object(o), object(p), f])) run(6, p, {}, [answered(v)]);
   // throws of each kind of value
   for (const v of PRIMITIVES.concat([a, s, object(o), object(p), f])) run(11, p, { key: a, receiver: NULL }, [thrown(v)]);
   // refusals 1 to 4

@@ -13,8 +13,8 @@ fn wide(b: u8) -> usize
     b as usize
 }
 
-fn short(head: &[u8; 9], at: usize) -> usize
-    requires { ⌜ at + 2 ≤ 9 ⌝ }
+fn short(head: &[u8; 18], at: usize) -> usize
+    requires { ⌜ at + 2 ≤ 18 ⌝ }
     ensures { λ r. ⌜ r < 65536 ⌝ }
 {
     wide(head[at]) + 256 * wide(head[at + 1])
@@ -39,18 +39,17 @@ fn joined(high: u8, low: u8) -> u8 {
     (digit(high) % 16) * 16 + digit(low) % 16
 }
 
-// Each two digits as a byte; false where one is no digit.
-fn decode(text: &[u8], out: &mut [u8]) -> bool
-    requires { ⌜ 2 * length (now out) ≤ length (now text) ⌝ }
+// Each two digits as a byte, n of them from the start; false where one is no digit.
+fn decode(text: &mut [u8], n: usize) -> bool
+    requires { ⌜ 2 * n ≤ length (now text) ⌝ }
 {
-    let n = out.len();
     let mut i: usize = 0;
     let mut formed = true;
     while i < n {
         let high = text[2 * i];
         let low = text[2 * i + 1];
         formed = formed && is_digit(high) && is_digit(low);
-        out[i] = joined(high, low);
+        text[i] = joined(high, low);
         i += 1;
     }
     formed
@@ -119,31 +118,29 @@ fn call(
     given: &[u8],
     expected: &[u8],
     output: &mut [u8],
-    ours: &mut [u8],
-    dump: &mut [u8],
     tally: &mut [u64; 128],
 ) {
-    let e = performed(words, strings, kind, bytes, given, output, ours);
-    let size = readout::put_store(dump, words, strings);
-    let part = comparison::difference(expected, e, ours, output, dump, size);
-    report(tally, part, kind, expected, e, ours, output, dump, size);
+    let mut ours = [0u8; 64];
+    let mut dump = io::buffer();
+    let e = performed(words, strings, kind, bytes, given, output, &mut ours);
+    let size = readout::put_store(&mut dump, words, strings);
+    let part = comparison::difference(expected, e, &ours, output, &dump, size);
+    report(tally, part, kind, expected, e, &ours, output, &dump, size);
 }
 
+// A line's body: the record, what is given with it, the expectation.
 fn run(
     words: &mut [u64],
     strings: &mut [u16],
     kind: u8,
     body: &[u8],
     size: usize,
-    given: usize,
+    end: usize,
     output: &mut [u8],
-    ours: &mut [u8],
-    dump: &mut [u8],
     tally: &mut [u64; 128],
 )
-    requires { ⌜ (size + given ≤ length (now body)) × ((size < 65536) × (given < 65536)) ⌝ }
+    requires { ⌜ (size ≤ end) × (end ≤ length (now body)) ⌝ }
 {
-    let end = size + given;
     call(
         words,
         strings,
@@ -152,20 +149,18 @@ fn run(
         &body[size..end],
         &body[end..],
         output,
-        ours,
-        dump,
         tally,
     );
 }
 
 // The rest of a line, decoded; false where it is broken off or has something else than digits.
-fn read_rest(text: &mut [u8], body: &mut [u8]) -> bool
-    requires { ⌜ 2 * length (now body) ≤ length (now text) ⌝ }
+fn read_rest(text: &mut [u8], n: usize) -> bool
+    requires { ⌜ 2 * n ≤ length (now text) ⌝ }
 {
     if io::read_full(0, text) < text.len() {
         return false;
     }
-    decode(text, body)
+    decode(text, n)
 }
 
 // A line that cannot be read counts as a difference, and is the last.
@@ -175,35 +170,22 @@ fn broken(tally: &mut [u64; 128]) -> bool {
     false
 }
 
-// A line whose head is read.
+// A line whose head is read; its body has n bytes.
 fn read_and_run(
     words: &mut [u64],
     strings: &mut [u16],
     kind: u8,
     text: &mut [u8],
-    body: &mut [u8],
+    n: usize,
     size: usize,
-    given: usize,
+    end: usize,
     output: &mut [u8],
-    ours: &mut [u8],
-    dump: &mut [u8],
     tally: &mut [u64; 128],
 ) -> bool
-    requires { ⌜ (2 * length (now body) ≤ length (now text)) × ((size + given ≤ length (now body)) × ((size < 65536) × (given < 65536))) ⌝ }
+    requires { ⌜ (2 * n ≤ length (now text)) × ((size ≤ end) × (end ≤ n)) ⌝ }
 {
-    if read_rest(text, body) {
-        run(
-            words,
-            strings,
-            kind,
-            body,
-            size,
-            given,
-            output,
-            ours,
-            dump,
-            tally,
-        );
+    if read_rest(text, n) {
+        run(words, strings, kind, &text[..n], size, end, output, tally);
         return true;
     }
     broken(tally)
@@ -214,24 +196,20 @@ fn turn(
     words: &mut [u64],
     strings: &mut [u16],
     text: &mut [u8],
-    body: &mut [u8],
     output: &mut [u8],
-    ours: &mut [u8],
-    dump: &mut [u8],
     tally: &mut [u64; 128],
 ) -> bool {
-    let mut digits = [0u8; 18];
-    let got = io::read_full(0, &mut digits);
+    let mut head = [0u8; 18];
+    let got = io::read_full(0, &mut head);
     if got == 0 {
         return false;
     }
-    let mut head = [0u8; 9];
-    let formed = decode(&digits, &mut head);
+    let formed = decode(&mut head, 9);
     let kind = head[0];
     let room = short(&head, 1);
     let size = short(&head, 3);
-    let given = short(&head, 5);
-    let end = size + given + short(&head, 7);
+    let end = size + short(&head, 5);
+    let n = end + short(&head, 7);
     if got < 18 {
         return broken(tally);
     }
@@ -241,23 +219,18 @@ fn turn(
     if output.len() < room {
         return broken(tally);
     }
-    if body.len() < end {
-        return broken(tally);
-    }
-    if text.len() < 2 * end + 1 {
+    if text.len() < 2 * n + 1 {
         return broken(tally);
     }
     read_and_run(
         words,
         strings,
         kind,
-        &mut text[..2 * end + 1],
-        &mut body[..end],
+        &mut text[..2 * n + 1],
+        n,
         size,
-        given,
+        end,
         &mut output[..room],
-        ours,
-        dump,
         tally,
     )
 }
@@ -266,26 +239,12 @@ fn main() {
     let mut words = [0u64; 1634];
     let mut strings = [0u16; 8449];
     let mut text = io::large_buffer();
-    let mut body = [0u8; 32768];
     let mut output = io::buffer();
-    let mut ours = io::buffer();
-    let mut dump = [0u8; 32768];
     let mut tally = [0u64; 128];
     let mut turns: u64 = 1000000000;
     store_write::make_empty(&mut words);
     text::make_empty(&mut strings);
-    while turns > 0
-        && turn(
-            &mut words,
-            &mut strings,
-            &mut text,
-            &mut body,
-            &mut output,
-            &mut ours,
-            &mut dump,
-            &mut tally,
-        )
-    {
+    while turns > 0 && turn(&mut words, &mut strings, &mut text, &mut output, &mut tally) {
         turns -= 1;
     }
     tally::print_tally(&tally);

@@ -6,10 +6,10 @@ use Rattle.replay.proofs.decode.Statement.{statement}
 use Rattle.replay.proofs.decode.Tie as tie
 
 abbrev Inv-loop : tie.InvT-loop
-Inv-loop text out₀ n i₀ formed₀ out i formed = (i ≤ n) × ((n ≡ length out₀) × (length out ≡ length out₀))
+Inv-loop text₀ n i₀ formed₀ text i formed = (i ≤ n) × (length text ≡ length text₀)
 
 abbrev μ-loop : tie.MeasureT-loop
-μ-loop text out₀ n i₀ formed₀ out i formed = n - i
+μ-loop text₀ n i₀ formed₀ text i formed = n - i
 
 pub decode-spec : {M : Type 1} → statement M
 decode-spec =

@@ -5,10 +5,10 @@ use Rattle.replay.proofs.main.Statement.{statement}
 use Rattle.replay.proofs.main.Tie as tie
 
 abbrev Inv-loop : tie.InvT-loop
-Inv-loop words₀ strings₀ text₀ body₀ output₀ ours₀ dump₀ tally₀ turns₀ words strings text body output ours dump tally turns = (length words ≡ 1634) × ((length strings ≡ 8449) × ((length text ≡ 65536) × ((length body ≡ 32768) × ((length output ≡ 4096) × ((length ours ≡ 4096) × (length dump ≡ 32768))))))
+Inv-loop words₀ strings₀ text₀ output₀ tally₀ turns₀ words strings text output tally turns = (length words ≡ 1634) × ((length strings ≡ 8449) × ((length text ≡ 65536) × (length output ≡ 4096)))
 
 abbrev μ-loop : tie.MeasureT-loop
-μ-loop words₀ strings₀ text₀ body₀ output₀ ours₀ dump₀ tally₀ turns₀ words strings text body output ours dump tally turns = turns
+μ-loop words₀ strings₀ text₀ output₀ tally₀ turns₀ words strings text output tally turns = turns
 
 pub main-spec : {M : Type 1} → statement M
 main-spec =
@@ -18,14 +18,10 @@ main-spec =
     μ-loop
     (λ c κs. search needs)
     (λ c κs. search needs)
-    (λ c κs. search needs)
     (λ c. search needs)
     (λ c κs. search needs)
     (λ c. search needs)
     (λ c κs. search needs)
-    (λ c. search needs)
-    (λ c. search needs)
-    (λ c. search needs)
     (λ c. search needs)
     (λ c. search needs)
     (λ c. search needs)

@@ -10,11 +10,8 @@ slice-aggregate-read-and-run c = simp length-take (omega arith)
 slice-aggregate-read-and-run-2 : tie.Need-slice-aggregate-read-and-run-2
 slice-aggregate-read-and-run-2 c = simp length-take (omega arith)
 
-slice-aggregate-read-and-run-3 : tie.Need-slice-aggregate-read-and-run-3
-slice-aggregate-read-and-run-3 c = simp length-take (omega arith)
-
 read-and-run-requires : tie.Need-read-and-run-requires
-read-and-run-requires c κs = (simp length-take (omega arith), (simp length-take (omega arith), (omega arith, omega arith)))
+read-and-run-requires c κs = (simp length-take (omega arith), (omega arith, omega arith))
 
 pub turn-spec : {M : Type 1} → statement M
 turn-spec =
@@ -24,13 +21,10 @@ turn-spec =
     (λ c κs. search needs)
     (λ c. search needs)
     (λ c. search needs)
-    (λ c. search needs)
     (λ c κs. search needs)
     (λ c. search needs)
     (λ c κs. search needs)
     (λ c κs. search needs)
-    (λ c κs. search needs)
-    (λ c. search needs)
     (λ c κs. search needs)
     (λ c. search needs)
     (λ c κs. search needs)
@@ -51,12 +45,7 @@ turn-spec =
     slice-aggregate-read-and-run
     (λ c. search needs)
     slice-aggregate-read-and-run-2
-    (λ c. search needs)
-    slice-aggregate-read-and-run-3
     read-and-run-requires
-    (λ c. search needs)
-    (λ c. search needs)
-    (λ c. search needs)
     (λ c. search needs)
     (λ c. search needs)
     (λ c. search needs)
