@@ -7,63 +7,6 @@ ghost use lib.ListN.{length};
 // How many differences are shown.
 const SHOWN: u64 = 10;
 
-fn wide(b: u8) -> usize
-    ensures { λ r. ⌜ r < 256 ⌝ }
-{
-    b as usize
-}
-
-fn short(head: &[u8; 18], at: usize) -> usize
-    requires { ⌜ at + 2 ≤ 18 ⌝ }
-    ensures { λ r. ⌜ r < 65536 ⌝ }
-{
-    wide(head[at]) + 256 * wide(head[at + 1])
-}
-
-// The value of a hexadecimal digit, and 16 of anything else.
-fn digit(b: u8) -> u8
-    ensures { λ r. ⌜ r ≤ 16 ⌝ }
-{
-    match b {
-        48..=57 => b - 48,
-        97..=102 => b - 87,
-        _ => 16,
-    }
-}
-
-fn is_digit(b: u8) -> bool {
-    digit(b) < 16
-}
-
-fn joined(high: u8, low: u8) -> u8 {
-    (digit(high) % 16) * 16 + digit(low) % 16
-}
-
-// Each two digits as a byte, n of them from the start; false where one is no digit.
-fn decode(text: &mut [u8], n: usize) -> bool
-    requires { ⌜ 2 * n ≤ length (now text) ⌝ }
-{
-    let mut i: usize = 0;
-    let mut formed = true;
-    while i < n {
-        let high = text[2 * i];
-        let low = text[2 * i + 1];
-        formed = formed && is_digit(high) && is_digit(low);
-        text[i] = joined(high, low);
-        i += 1;
-    }
-    formed
-}
-
-fn fill(output: &mut [u8]) {
-    let n = output.len();
-    let mut i: usize = 0;
-    while i < n {
-        output[i] = 238;
-        i += 1;
-    }
-}
-
 // The call, over an output of 0xee.
 fn performed(
     words: &mut [u64],
@@ -74,7 +17,7 @@ fn performed(
     output: &mut [u8],
     ours: &mut [u8],
 ) -> Ending {
-    fill(output);
+    line_input::fill(output);
     entry_calls::perform(words, strings, kind, bytes, given, output, ours)
 }
 
@@ -153,16 +96,6 @@ fn run(
     );
 }
 
-// The rest of a line, decoded; false where it is broken off or has something else than digits.
-fn read_rest(text: &mut [u8], n: usize) -> bool
-    requires { ⌜ 2 * n ≤ length (now text) ⌝ }
-{
-    if io::read_full(0, text) < text.len() {
-        return false;
-    }
-    decode(text, n)
-}
-
 // A line that cannot be read counts as a difference, and is the last.
 fn broken(tally: &mut [u64; 128]) -> bool {
     io::write_all(1, b"a line is broken\n");
@@ -184,7 +117,7 @@ fn read_and_run(
 ) -> bool
     requires { ⌜ (2 * n ≤ length (now text)) × ((size ≤ end) × (end ≤ n)) ⌝ }
 {
-    if read_rest(text, n) {
+    if line_input::read_rest(text, n) {
         run(words, strings, kind, &text[..n], size, end, output, tally);
         return true;
     }
@@ -204,12 +137,12 @@ fn turn(
     if got == 0 {
         return false;
     }
-    let formed = decode(&mut head, 9);
+    let formed = line_input::decode(&mut head, 9);
     let kind = head[0];
-    let room = short(&head, 1);
-    let size = short(&head, 3);
-    let end = size + short(&head, 5);
-    let n = end + short(&head, 7);
+    let room = line_input::short(&head, 1);
+    let size = line_input::short(&head, 3);
+    let end = size + line_input::short(&head, 5);
+    let n = end + line_input::short(&head, 7);
     if got < 18 {
         return broken(tally);
     }

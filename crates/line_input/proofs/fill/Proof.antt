@@ -2,8 +2,8 @@ use mathlib.Core.Path.{_≡_}
 use Prim.Native.Nat.{_≤_, _-_}
 use lib.ListN.{length}
 use borrow.Author.Needs.{needs}
-use Rattle.replay.proofs.fill.Statement.{statement}
-use Rattle.replay.proofs.fill.Tie as tie
+use Rattle.line_input.proofs.fill.Statement.{statement}
+use Rattle.line_input.proofs.fill.Tie as tie
 
 abbrev Inv-loop : tie.InvT-loop
 Inv-loop output₀ n i₀ output i = (i ≤ n) × ((n ≡ length output₀) × (length output ≡ length output₀))

@@ -1,7 +1,7 @@
 use mathlib.Core.Path.{sym, _∙_}
 use borrow.Author.Needs.{needs}
-use Rattle.entry_calls.proofs.object_count.Statement.{statement}
-use Rattle.entry_calls.proofs.object_count.Tie as tie
+use Rattle.endings.proofs.object_count.Statement.{statement}
+use Rattle.endings.proofs.object_count.Tie as tie
 
 object-count-requires : tie.Need-object-count-requires
 object-count-requires c κs = sym (c .before .is-store .ensures) ∙ c .if1 .taken

@@ -2,8 +2,8 @@ use mathlib.Core.Path.{_≡_}
 use Prim.Native.Nat.{_≤_, _-_}
 use lib.ListN.{length}
 use borrow.Author.Needs.{needs}
-use Rattle.replay.proofs.decode.Statement.{statement}
-use Rattle.replay.proofs.decode.Tie as tie
+use Rattle.line_input.proofs.decode.Statement.{statement}
+use Rattle.line_input.proofs.decode.Tie as tie
 
 abbrev Inv-loop : tie.InvT-loop
 Inv-loop text₀ n i₀ formed₀ text i formed = (i ≤ n) × (length text ≡ length text₀)
