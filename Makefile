@@ -1,5 +1,5 @@
 # rt is Rattle's command: it proves the crates of crates.txt and runs their programs.
-.PHONY: run test edits bench vectors messages engines engine-check install-engines lib c-test bindings example fuzz
+.PHONY: run test edits bench vectors messages engines engine-check engine-damage install-engines lib c-test bindings example fuzz
 
 # A day of steps and string entries over one store, a line for each.
 run:
@@ -42,6 +42,11 @@ engines:
 engine-check:
 	rt check replay
 	sh tests/engines.sh node 7 20000
+
+# Whether the comparison notices a change in each part of an expectation. It needs python3.
+engine-damage:
+	rt check replay
+	python3 tests/engines-damage.py
 
 # gjs and jsc, from Debian's packages.
 install-engines:
