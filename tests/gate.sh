@@ -5,6 +5,9 @@ set -eu
 cd "$(dirname "$0")/.."
 log=$(mktemp)
 trap 'rm -f "$log"' EXIT
+# Checks wait for those that they rest on, and edits for their neighbours: two for each processor keep all busy.
+RT_JOBS=${RT_JOBS:-$(($(nproc) * 2))}
+export RT_JOBS
 rt fmt --check
 { rt ci || echo 'rt ci failed'; } | tee "$log"
 grep -q ' passed, 0 failed$' "$log"
