@@ -33,7 +33,7 @@ vectors:
 
 # Calls performed by the engines that are installed, on their own objects, against our own: CALLS on each, from SEED.
 SEED = 1
-CALLS = 200000
+CALLS = 240000
 engines:
 	rt check replay
 	for engine in node gjs jsc; do if command -v $$engine > /dev/null; then sh tests/engines.sh $$engine $(SEED) $(CALLS) || exit 1; fi; done
@@ -50,7 +50,7 @@ engine-damage:
 
 # gjs and jsc, from Debian's packages.
 install-engines:
-	sh tests/install-engines.sh
+	tests/install.sh node gjs jsc
 
 # The message table against boa_engine's source, which lies in the folder BOA.
 messages:
@@ -77,6 +77,5 @@ example: lib
 
 # A million random and mutated records and sheets through the C interface, each held against the plain implementation.
 COUNT = 1000000
-SEED = 1
 fuzz: lib
 	cd bindings/rust && cargo run --quiet --release --offline --example fuzz -- $(COUNT) $(SEED)

@@ -8,6 +8,7 @@ trap 'rm -f "$log"' EXIT
 # Checks wait for those that they rest on, and edits for their neighbours: two for each processor keep all busy.
 RT_JOBS=${RT_JOBS:-$(($(nproc) * 2))}
 export RT_JOBS
+tests/install.sh node gcc cargo
 rt fmt --check
 { rt ci || echo 'rt ci failed'; } | tee "$log"
 grep -q ' passed, 0 failed$' "$log"
