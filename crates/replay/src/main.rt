@@ -4,6 +4,8 @@ use comparison::Ending;
 ghost use Prim.Native.Nat.{_<_, _≤_, _+_, _*_};
 ghost use lib.ListN.{length};
 
+mod entry_calls;
+
 // How many differences are shown.
 const SHOWN: u64 = 10;
 

@@ -1,26 +1,36 @@
 -- A step and a string entry over lent memory are the definitions'. Assumes nothing.
-use Prim.Native.Nat.{ℕ}
-use mathlib.Core.Path.{_≡_, sym, ap}
-use mathlib.Core.Bool.{Bool, true, false, cond}
-use mathlib.Core.Option.{none, some}
+use Prim.Native.Nat.{ℕ, _≤_, _<_}
+use native.Mathlib.Omega.{arith}
+use mathlib.Core.Path.{_≡_, refl, sym, ap, _∙_}
+use mathlib.Core.Bool.{Bool, true, false, _&&_, cond}
+use mathlib.Core.Option.{Option, none, some}
 use mathlib.Core.List.{List}
 use Rattle.value.proofs.Bools.{and-true}
 use Rattle.text.specs.declared.EntryAnswer.{EntryAnswer}
 use Rattle.text.specs.declared.EntryAnswer.the-variants as answer
-use Rattle.text.specs.Strings.{Entry, enter}
+use Rattle.text.specs.Strings.{Strings, Entry, enter}
 use Rattle.text.specs.Strings as entry
 use Rattle.text.specs.Table.{isTable, stringsOf}
 use Rattle.text.specs.Answers.{entryOf, enterCells, cellsAfter}
 use Rattle.store.specs.Store.{Store}
-use Rattle.store.specs.Words.{isStore, worldOf}
+use Rattle.store.specs.Words.{isStore, storeOf, worldOf}
+use Rattle.record.specs.declared.Step.{Step}
+use Rattle.record.specs.Step.{stepOf}
 use Rattle.record.specs.Tests.{firstFailing}
 use Rattle.record.specs.Sheet.{sheetOf}
-use Rattle.calls.specs.Told.{Readable}
+use Rattle.calls.specs.declared.Progress.{Progress}
+use Rattle.calls.specs.Told.{Readable, context, stateOf}
 use Rattle.lasting.specs.declared.Report.{Report}
+use Rattle.lasting.specs.Operation.{Operation, ownPropertyKeys, operationOf, asked}
+use Rattle.lasting.specs.Perform.{perform, maximumCalls}
 use Rattle.lasting.specs.Response.{reportOf, refusal}
 use Rattle.lasting.specs.Step.{recordTests, ended, ran, step}
 use Rattle.lasting.specs.StringEntry.{enterString, entered}
+use Rattle.making.specs.declared.Performed.{Performed}
+use Rattle.making.specs.Performed.{Taken, toldPerformed}
+use Rattle.reporting.specs.Reports.{start, performedReport, Finished}
 use Rattle.reporting.specs.Memory.{Shown, shown, shownBy, isMemory, stepOver, shownEntry, enterOver}
+use Rattle.reporting.proofs.EndLaws.{finished}
 use Rattle.step.specs.Entry.{entryReport}
 
 pub memory-readable : (words cells : List ℕ) → isMemory words cells ≡ true → Readable words cells
@@ -28,6 +38,33 @@ unfolding isMemory
 memory-readable words cells e = let p = and-true (isStore words) (isTable cells) e in record { store = p .0; table = p .1 }
 
 module _ (words cells bytes sheet output : List ℕ) where
+  abbrev runs : Shown
+  runs = shownBy (ended (worldOf words cells) (sheetOf sheet) output (ran (worldOf words cells) bytes sheet))
+
+  -- the run of a step, by what it asks for
+  asks : (st : Step) (op : Operation) → st ≡ stepOf bytes → operationOf st ≡ op
+      → perform maximumCalls (context words cells 256) op .run (stateOf sheet (start sheet)) ≡ ran (worldOf words cells) bytes sheet
+  unfolding ran asked sheetOf
+  asks st op e q = ap (λ (o : Operation). perform maximumCalls (context words cells 256) o .run (stateOf sheet (start sheet))) (sym q ∙ ap (λ (t : Step). operationOf t) e)
+
+  lists : (st : Step) → st .code ≡ 14 → operationOf st ≡ ownPropertyKeys (st .object)
+  unfolding operationOf
+  lists st q = rw q
+
+  pub run-listed : (st : Step) (x : Shown) → st ≡ stepOf bytes → st .code ≡ 14
+      → x ≡ shownBy (ended (worldOf words cells) (sheetOf sheet) output (perform maximumCalls (context words cells 256) (ownPropertyKeys (st .object)) .run (stateOf sheet (start sheet))))
+      → x ≡ runs
+  run-listed st x e q h = h ∙ ap (λ o. shownBy (ended (worldOf words cells) (sheetOf sheet) output o)) (asks st (ownPropertyKeys (st .object)) e (lists st q))
+
+  pub run-performed : (st : Step) (s : Progress) (after : List ℕ) (p : Performed) (r : Report) → st ≡ stepOf bytes → s ≡ start sheet
+      → toldPerformed sheet (storeOf words) p ≡ perform maximumCalls (context words cells 256) (operationOf st) .run (stateOf sheet s)
+      → Taken words p → Finished words after p → r ≡ performedReport sheet p → shown r after cells output ≡ runs
+  run-performed st s after p r e f h t g q =
+      ap (λ (k : Report). shown k after cells output) q
+      ∙ (finished words cells sheet output after p t g
+      ∙ ap (λ o. shownBy (ended (worldOf words cells) (sheetOf sheet) output o))
+      (h ∙ (ap (λ (k : Progress). perform maximumCalls (context words cells 256) (operationOf st) .run (stateOf sheet k)) f ∙ asks st (operationOf st) e refl)))
+
   -- the step, by what its tests say
   pub step-unread : (r : Report) → isMemory words cells ≡ false → r ≡ reportOf (refusal 1) → shown r words cells output ≡ shownBy (stepOver words cells bytes sheet output)
   unfolding stepOver
@@ -38,7 +75,7 @@ module _ (words cells bytes sheet output : List ℕ) where
   unfolding stepOver step
   step-refused n r e f q = rw (e, f, q)
 
-  pub step-ran : (x : Shown) → isMemory words cells ≡ true → firstFailing (recordTests (worldOf words cells) bytes sheet) ≡ none → x ≡ shownBy (ended (worldOf words cells) (sheetOf sheet) output (ran (worldOf words cells) bytes sheet)) → x ≡ shownBy (stepOver words cells bytes sheet output)
+  pub step-ran : (x : Shown) → isMemory words cells ≡ true → firstFailing (recordTests (worldOf words cells) bytes sheet) ≡ none → x ≡ runs → x ≡ shownBy (stepOver words cells bytes sheet output)
   unfolding stepOver step
   step-ran x e f h = rw (e, f) h
 
@@ -60,3 +97,6 @@ module _ (σ : Store) (cells units after : List ℕ) where
           → shownEntry (entryReport a) σ after ≡ shownBy (cond b (entered (record { store = σ; strings = stringsOf cells }) (enter (stringsOf cells) units)) (entered (record { store = σ; strings = stringsOf cells }) (entry.refused 1)))
       go true f g = told a _ f g
       go false f g = told a _ f g
+
+pub below : (code : ℕ) → code ≤ 14 → (code ≡ 14 → ⊥) → code < 14
+below code h d = omega (arith, h, d)

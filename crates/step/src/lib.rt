@@ -6,11 +6,20 @@ use record::Refusal;
 use text::EntryAnswer;
 use value::Value;
 ghost use mathlib.Core.Path.{_≡_};
+ghost use mathlib.Core.Bool.{true};
+ghost use mathlib.Core.Option.{none};
 ghost use Rattle.text.specs.Table.{isTable};
 ghost use Rattle.text.specs.Answers.{enterCells, cellsAfter};
 ghost use Rattle.store.specs.Store.{Store};
+ghost use Rattle.store.specs.Words.{isStore, worldOf};
+ghost use Rattle.record.specs.Tests.{firstFailing};
+ghost use Rattle.record.specs.Sheet.{sheetOf};
+ghost use Rattle.calls.specs.Told.{Readable};
+ghost use Rattle.lasting.specs.Step.{recordTests, ended, ran};
 ghost use Rattle.step.specs.Entry.{entryReport};
 ghost use Rattle.reporting.specs.Memory.{isMemory, shown, shownBy, stepOver, shownEntry, enterOver, WordsAfter};
+
+const MAXIMUM_PROPERTIES: usize = 256;
 
 fn is_memory(words: &[u64], strings: &[u16]) -> bool
     ensures { λ r. ⌜ r ≡ isMemory (now (words .entry)) (now (strings .entry)) ⌝ }
@@ -19,6 +28,21 @@ fn is_memory(words: &[u64], strings: &[u16]) -> bool
         return text::is_table(strings);
     }
     false
+}
+
+// A step whose records passed their tests.
+fn run(words: &mut [u64], strings: &[u16], bytes: &[u8], sheet: &[u8], output: &mut [u8]) -> Report
+    requires { ⌜ Readable (now words) (now strings) × (firstFailing (recordTests (worldOf (now words) (now strings)) (now bytes) (now sheet)) ≡ none) ⌝ }
+    ensures { λ r. ⌜ shown r (now (words .exit)) (now (strings .entry)) (now (output .exit)) ≡ shownBy (ended (worldOf (now (words .entry)) (now (strings .entry))) (sheetOf (now (sheet .entry))) (now (output .entry)) (ran (worldOf (now (words .entry)) (now (strings .entry))) (now (bytes .entry)) (now (sheet .entry)))) ⌝ }
+    ensures { λ r. ⌜ WordsAfter (r .outcome) (now (words .entry)) (now (words .exit)) ⌝ }
+{
+    let step = step_reading::step_of(bytes);
+    if step.code == 14 {
+        return listing::list(words, strings, sheet, step.object, output);
+    }
+    let s = reporting::start(sheet);
+    let performed = performing::perform(words, strings, MAXIMUM_PROPERTIES, sheet, step, s);
+    reporting::finish(words, sheet, performed)
 }
 
 // One step. Words that are no store, and cells that are no table, are refused as 1.
@@ -35,7 +59,7 @@ pub fn step(
     if is_memory(words, strings) {
         match record_tests::record_refusal(words, strings, bytes, sheet) {
             Refusal::Failed(n) => reporting::refused(n),
-            Refusal::Passed => running::run(words, strings, bytes, sheet, output),
+            Refusal::Passed => run(words, strings, bytes, sheet, output),
         }
     } else {
         reporting::refused(1)

@@ -13,7 +13,7 @@ use Rattle.step.proofs.step.Lts as lts
 use Rattle.record_tests.proofs.record_refusal.Reads as record-refusal-reads
 use Rattle.reporting.proofs.refused.Reads as refused-reads
 use Rattle.step.proofs.is_memory.Reads as is-memory-reads
-use Rattle.running.proofs.run.Reads as run-reads
+use Rattle.step.proofs.run.Reads as run-reads
 
 -- src/lib.rt:58:8
 is-memory-requires : tie.Need-is-memory-requires

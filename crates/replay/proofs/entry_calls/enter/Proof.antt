@@ -3,8 +3,8 @@ use Prim.Native.Nat.{_≤_, _-_}
 use lib.ListN.{length, length-take}
 use native.Mathlib.Omega.{arith}
 use borrow.Author.Needs.{needs}
-use Rattle.entry_calls.proofs.enter.Statement.{statement}
-use Rattle.entry_calls.proofs.enter.Tie as tie
+use Rattle.replay.proofs.entry_calls.enter.Statement.{statement}
+use Rattle.replay.proofs.entry_calls.enter.Tie as tie
 
 abbrev Inv-loop : tie.InvT-loop
 Inv-loop strings bytes ours units₀ size i₀ units i = (i ≤ size) × ((size ≤ 64) × (length units ≡ 64))

@@ -7,12 +7,12 @@ use Rattle.sorted_words.proofs.ListLaws.{few-strings}
 use Rattle.record_tests.proofs.PassedLaws.{step-formed, step-length, sheet-there, sheet-formed, sheet-known, key-fits, code-low, code-high}
 use Rattle.listing.proofs.FitLaws.{sheet-fits}
 use Rattle.reporting.proofs.EndLaws.{finished-words, kept-words}
-use Rattle.running.proofs.RunLaws.{run-listed, run-performed, below}
+use Rattle.step.proofs.StepLaws.{run-listed, run-performed, below}
 use borrow.Author.Needs.{needs}
-use Rattle.running.proofs.run.Statement.{statement}
-use Rattle.running.proofs.run.Tie as tie
-use Rattle.running.proofs.run.Reads as reads
-use Rattle.running.proofs.run.Lts as lts
+use Rattle.step.proofs.run.Statement.{statement}
+use Rattle.step.proofs.run.Tie as tie
+use Rattle.step.proofs.run.Reads as reads
+use Rattle.step.proofs.run.Lts as lts
 use Rattle.listing.proofs.list.Reads as list-reads
 use Rattle.performing.proofs.perform.Reads as perform-reads
 use Rattle.reporting.proofs.finish.Reads as finish-reads
