@@ -24,6 +24,7 @@
 #![deny(missing_docs)]
 
 mod descriptor;
+pub mod lent;
 pub mod notation;
 pub mod raw;
 mod report;

@@ -1,6 +1,6 @@
 //! What a step reports: a result, or why there is none.
 use crate::descriptor::Property;
-use crate::raw;
+use crate::lent;
 use crate::value::{ObjectId, PropertyKey, Value};
 use std::fmt;
 
@@ -143,7 +143,7 @@ impl Message {
     /// The text, as the library's table has it.
     pub fn text(self) -> String {
         let mut bytes = [0; 128];
-        let length = unsafe { raw::demnyaluz_message(self.number().into(), bytes.as_mut_ptr(), bytes.len()) };
+        let length = lent::message(self.number().into(), &mut bytes);
         String::from_utf8_lossy(&bytes[..length as usize]).into_owned()
     }
 }

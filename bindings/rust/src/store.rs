@@ -1,6 +1,6 @@
 //! A store that owns its memory, and the calls on it.
 use crate::descriptor::{Property, PropertyDescriptor};
-use crate::raw;
+use crate::lent;
 use crate::report::{Completion, Failure, Refusal, Report};
 use crate::step::{sheet_bytes, Answer, Step, Traps};
 use crate::value::{ObjectId, PropertyKey, StringId, Value};
@@ -39,10 +39,7 @@ impl Store {
     /// A store with no object and no string.
     pub fn new() -> Self {
         let mut store = Store { words: vec![0; STORE_WORDS].into(), strings: vec![0; STRING_CELLS].into() };
-        let made = unsafe {
-            raw::demnyaluz_empty_store(store.words.as_mut_ptr(), store.words.len())
-                && raw::demnyaluz_empty_strings(store.strings.as_mut_ptr(), store.strings.len())
-        };
+        let made = lent::empty_store(&mut store.words) && lent::empty_strings(&mut store.strings);
         assert!(made, "the library's lengths");
         store
     }
@@ -55,21 +52,7 @@ impl Store {
     /// One step as bytes. Keys are written to the output, 9 bytes each.
     pub fn step_bytes(&mut self, step: &[u8], sheet: &[u8], output: &mut [u8]) -> Report {
         let mut report = [0; 10];
-        unsafe {
-            raw::demnyaluz_step(
-                self.words.as_mut_ptr(),
-                self.words.len(),
-                self.strings.as_ptr(),
-                self.strings.len(),
-                step.as_ptr(),
-                step.len(),
-                sheet.as_ptr(),
-                sheet.len(),
-                output.as_mut_ptr(),
-                output.len(),
-                &mut report,
-            );
-        }
+        lent::step(&mut self.words, &self.strings, step, sheet, output, &mut report);
         Report::from_words(&report, output)
     }
 
@@ -81,7 +64,7 @@ impl Store {
     /// A string is entered as its code units; an equal one keeps its number.
     pub fn enter_units(&mut self, units: &[u16]) -> Result<StringId, Refusal> {
         let mut report = [0; 10];
-        unsafe { raw::demnyaluz_enter_string(self.strings.as_mut_ptr(), self.strings.len(), units.as_ptr(), units.len(), &mut report) };
+        lent::enter_string(&mut self.strings, units, &mut report);
         match Report::from_words(&report, &[]).outcome {
             Ok(Completion::Value(Value::String(s))) => Ok(s),
             Err(Failure::Refused(r)) => Err(r),
@@ -209,17 +192,7 @@ impl Store {
     /// CompletePropertyDescriptor by itself. The store says which objects and strings there are.
     pub fn complete(&self, descriptor: &PropertyDescriptor) -> Result<Property, Refusal> {
         let (bytes, mut report) = (descriptor.to_bytes(), [0; 10]);
-        unsafe {
-            raw::demnyaluz_complete(
-                self.words.as_ptr(),
-                self.words.len(),
-                self.strings.as_ptr(),
-                self.strings.len(),
-                bytes.as_ptr(),
-                bytes.len(),
-                &mut report,
-            );
-        }
+        lent::complete(&self.words, &self.strings, &bytes, &mut report);
         present(Report::from_words(&report, &[]))
     }
 
@@ -233,39 +206,14 @@ impl Store {
     ) -> Result<(bool, Option<Property>), Refusal> {
         let (bytes, mut report) = (descriptor.to_bytes(), [0; 10]);
         let current = current.map_or(Vec::new(), |c| c.to_bytes().to_vec());
-        let accepted = unsafe {
-            raw::demnyaluz_validate(
-                self.words.as_ptr(),
-                self.words.len(),
-                self.strings.as_ptr(),
-                self.strings.len(),
-                extensible,
-                bytes.as_ptr(),
-                bytes.len(),
-                current.as_ptr(),
-                current.len(),
-                &mut report,
-            )
-        };
+        let accepted = lent::validate(&self.words, &self.strings, extensible, &bytes, &current, &mut report);
         Ok((accepted, refused_or(Report::from_words(&report, &[]))?))
     }
 
     /// Merges a descriptor into a current one of its kind, by itself.
     pub fn merge(&self, current: &PropertyDescriptor, descriptor: &PropertyDescriptor) -> Result<Property, Refusal> {
         let (bytes, current, mut report) = (descriptor.to_bytes(), current.to_bytes(), [0; 10]);
-        unsafe {
-            raw::demnyaluz_merge(
-                self.words.as_ptr(),
-                self.words.len(),
-                self.strings.as_ptr(),
-                self.strings.len(),
-                current.as_ptr(),
-                current.len(),
-                bytes.as_ptr(),
-                bytes.len(),
-                &mut report,
-            );
-        }
+        lent::merge(&self.words, &self.strings, &current, &bytes, &mut report);
         present(Report::from_words(&report, &[]))
     }
 }

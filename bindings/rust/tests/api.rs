@@ -1,6 +1,6 @@
 //! The crate's own types: what they encode to, what reports they give, and how the store looks from outside.
 use demnyaluz::{
-    raw, sheet_bytes, Answer, Completion, Failure, FunctionId, Message, ObjectId, Property, PropertyDescriptor, PropertyKey, Refusal, Step, Store,
+    lent, sheet_bytes, Answer, Completion, Failure, FunctionId, Message, ObjectId, Property, PropertyDescriptor, PropertyKey, Refusal, Step, Store,
     StringId, SymbolId, Traps, Value,
 };
 
@@ -125,7 +125,7 @@ fn message_texts_fit_or_stay_out() {
         let expected = Message::from_number(number).map_or(String::new(), |m| m.text());
         for room in 0..=100 {
             let mut text = vec![b'?'; room].into_boxed_slice();
-            let size = unsafe { raw::demnyaluz_message(number, text.as_mut_ptr(), text.len()) };
+            let size = lent::message(number, &mut text);
             assert_eq!(size as usize, expected.len());
             let written = if expected.len() <= room { expected.as_str() } else { "" };
             assert_eq!(*text, [written.as_bytes(), &vec![b'?'; room - written.len()]].concat());

@@ -2,7 +2,7 @@
 use super::layout;
 use crate::plain::step::{self, Outcome, Report, Stepped};
 use crate::plain::world::World;
-use demnyaluz::raw;
+use demnyaluz::lent;
 
 /// How often each outcome came, over all entries.
 #[derive(Clone, Default, Debug)]
@@ -63,10 +63,8 @@ impl Pair {
         // the memory need not be zero before it is emptied
         pair.words.fill(0xdead_beef_dead_beef);
         pair.strings.fill(0xbeef);
-        unsafe {
-            assert!(raw::demnyaluz_empty_store(pair.words.as_mut_ptr(), pair.words.len()));
-            assert!(raw::demnyaluz_empty_strings(pair.strings.as_mut_ptr(), pair.strings.len()));
-        }
+        assert!(lent::empty_store(&mut pair.words));
+        assert!(lent::empty_strings(&mut pair.strings));
         pair
     }
 
@@ -74,21 +72,7 @@ impl Pair {
     pub fn step_library(&mut self, bytes: &[u8], sheet: &[u8], output: &mut [u8]) -> [u64; 10] {
         let (bytes, sheet) = (exact(bytes), exact(sheet));
         let mut report = Box::new([u64::MAX; 10]);
-        unsafe {
-            raw::demnyaluz_step(
-                self.words.as_mut_ptr(),
-                self.words.len(),
-                self.strings.as_ptr(),
-                self.strings.len(),
-                bytes.as_ptr(),
-                bytes.len(),
-                sheet.as_ptr(),
-                sheet.len(),
-                output.as_mut_ptr(),
-                output.len(),
-                &mut *report,
-            );
-        }
+        lent::step(&mut self.words, &self.strings, &bytes, &sheet, output, &mut report);
         *report
     }
 
@@ -121,7 +105,7 @@ impl Pair {
         let expected = step::enter_string(&mut self.world, units);
         let units = exact(units);
         let mut report = Box::new([u64::MAX; 10]);
-        unsafe { raw::demnyaluz_enter_string(self.strings.as_mut_ptr(), self.strings.len(), units.as_ptr(), units.len(), &mut *report) };
+        lent::enter_string(&mut self.strings, &units, &mut report);
         assert_eq!(*report, layout::report_words(&expected), "entering {units:?}");
         assert_eq!(layout::world(&self.words, &self.strings).strings, self.world.strings, "strings after {units:?}");
         self.tally.count(&expected);
@@ -132,8 +116,7 @@ impl Pair {
         let expected = step::complete(&self.world, bytes);
         let bytes = exact(bytes);
         let mut report = Box::new([u64::MAX; 10]);
-        let (words, strings) = (&self.words, &self.strings);
-        unsafe { raw::demnyaluz_complete(words.as_ptr(), words.len(), strings.as_ptr(), strings.len(), bytes.as_ptr(), bytes.len(), &mut *report) };
+        lent::complete(&self.words, &self.strings, &bytes, &mut report);
         assert_eq!(*report, layout::report_words(&expected), "completing {}", hex(&bytes));
         self.tally.count(&expected);
         expected
@@ -143,21 +126,7 @@ impl Pair {
         let (yes, expected) = step::validate_alone(&self.world, extensible, bytes, current);
         let (bytes, current) = (exact(bytes), exact(current));
         let mut report = Box::new([u64::MAX; 10]);
-        let (words, strings) = (&self.words, &self.strings);
-        let accepted = unsafe {
-            raw::demnyaluz_validate(
-                words.as_ptr(),
-                words.len(),
-                strings.as_ptr(),
-                strings.len(),
-                extensible,
-                bytes.as_ptr(),
-                bytes.len(),
-                current.as_ptr(),
-                current.len(),
-                &mut *report,
-            )
-        };
+        let accepted = lent::validate(&self.words, &self.strings, extensible, &bytes, &current, &mut report);
         assert_eq!((accepted, *report), (yes, layout::report_words(&expected)), "validating {extensible} {} over {}", hex(&bytes), hex(&current));
         self.tally.count(&expected);
         (yes, expected)
@@ -167,20 +136,7 @@ impl Pair {
         let expected = step::merge(&self.world, current, bytes);
         let (bytes, current) = (exact(bytes), exact(current));
         let mut report = Box::new([u64::MAX; 10]);
-        let (words, strings) = (&self.words, &self.strings);
-        unsafe {
-            raw::demnyaluz_merge(
-                words.as_ptr(),
-                words.len(),
-                strings.as_ptr(),
-                strings.len(),
-                current.as_ptr(),
-                current.len(),
-                bytes.as_ptr(),
-                bytes.len(),
-                &mut *report,
-            );
-        }
+        lent::merge(&self.words, &self.strings, &current, &bytes, &mut report);
         assert_eq!(*report, layout::report_words(&expected), "merging {} into {}", hex(&bytes), hex(&current));
         self.tally.count(&expected);
         expected
