@@ -1,39 +1,17 @@
 // What a call ends in, for comparing, and what a line's bytes say.
-use alone::DescriptorAnswer;
 use alone::Verdict;
 use comparison::Ending;
-use lasting::Outcome;
 use lasting::Report;
-use record::Counts;
-use text::StringCount;
 ghost use Prim.Native.Nat.{_≤_, _*_, _+_};
 ghost use lib.ListN.{length};
-
-fn outcome_number(outcome: Outcome) -> u64 {
-    match outcome {
-        Outcome::Refused(_) => 0,
-        Outcome::Result(_) => 1,
-        Outcome::TypeError(_) => 2,
-        Outcome::Thrown(_) => 3,
-    }
-}
-
-fn number_of(outcome: Outcome) -> u64 {
-    match outcome {
-        Outcome::Refused(n) => n,
-        Outcome::Result(_) => 0,
-        Outcome::TypeError(n) => n,
-        Outcome::Thrown(_) => 0,
-    }
-}
 
 pub fn ended(report: Report, ours: &mut [u8]) -> Ending {
     let outcome = report.outcome;
     let answers = report.answers;
     let size = readout::put_outcome(ours, outcome);
     Ending {
-        outcome: outcome_number(outcome),
-        number: number_of(outcome),
+        outcome: report_words::outcome_number(outcome),
+        number: report_words::refusal_or_message(outcome),
         answers: answers,
         size: size,
     }
@@ -70,34 +48,6 @@ pub fn unit_count(bytes: &[u8]) -> usize
 {
     let n = bytes.len() / 2;
     if n < 64 { n } else { 64 }
-}
-
-fn object_count(words: &[u64]) -> u64 {
-    if store_read::is_store(words) {
-        return store_read::object_count(words) as u64;
-    }
-    0
-}
-
-fn string_count(strings: &[u16]) -> u64 {
-    match text::count(strings) {
-        StringCount::Count(n) => n,
-        StringCount::Malformed => 0,
-    }
-}
-
-pub fn counts_of(words: &[u64], strings: &[u16]) -> Counts {
-    Counts {
-        objects: object_count(words),
-        strings: string_count(strings),
-    }
-}
-
-pub fn made(answer: DescriptorAnswer, ours: &mut [u8]) -> Ending {
-    match answer {
-        DescriptorAnswer::Refused(n) => refused(n),
-        DescriptorAnswer::Property(p) => result(readout::put_made(ours, p)),
-    }
 }
 
 pub fn judged(verdict: Verdict, ours: &mut [u8]) -> Ending {

@@ -49,12 +49,6 @@ fn put_numbered(out: &mut [u8], at: usize, kind: u64, n: u64) -> usize {
     put_byte(out, next, n)
 }
 
-fn weight(b: bool, n: u64) -> u64
-    ensures { λ r. ⌜ r ≤ n ⌝ }
-{
-    if b { n } else { 0 }
-}
-
 fn put_float(out: &mut [u8], at: usize, x: f64) -> usize {
     let w = encoding::words_of(Value::Float64(x));
     let next = put_byte(out, at, 4);
@@ -65,7 +59,7 @@ fn put_value(out: &mut [u8], at: usize, v: Value) -> usize {
     match v {
         Value::Undefined => put_byte(out, at, 0),
         Value::Null => put_byte(out, at, 1),
-        Value::Boolean(b) => put_numbered(out, at, 2, weight(b, 1)),
+        Value::Boolean(b) => put_numbered(out, at, 2, bits::weight(b, 1)),
         Value::Integer32(n) => put_float(out, at, n as f64),
         Value::Float64(x) => put_float(out, at, x),
         Value::String(n) => put_numbered(out, at, 5, n),
@@ -76,13 +70,10 @@ fn put_value(out: &mut [u8], at: usize, v: Value) -> usize {
 }
 
 fn put_property(out: &mut [u8], at: usize, p: Property) -> usize {
+    let next = put_byte(out, at, report_words::flags_of(p));
     match p {
-        Property::Data(v, w, e, c) => {
-            let next = put_byte(out, at, weight(w, 2) + weight(e, 4) + weight(c, 8));
-            put_value(out, next, v)
-        }
-        Property::Accessor(g, s, e, c) => {
-            let next = put_byte(out, at, 1 + weight(e, 4) + weight(c, 8));
+        Property::Data(v, _, _, _) => put_value(out, next, v),
+        Property::Accessor(g, s, _, _) => {
             let last = put_value(out, next, g);
             put_value(out, last, s)
         }
@@ -122,11 +113,6 @@ pub fn put_outcome(out: &mut [u8], outcome: Outcome) -> usize {
     }
 }
 
-// A property made by completing or merging.
-pub fn put_made(out: &mut [u8], p: Property) -> usize {
-    put_described(out, 0, p)
-}
-
 fn put_own(out: &mut [u8], at: usize, own: OwnProperty) -> usize {
     match own {
         OwnProperty::Absent => put_byte(out, at, 3),
@@ -136,7 +122,7 @@ fn put_own(out: &mut [u8], at: usize, own: OwnProperty) -> usize {
 
 // Yes or no, and the property after it.
 pub fn put_verdict(out: &mut [u8], accepted: bool, own: OwnProperty) -> usize {
-    let next = put_numbered(out, 0, 5, weight(accepted, 1));
+    let next = put_numbered(out, 0, 5, bits::weight(accepted, 1));
     put_own(out, next, own)
 }
 
@@ -185,7 +171,7 @@ fn put_entries(out: &mut [u8], at: usize, words: &[u64], strings: &[u16], o: u64
 
 fn put_ordinary(out: &mut [u8], at: usize, r: OrdinaryObject) -> usize {
     let prototype = r.prototype;
-    let next = put_byte(out, at, weight(r.extensible, 1));
+    let next = put_byte(out, at, bits::weight(r.extensible, 1));
     put_value(out, next, prototype)
 }
 

@@ -30,20 +30,17 @@ pub fn perform(
         0 => endings::emptied(words, strings),
         1 => endings::ended(step::step(words, strings, bytes, given, output), ours),
         2 => enter(strings, bytes, ours),
-        3 => endings::made(
-            alone::complete_alone(endings::counts_of(words, strings), bytes),
-            ours,
-        ),
+        3 => endings::ended(descriptor_entries::complete(words, strings, bytes), ours),
         4 => endings::judged(
-            alone::validate_alone(endings::counts_of(words, strings), false, bytes, given),
+            descriptor_entries::validate(words, strings, false, bytes, given),
             ours,
         ),
         5 => endings::judged(
-            alone::validate_alone(endings::counts_of(words, strings), true, bytes, given),
+            descriptor_entries::validate(words, strings, true, bytes, given),
             ours,
         ),
-        6 => endings::made(
-            alone::merge_alone(endings::counts_of(words, strings), given, bytes),
+        6 => endings::ended(
+            descriptor_entries::merge(words, strings, given, bytes),
             ours,
         ),
         _ => endings::refused(UNKNOWN),

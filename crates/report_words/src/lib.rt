@@ -10,7 +10,7 @@ ghost use Rattle.store.specs.Words.{flagsOf, primary, secondary};
 ghost use Rattle.lasting.specs.Response.{outcomeNumber, refusalOrMessage};
 ghost use Rattle.report_words.specs.ReportWords.{completionForm, completionDetail, completionFirst, completionSecond, outcomeForm, outcomeDetail, outcomeFirst, outcomeSecond, reportWords};
 
-fn flags_of(p: Property) -> u64
+pub fn flags_of(p: Property) -> u64
     ensures { λ r. ⌜ r ≡ flagsOf p ⌝ }
 {
     match p {
@@ -81,7 +81,7 @@ fn completion_second(c: Completion) -> Value
     }
 }
 
-fn outcome_number(o: Outcome) -> u64
+pub fn outcome_number(o: Outcome) -> u64
     ensures { λ r. ⌜ r ≡ outcomeNumber o ⌝ }
 {
     match o {
@@ -92,7 +92,7 @@ fn outcome_number(o: Outcome) -> u64
     }
 }
 
-fn refusal_or_message(o: Outcome) -> u64
+pub fn refusal_or_message(o: Outcome) -> u64
     ensures { λ r. ⌜ r ≡ refusalOrMessage o ⌝ }
 {
     match o {
