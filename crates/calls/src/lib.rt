@@ -7,6 +7,7 @@ use store::ProxyObject;
 use store_write::Write;
 use value::Value;
 
+pub mod answers;
 mod entry;
 
 pub use entry::enter;

@@ -1,7 +1,10 @@
 // Runs steps and string entries from the standard input over one store, and prints a line for each.
 // A call is a head of 8 bytes (1 step or 2 string, 0, and three 16-bit lengths: record, sheet, output), then the record and the sheet; tests/day.mjs makes them.
+use byte_records::numbers;
 ghost use Prim.Native.Nat.{_<_, _≤_, _+_, _*_};
 ghost use lib.ListN.{length};
+
+mod printing;
 
 const CAPACITY: usize = 4096;
 
@@ -34,7 +37,7 @@ fn run_step(
 fn unit(call: &[u8], at: usize) -> u16
     requires { ⌜ at + 2 ≤ length (now call) ⌝ }
 {
-    (byte_numbers::short_at(call, at) % 65536) as u16
+    (numbers::short_at(call, at) % 65536) as u16
 }
 
 // How many code units the call has; of a longer one the first 64, which are too many too.

@@ -27,7 +27,7 @@ use Rattle.calls.specs.declared.Entered.{Entered}
 use Rattle.calls.specs.Entering.{entering, counting, found, progress}
 use Rattle.calls.specs.Told.{stateOf}
 use Rattle.calls.proofs.EnterLaws.{after, get-own-property-goes-on}
-use Rattle.definition_trap.specs.Define.{isOrdinary}
+use Rattle.definition.specs.Define.{isOrdinary}
 
 pub ordinary-known : (x : Option Object) (r : OrdinaryObject) → x ≡ some (Ordinary r) → isOrdinary x ≡ true
 ordinary-known x r e = rw e

@@ -1,1 +1,3 @@
 pub mod DefineLaws
+pub mod TrapLaws
+pub mod PlaceLaws

@@ -15,7 +15,11 @@ ghost use Rattle.internal_methods.specs.Ordinary.{ordinaryDefineOwnProperty};
 ghost use Rattle.internal_methods.specs.Proxy.{proxyDefineOwnProperty};
 ghost use Rattle.internal_methods.specs.Internal.{methods};
 ghost use Rattle.calls.specs.Told.{context, stateOf, toldWrite, Fitting};
-ghost use Rattle.definition_trap.specs.Define.{Definable, isOrdinary};
+ghost use Rattle.definition.specs.Define.{Definable, isOrdinary};
+
+mod checks;
+pub mod trap;
+mod writing;
 
 // 10.1.6.1 OrdinaryDefineOwnProperty ( O, P, Desc )
 fn ordinary_define_own_property(
@@ -40,7 +44,7 @@ fn ordinary_define_own_property(
                 BooleanOut::Failed(f, u) => WriteOut::Failed(f, u), // 2
                 BooleanOut::Done(extensible, u) => {
                     let v = validation::validate(extensible, d, current);
-                    definition_writing::apply_validation(words, allowance, o, key, v, u) // 3
+                    writing::apply_validation(words, allowance, o, key, v, u) // 3
                 }
             }
         }
@@ -102,17 +106,7 @@ fn proxy_exotic_define_own_property(
 {
     let target = p.target;
     if calls::has_trap(p, 32) {
-        definition_trap::define_own_property_trap(
-            words,
-            strings,
-            allowance,
-            sheet,
-            target,
-            key,
-            d,
-            depth,
-            s,
-        ) // 7 to 16
+        trap::define_own_property_trap(words, strings, allowance, sheet, target, key, d, depth, s) // 7 to 16
     } else {
         define_own_property(words, strings, allowance, sheet, target, key, d, depth, s) // 6
     }

@@ -3,6 +3,7 @@ use calls::Entered;
 use calls::OwnPropertyOut;
 use calls::Progress;
 use calls::WriteOut;
+use descriptors::attributes;
 use own_property::get_own_property;
 use property::OwnProperty;
 use store::ProxyObject;
@@ -17,6 +18,8 @@ ghost use Rattle.internal_methods.specs.Ordinary.{ordinaryDelete};
 ghost use Rattle.internal_methods.specs.Proxy.{proxyDelete};
 ghost use Rattle.internal_methods.specs.Internal.{methods};
 ghost use Rattle.calls.specs.Told.{Readable, Fitting, context, stateOf, toldWrite};
+
+mod trap;
 
 // 10.1.10.1 OrdinaryDelete ( O, P )
 fn ordinary_delete(
@@ -91,7 +94,7 @@ fn proxy_exotic_delete(
 {
     let target = p.target;
     if calls::has_trap(p, 512) {
-        deletion_trap::delete_trap(words, strings, allowance, sheet, p, key, depth, s)
+        trap::delete_trap(words, strings, allowance, sheet, p, key, depth, s)
     } else {
         delete(words, strings, allowance, sheet, target, key, depth, s) // 6
     }

@@ -1,4 +1,6 @@
 // The interface for C and Rust to link. A report is ten words (crates/report_words). No function has a condition on what it is lent.
+use message::writing;
+use reporting::report_words;
 ghost use mathlib.Core.Path.{_≡_};
 ghost use mathlib.Core.Bool.{true};
 ghost use mathlib.Core.List.{[]};
@@ -11,11 +13,11 @@ ghost use Rattle.store.specs.Words.{storeSize, storeOf, isStore, worldOf};
 ghost use Rattle.store_write.specs.Write as store_writes;
 ghost use Rattle.text.specs.Answers as table_answers;
 ghost use Rattle.lasting.specs.Response.{reportOf};
-ghost use Rattle.report_words.specs.ReportWords.{reportWords};
+ghost use Rattle.reporting.specs.ReportWords.{reportWords};
 ghost use Rattle.reporting.specs.Memory.{stepOver, enterOver, WordsAfter};
 ghost use Rattle.descriptor_entries.specs.Entries.{completeOver, validateOver, mergeOver, verdictReport, isAccepted};
 ghost use Rattle.internal_methods.specs.Messages.{messageText};
-ghost use Rattle.message_writing.specs.Written.{written};
+ghost use Rattle.message.specs.Written.{written};
 
 // One step.
 #[no_mangle]
@@ -95,7 +97,7 @@ pub extern "C" fn demnyaluz_message(n: u64, text: &mut [u8]) -> u64
     ensures size { λ r. ⌜ r ≡ length (messageText n) ⌝ }
     ensures after { λ _. ⌜ now (text .exit) ≡ written (messageText n) (now (text .entry)) ⌝ }
 {
-    message_writing::write_message(n, text)
+    writing::write_message(n, text)
 }
 
 // Words of the right length become an empty store; others are left.

@@ -11,11 +11,11 @@ use Rattle.lasting.specs.Response.{reportOf, refusal}
 use Rattle.lasting.specs.Response as ending
 use Rattle.lasting.specs.Step.{countsOf}
 use Rattle.reporting.specs.Memory.{isMemory}
-use Rattle.alone.specs.declared.DescriptorAnswer.{DescriptorAnswer}
-use Rattle.alone.specs.declared.DescriptorAnswer.the-variants as answer
-use Rattle.alone.specs.declared.Verdict.{Verdict}
-use Rattle.alone.specs.declared.Verdict.the-variants as verdict
-use Rattle.alone.specs.Alone.{completeAlone, validateAlone, mergeAlone}
+use Rattle.descriptor_entries.specs.declared.operations.DescriptorAnswer.{DescriptorAnswer}
+use Rattle.descriptor_entries.specs.declared.operations.DescriptorAnswer.the-variants as answer
+use Rattle.descriptor_entries.specs.declared.operations.Verdict.{Verdict}
+use Rattle.descriptor_entries.specs.declared.operations.Verdict.the-variants as verdict
+use Rattle.descriptor_entries.specs.Alone.{completeAlone, validateAlone, mergeAlone}
 use Rattle.descriptor_entries.specs.declared.Held.{Held}
 use Rattle.descriptor_entries.specs.declared.Held.the-variants.{Counts, Malformed}
 

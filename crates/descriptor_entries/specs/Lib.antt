@@ -1,1 +1,3 @@
 pub mod Entries
+pub mod Alone
+pub mod Records

@@ -1,6 +1,6 @@
 // Completing, validating and merging descriptors over lent memory, which says how many objects and strings there are.
-use alone::DescriptorAnswer;
-use alone::Verdict;
+use crate::operations::DescriptorAnswer;
+use crate::operations::Verdict;
 use lasting::Completion;
 use lasting::Outcome;
 use lasting::Report;
@@ -8,6 +8,9 @@ use property::OwnProperty;
 use record::Counts;
 ghost use mathlib.Core.Path.{_≡_};
 ghost use Rattle.descriptor_entries.specs.Entries.{countsIn, answerReport, afterReport, verdictReport, isAccepted, completeOver, validateOver, mergeOver};
+
+pub mod operations;
+mod records;
 
 // How many objects and strings the memory holds, if it is a store and a table.
 pub enum Held {
@@ -20,7 +23,7 @@ fn counts_in(words: &[u64], strings: &[u16]) -> Held
 {
     if store_read::is_store(words) {
         if text::is_table(strings) {
-            return Held::Counts(record_tests::counts_of(words, strings));
+            return Held::Counts(step_records::counts_of(words, strings));
         }
         return Held::Malformed;
     }
@@ -83,7 +86,7 @@ pub fn complete(words: &[u64], strings: &[u16], bytes: &[u8]) -> Report
     let held = counts_in(words, strings);
     match held {
         Held::Malformed => reporting::refused(1),
-        Held::Counts(n) => answer_report(alone::complete_alone(n, bytes)),
+        Held::Counts(n) => answer_report(operations::complete_alone(n, bytes)),
     }
 }
 
@@ -99,7 +102,7 @@ pub fn validate(
     let held = counts_in(words, strings);
     match held {
         Held::Malformed => Verdict::Refused(1),
-        Held::Counts(n) => alone::validate_alone(n, extensible, bytes, current),
+        Held::Counts(n) => operations::validate_alone(n, extensible, bytes, current),
     }
 }
 
@@ -109,6 +112,6 @@ pub fn merge(words: &[u64], strings: &[u16], current: &[u8], bytes: &[u8]) -> Re
     let held = counts_in(words, strings);
     match held {
         Held::Malformed => reporting::refused(1),
-        Held::Counts(n) => answer_report(alone::merge_alone(n, current, bytes)),
+        Held::Counts(n) => answer_report(operations::merge_alone(n, current, bytes)),
     }
 }

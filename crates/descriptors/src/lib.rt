@@ -7,6 +7,14 @@ use property::PropertyDescriptor;
 ghost use mathlib.Core.Path.{_≡_};
 ghost use Rattle.property.specs.Descriptor.{fromPropertyDescriptor, kindOf, toPropertyDescriptor};
 
+pub mod attributes;
+pub mod completion;
+pub mod errors;
+pub mod fields;
+pub mod flags;
+pub mod kind_fields;
+pub mod kinds;
+
 // 6.2.6.4 FromPropertyDescriptor ( Desc )
 pub fn from_property_descriptor(d: PropertyDescriptor) -> DescriptorObject
     ensures { λ r. ⌜ r ≡ fromPropertyDescriptor d ⌝ }
@@ -31,10 +39,10 @@ pub fn from_property_descriptor(d: PropertyDescriptor) -> DescriptorObject
 fn kind_of(value: Field, writable: Flag, get: Field, set: Field) -> DescriptorKind
     ensures { λ r. ⌜ r ≡ kindOf value writable get set ⌝ }
 {
-    if descriptor_kinds::has_either(get, set) {
+    if kinds::has_either(get, set) {
         return DescriptorKind::Accessor(get, set);
     }
-    if descriptor_kinds::has_value_or_writable(value, writable) {
+    if kinds::has_value_or_writable(value, writable) {
         return DescriptorKind::Data(value, writable);
     }
     DescriptorKind::Generic

@@ -2,6 +2,7 @@
 use calls::BooleanOut;
 use calls::Entered;
 use calls::Progress;
+use calls::answers;
 use internal_methods::Failure;
 use store::OrdinaryObject;
 use store::ProxyObject;
@@ -11,6 +12,8 @@ ghost use Rattle.internal_methods.specs.Ordinary.{ordinaryIsExtensible};
 ghost use Rattle.internal_methods.specs.Proxy.{proxyIsExtensible};
 ghost use Rattle.internal_methods.specs.Internal.{methods};
 ghost use Rattle.calls.specs.Told.{Readable, context, stateOf, toldBoolean};
+
+pub mod prevention;
 
 // 10.1.3.1 OrdinaryIsExtensible ( O )
 fn ordinary_is_extensible(object: OrdinaryObject) -> bool

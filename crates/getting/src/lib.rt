@@ -3,6 +3,7 @@ use calls::Entered;
 use calls::OwnPropertyOut;
 use calls::Progress;
 use calls::ValueOut;
+use calls::answers;
 use property::OwnProperty;
 use property::Property;
 use store::ProxyObject;
@@ -14,6 +15,8 @@ ghost use Rattle.internal_methods.specs.Ordinary.{ordinaryGet};
 ghost use Rattle.internal_methods.specs.Proxy.{proxyGet};
 ghost use Rattle.internal_methods.specs.Internal.{methods};
 ghost use Rattle.calls.specs.Told.{Readable, context, stateOf, toldValue};
+
+mod trap;
 
 // O.[[Get]](P, Receiver)
 pub fn get(
@@ -92,7 +95,7 @@ fn ordinary_get(
                     ) {
                         ValueOut::Failed(f, u) => ValueOut::Failed(f, u), // 2.a
                         ValueOut::Done(parent, u) => {
-                            match conversions::object_of(parent) {
+                            match value_operations::object_of(parent) {
                                 ObjectResult::NotObject => ValueOut::Done(Value::Undefined, u), // 2.b
                                 ObjectResult::Object(q) => {
                                     get(
@@ -115,7 +118,7 @@ fn ordinary_get(
                     match desc {
                         Property::Data(v, _, _, _) => ValueOut::Done(v, t), // 3
                         Property::Accessor(getter, _, _, _) => {
-                            if conversions::is_undefined(getter) {
+                            if value_operations::is_undefined(getter) {
                                 ValueOut::Done(Value::Undefined, t) // 6
                             } else {
                                 answers::next_value(sheet, t) // 7
@@ -145,7 +148,7 @@ fn proxy_exotic_get(
 {
     let target = p.target;
     if calls::has_trap(p, 128) {
-        getting_trap::get_trap(words, strings, allowance, sheet, p, key, receiver, depth, s)
+        trap::get_trap(words, strings, allowance, sheet, p, key, receiver, depth, s)
     } else {
         get(
             words,

@@ -15,6 +15,8 @@ ghost use Rattle.internal_methods.specs.Proxy.{proxyHasProperty};
 ghost use Rattle.internal_methods.specs.Internal.{methods};
 ghost use Rattle.calls.specs.Told.{Readable, context, stateOf, toldBoolean};
 
+mod trap;
+
 // O.[[HasProperty]](P)
 pub fn has_property(
     words: &[u64],
@@ -71,7 +73,7 @@ fn ordinary_has_property(
                     ) {
                         ValueOut::Failed(f, u) => BooleanOut::Failed(f, u), // 3
                         ValueOut::Done(parent, u) => {
-                            match conversions::object_of(parent) {
+                            match value_operations::object_of(parent) {
                                 ObjectResult::Object(q) => {
                                     has_property(words, strings, allowance, sheet, q, key, depth, u) // 4
                                 }
@@ -101,7 +103,7 @@ fn proxy_exotic_has_property(
 {
     let target = p.target;
     if calls::has_trap(p, 64) {
-        has_property_trap::has_property_trap(words, strings, allowance, sheet, p, key, depth, s)
+        trap::has_property_trap(words, strings, allowance, sheet, p, key, depth, s)
     } else {
         has_property(words, strings, allowance, sheet, target, key, depth, s) // 6
     }

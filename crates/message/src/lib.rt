@@ -3,6 +3,8 @@ ghost use mathlib.Core.Path.{_≡_};
 ghost use lib.ListN.{length, getD};
 ghost use Rattle.internal_methods.specs.Messages.{messageText};
 
+pub mod writing;
+
 const LENGTHS: [u8; 32] = [
     0,
     41,

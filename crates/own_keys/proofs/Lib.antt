@@ -1,1 +1,4 @@
 pub mod PartLaws
+pub mod ListLaws
+pub mod OwnLaws
+pub mod MarkLaws

@@ -20,10 +20,10 @@ use Rattle.record.specs.Sheet.{answersAt}
 use Rattle.calls.specs.declared.Progress.{Progress}
 use Rattle.calls.specs.declared.Entered.the-variants as entered
 use Rattle.calls.specs.Entering.{progress, unrevoked, found, counting, entering}
-use Rattle.key_answers.specs.Lists.{areListsFit}
-use Rattle.key_answers.proofs.ListLaws.{fit-suffix}
-use Rattle.own_keys_trap.specs.Trap.{trapKeys}
-use Rattle.own_keys_check.specs.Checked.{checkedKeys}
+use Rattle.own_keys.specs.Lists.{areListsFit}
+use Rattle.own_keys.proofs.ListLaws.{fit-suffix}
+use Rattle.own_keys.specs.Trap.{trapKeys}
+use Rattle.own_keys.specs.Checked.{checkedKeys}
 
 -- 10.5.11 with the trap, in parts
 

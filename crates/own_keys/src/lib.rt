@@ -1,9 +1,9 @@
 // 10.1.11 and 10.5.11 [[OwnPropertyKeys]].
+use crate::loading::KeyList;
+use crate::loading::KeysOut;
+use crate::trap::TrapOut;
 use calls::Entered;
 use calls::Progress;
-use key_loading::KeyList;
-use key_loading::KeysOut;
-use own_keys_trap::TrapOut;
 use store::ProxyObject;
 ghost use mathlib.Core.Path.{_≡_};
 ghost use mathlib.Core.Bool.{true};
@@ -15,8 +15,14 @@ ghost use Rattle.internal_methods.specs.Proxy.{proxyOwnPropertyKeys};
 ghost use Rattle.internal_methods.specs.Internal.{methods};
 ghost use Rattle.record.specs.Sheet.{answersAt};
 ghost use Rattle.calls.specs.Told.{Readable, context, stateOf};
-ghost use Rattle.key_answers.specs.Lists.{areListsFit};
-ghost use Rattle.key_loading.specs.Loading.{toldKeys, LoadableKeys};
+ghost use Rattle.own_keys.specs.Lists.{areListsFit};
+ghost use Rattle.own_keys.specs.Loading.{toldKeys, LoadableKeys};
+
+pub mod answered;
+mod check;
+pub mod loading;
+mod marks;
+mod trap;
 
 // 10.1.11.1 OrdinaryOwnPropertyKeys ( O )
 fn ordinary_own_property_keys(o: u64) -> KeyList
@@ -81,16 +87,7 @@ fn proxy_exotic_own_property_keys(
 {
     let target = p.target;
     if calls::has_trap(p, 1024) {
-        match own_keys_trap::own_keys_trap(
-            words,
-            strings,
-            allowance,
-            sheet,
-            target,
-            list,
-            depth,
-            s,
-        ) {
+        match trap::own_keys_trap(words, strings, allowance, sheet, target, list, depth, s) {
             TrapOut::Failed(f, t) => KeysOut::Failed(f, t), // 7 to 10
             TrapOut::Done(first, n, extensible, t) => {
                 match own_property_keys(
@@ -107,7 +104,7 @@ fn proxy_exotic_own_property_keys(
                 ) {
                     KeysOut::Failed(f, u) => KeysOut::Failed(f, u), // 11
                     KeysOut::Done(listed, u) => {
-                        own_keys_check::checked_keys(
+                        check::checked_keys(
                             words,
                             strings,
                             allowance,

@@ -3,8 +3,10 @@ use calls::DescriptorOut;
 use calls::Entered;
 use calls::OwnPropertyOut;
 use calls::Progress;
+use calls::answers;
 use property::OwnProperty;
 use store::ProxyObject;
+use store_read::finding;
 use value::PropertyKey;
 ghost use mathlib.Core.Path.{_≡_};
 ghost use mathlib.Core.Bool.{true};
@@ -14,12 +16,15 @@ ghost use Rattle.internal_methods.specs.Proxy.{proxyGetOwnProperty};
 ghost use Rattle.internal_methods.specs.Internal.{methods};
 ghost use Rattle.calls.specs.Told.{Readable, context, stateOf, toldOwnProperty};
 
+mod results;
+pub mod target_checks;
+
 // 10.1.5.1 OrdinaryGetOwnProperty ( O, P )
 fn ordinary_get_own_property(words: &[u64], o: u64, key: PropertyKey) -> OwnProperty
     requires { ⌜ isStore (now words) ≡ true ⌝ }
     ensures { λ r. ⌜ r ≡ ordinaryGetOwnProperty (storeOf (now (words .entry))) o key ⌝ }
 {
-    property_read::own(words, o, key)
+    finding::own(words, o, key)
 }
 
 // 10.1.5 and 10.5.5 [[GetOwnProperty]] ( P )
@@ -69,7 +74,7 @@ fn proxy_exotic_get_own_property(
                 match get_own_property(words, strings, allowance, sheet, target, key, depth, t) {
                     OwnPropertyOut::Failed(f, u) => OwnPropertyOut::Failed(f, u), // 9
                     OwnPropertyOut::Done(target_desc, u) => {
-                        own_property_results::undefined_result(
+                        results::undefined_result(
                             words,
                             strings,
                             allowance,
@@ -86,7 +91,7 @@ fn proxy_exotic_get_own_property(
                 match get_own_property(words, strings, allowance, sheet, target, key, depth, t) {
                     OwnPropertyOut::Failed(f, u) => OwnPropertyOut::Failed(f, u), // 9
                     OwnPropertyOut::Done(target_desc, u) => {
-                        own_property_results::descriptor_result(
+                        results::descriptor_result(
                             words,
                             strings,
                             allowance,

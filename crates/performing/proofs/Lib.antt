@@ -1,0 +1,5 @@
+pub mod ResultLaws
+pub mod WritingLaws
+pub mod ListingLaws
+pub mod FitLaws
+pub mod MakingLaws

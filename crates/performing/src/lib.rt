@@ -1,7 +1,7 @@
 // What a step asks for, done: the operation of each code but [[OwnPropertyKeys]], with the one write that it makes.
 use calls::Progress;
-use making::Performed;
 use record::Step;
+use reporting::Performed;
 ghost use mathlib.Core.Path.{_≡_};
 ghost use mathlib.Core.Bool.{true};
 ghost use Prim.Native.Nat.{_≤_, _<_};
@@ -9,8 +9,13 @@ ghost use Rattle.store.specs.Words.{storeOf};
 ghost use Rattle.calls.specs.Told.{context, stateOf};
 ghost use Rattle.lasting.specs.Operation.{operationOf};
 ghost use Rattle.lasting.specs.Perform.{perform, maximumCalls};
-ghost use Rattle.making.specs.Performed.{Taken, toldPerformed};
-ghost use Rattle.performing_reads.specs.Results.{Performable};
+ghost use Rattle.reporting.specs.Performed.{Taken, toldPerformed};
+ghost use Rattle.performing.specs.Results.{Performable};
+
+mod creation;
+pub mod listing;
+mod reads;
+mod writes;
 
 // Codes 1 to 3
 fn perform_making(
@@ -29,9 +34,9 @@ fn perform_making(
     let o = step.object;
     let v = step.value;
     match code {
-        1 => making::make_object(words, v, s),
-        2 => making::make_proxy(words, o, v, s),
-        _ => making::revoke(words, o, s),
+        1 => creation::make_object(words, v, s),
+        2 => creation::make_proxy(words, o, v, s),
+        _ => creation::revoke(words, o, s),
     }
 }
 
@@ -48,11 +53,11 @@ pub fn perform(
     ensures { λ r. ⌜ toldPerformed (now (sheet .entry)) (storeOf (now (words .entry))) r ≡ perform maximumCalls (context (now (words .entry)) (now (strings .entry)) allowance) (operationOf step) .run (stateOf (now (sheet .entry)) s) ⌝ }
     ensures { λ r. ⌜ Taken (now (words .entry)) r ⌝ }
 {
-    if performing_reads::is_reading(step.code) {
-        return performing_reads::perform_reading(words, strings, allowance, sheet, step, s);
+    if reads::is_reading(step.code) {
+        return reads::perform_reading(words, strings, allowance, sheet, step, s);
     }
     if step.code < 4 {
         return perform_making(words, strings, allowance, sheet, step, s);
     }
-    performing_writes::perform_writing(words, strings, allowance, sheet, step, s)
+    writes::perform_writing(words, strings, allowance, sheet, step, s)
 }

@@ -3,15 +3,23 @@ use calls::BooleanOut;
 use calls::Entered;
 use calls::Progress;
 use calls::ValueOut;
+use calls::answers;
 use internal_methods::Failure;
 use store::OrdinaryObject;
 use store::ProxyObject;
 use value::Value;
+use value_operations::equality;
 ghost use mathlib.Core.Path.{_≡_};
 ghost use Rattle.internal_methods.specs.Ordinary.{ordinaryGetPrototypeOf};
 ghost use Rattle.internal_methods.specs.Proxy.{proxyGetPrototypeOf};
 ghost use Rattle.internal_methods.specs.Internal.{methods};
 ghost use Rattle.calls.specs.Told.{Readable, context, stateOf, toldValue};
+
+mod chain;
+mod setting;
+mod setting_trap;
+
+pub use setting::set_prototype_of;
 
 // 10.1.1.1 OrdinaryGetPrototypeOf ( O )
 fn ordinary_get_prototype_of(object: OrdinaryObject) -> Value

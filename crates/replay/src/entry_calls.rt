@@ -1,5 +1,6 @@
 // A call of an entry by its kind (tests/engines/1-records.js), and what it ends in.
-use comparison::Ending;
+use crate::comparison::Ending;
+use crate::endings;
 ghost use mathlib.Core.Bool.{true};
 ghost use Prim.Native.Nat.{_*_, _+_};
 

@@ -1,10 +1,15 @@
 // Performs the calls that a JavaScript engine performed, and counts those that end otherwise here than there.
 // tests/engines/1-records.js has the layout of a line.
-use comparison::Ending;
+use crate::comparison::Ending;
 ghost use Prim.Native.Nat.{_<_, _≤_, _+_, _*_};
 ghost use lib.ListN.{length};
 
+mod comparison;
+mod endings;
 mod entry_calls;
+mod line_input;
+mod readout;
+mod tally;
 
 // How many differences are shown.
 const SHOWN: u64 = 10;

@@ -22,9 +22,9 @@ use Rattle.store_write.specs.declared.write.Write.the-variants.{Nothing}
 use Rattle.lasting.specs.declared.Report.{Report}
 use Rattle.lasting.specs.Response.{Effect, reportOf, refusal}
 use Rattle.lasting.specs.Step.{ended, refusing}
-use Rattle.making.specs.declared.Performed.{Performed}
-use Rattle.making.specs.declared.Performed.the-variants.{Failed, Done}
-use Rattle.making.specs.Performed.{Taken, toldPerformed, isPlain, resultOf}
+use Rattle.reporting.specs.declared.Performed.{Performed}
+use Rattle.reporting.specs.declared.Performed.the-variants.{Failed, Done}
+use Rattle.reporting.specs.Performed.{Taken, toldPerformed, isPlain, resultOf}
 use Rattle.reporting.specs.Reports.{failureResponse, completionReport, performedReport, Finished}
 use Rattle.reporting.specs.Memory.{Shown, shown, shownBy, WordsAfter, Committed}
 

@@ -1,2 +1,4 @@
+pub mod Performed
 pub mod Reports
 pub mod Memory
+pub mod ReportWords

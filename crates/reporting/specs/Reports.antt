@@ -19,8 +19,8 @@ use Rattle.lasting.specs.declared.Report.{Report}
 use Rattle.lasting.specs.Perform.{maximumCalls}
 use Rattle.lasting.specs.Response.{Response, typeError, thrown, refusal, reportOf}
 use Rattle.lasting.specs.Step.{responding}
-use Rattle.making.specs.declared.Performed.{Performed}
-use Rattle.making.specs.declared.Performed.the-variants.{Failed, Done}
+use Rattle.reporting.specs.declared.Performed.{Performed}
+use Rattle.reporting.specs.declared.Performed.the-variants.{Failed, Done}
 
 -- at the first answer, with all its calls
 abbrev pub start : List ℕ → Progress

@@ -4,7 +4,8 @@ use internal_methods::Failure;
 use lasting::Completion;
 use lasting::Outcome;
 use lasting::Report;
-use making::Performed;
+use sheet::counting;
+use store_write::Write;
 ghost use mathlib.Core.Path.{_≡_};
 ghost use mathlib.Core.Bool.{true};
 ghost use Prim.Native.Nat.{_<_, _-_};
@@ -14,8 +15,16 @@ ghost use Rattle.record.specs.Sheet.{sheetOf, answersAt};
 ghost use Rattle.calls.specs.Told.{stateOf};
 ghost use Rattle.lasting.specs.Perform.{maximumCalls};
 ghost use Rattle.lasting.specs.Response.{reportOf, refusal};
-ghost use Rattle.making.specs.Performed.{Taken};
+ghost use Rattle.reporting.specs.Performed.{Taken};
 ghost use Rattle.reporting.specs.Reports.{start, failureResponse, completionReport, performedReport, Finished};
+
+pub mod report_words;
+
+// How an operation ends, with its one write.
+pub enum Performed {
+    Failed(Failure, Progress),
+    Done(Completion, Write, Progress),
+}
 
 const MAXIMUM_CALLS: usize = 2048;
 
@@ -42,8 +51,8 @@ fn answers_used(sheet: &[u8], s: Progress) -> u64
     requires { ⌜ 0 < length (now sheet) ⌝ }
     ensures { λ r. ⌜ r ≡ length (sheetOf (now (sheet .entry))) - length (answersAt (now (sheet .entry)) (s .at) (s .left)) ⌝ }
 {
-    let all = unread::unread(sheet, 1, wide(sheet[0]));
-    let rest = unread::unread(sheet, s.at, s.left);
+    let all = counting::unread(sheet, 1, wide(sheet[0]));
+    let rest = counting::unread(sheet, s.at, s.left);
     if rest < all {
         return (all - rest) as u64;
     }
@@ -110,7 +119,7 @@ pub fn finish(words: &mut [u64], sheet: &[u8], p: Performed) -> Report
     match p {
         Performed::Failed(f, s) => failed(sheet, f, s),
         Performed::Done(c, w, s) => {
-            store_commit::commit(words, w);
+            store_write::commit(words, w);
             completed(sheet, c, s)
         }
     }

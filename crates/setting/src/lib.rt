@@ -4,6 +4,7 @@ use calls::OwnPropertyOut;
 use calls::Progress;
 use calls::ValueOut;
 use calls::WriteOut;
+use calls::answers;
 use property::OwnProperty;
 use property::Property;
 use store::ProxyObject;
@@ -21,8 +22,11 @@ ghost use Rattle.internal_methods.specs.Ordinary.{setData, ordinarySet};
 ghost use Rattle.internal_methods.specs.Proxy.{proxySet};
 ghost use Rattle.internal_methods.specs.Internal.{methods};
 ghost use Rattle.calls.specs.Told.{context, stateOf, toldWrite, Fitting};
-ghost use Rattle.definition_trap.specs.Define.{Definable};
+ghost use Rattle.definition.specs.Define.{Definable};
 ghost use Rattle.setting.specs.Set.{setAccessor};
+
+mod receiver;
+pub mod trap;
 
 // 10.1.9.2 step 2
 fn set_data(
@@ -42,19 +46,9 @@ fn set_data(
     ensures { λ r. ⌜ Fitting (now (words .entry)) r ⌝ }
 {
     if writable {
-        match conversions::object_of(receiver) {
+        match value_operations::object_of(receiver) {
             ObjectResult::Object(o) => {
-                receiver_setting::set_on_receiver(
-                    words,
-                    strings,
-                    allowance,
-                    sheet,
-                    key,
-                    v,
-                    o,
-                    depth,
-                    s,
-                ) // 2.c to 2.e
+                receiver::set_on_receiver(words, strings, allowance, sheet, key, v, o, depth, s) // 2.c to 2.e
             }
             ObjectResult::NotObject => WriteOut::Done(false, Write::Nothing, s), // 2.b
         }
@@ -68,7 +62,7 @@ fn set_accessor(sheet: &[u8], setter: Value, s: Progress) -> WriteOut
     ensures { λ r. ⌜ ((σ : Store) → toldWrite (now (sheet .entry)) σ r ≡ setAccessor σ setter .run (stateOf (now (sheet .entry)) s)) ⌝ }
     ensures { λ r. ⌜ ((words : List ℕ) → isStore words ≡ true → Fitting words r) ⌝ }
 {
-    if conversions::is_undefined(setter) {
+    if value_operations::is_undefined(setter) {
         WriteOut::Done(false, Write::Nothing, s) // 5
     } else {
         match answers::next_value(sheet, s) {
@@ -151,7 +145,7 @@ fn ordinary_set(
             OwnProperty::Absent => {
                 match prototypes::get_prototype_of(words, strings, allowance, sheet, o, depth, t) {
                     ValueOut::Failed(f, u) => WriteOut::Failed(f, u), // 1.a
-                    ValueOut::Done(parent, u) => match conversions::object_of(parent) {
+                    ValueOut::Done(parent, u) => match value_operations::object_of(parent) {
                         ObjectResult::Object(q) => {
                             set(
                                 words,
@@ -223,7 +217,7 @@ fn proxy_exotic_set(
 {
     let target = p.target;
     if calls::has_trap(p, 256) {
-        setting_trap::set_trap(words, strings, allowance, sheet, target, key, v, depth, s) // 7 to 11
+        trap::set_trap(words, strings, allowance, sheet, target, key, v, depth, s) // 7 to 11
     } else {
         set(
             words,

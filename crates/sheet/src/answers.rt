@@ -1,6 +1,9 @@
 // An answer sheet: a count, then that many answers.
 use crate::AnswerEnd;
 use crate::NextAnswer;
+use byte_records::descriptor_record;
+use byte_records::numbers;
+use byte_records::value_record;
 ghost use mathlib.Core.Path.{_≡_};
 ghost use mathlib.Core.Bool.{_&&_};
 ghost use Prim.Native.Nat.{_+_, _*_, _<_, _≤_};
@@ -25,7 +28,7 @@ fn key_count_at(bytes: &[u8], at: usize) -> usize
     requires { ⌜ at + 3 ≤ length (now bytes) ⌝ }
     ensures { λ r. ⌜ (r ≡ keyCountAt (now (bytes .entry)) at) × (r < 65536) ⌝ }
 {
-    byte_numbers::short_at(bytes, at + 1) as usize
+    numbers::short_at(bytes, at + 1) as usize
 }
 
 fn keys_end(bytes: &[u8], at: usize) -> AnswerEnd
@@ -60,7 +63,7 @@ fn are_values_at(bytes: &[u8], at: usize, n: usize) -> bool
     let mut i: usize = at;
     let mut left: usize = n;
     while 0 < left {
-        if value_bytes::is_value_at(bytes, i) {
+        if value_record::is_value_at(bytes, i) {
             i += 9;
             left -= 1;
         } else {
@@ -87,10 +90,10 @@ fn is_body_at(bytes: &[u8], at: usize) -> bool
 {
     let tag = bytes[at];
     match tag {
-        1 => value_bytes::is_value_at(bytes, at + 1),
-        2 => descriptor_bytes::is_descriptor_at(bytes, at + 1),
+        1 => value_record::is_value_at(bytes, at + 1),
+        2 => descriptor_record::is_descriptor_at(bytes, at + 1),
         3 => are_keys_at(bytes, at),
-        4 => value_bytes::is_value_at(bytes, at + 1),
+        4 => value_record::is_value_at(bytes, at + 1),
         _ => false,
     }
 }
@@ -147,9 +150,9 @@ pub fn next_answer(bytes: &[u8], at: usize, left: usize) -> NextAnswer
     };
     let tag = bytes[at];
     match tag {
-        1 => NextAnswer::Value(value_bytes::value_at(bytes, at + 1), end),
-        2 => NextAnswer::Descriptor(descriptor_bytes::descriptor_at(bytes, at + 1), end),
+        1 => NextAnswer::Value(value_record::value_at(bytes, at + 1), end),
+        2 => NextAnswer::Descriptor(descriptor_record::descriptor_at(bytes, at + 1), end),
         3 => NextAnswer::Keys(at + 3, key_count_at(bytes, at), end),
-        _ => NextAnswer::Throw(value_bytes::value_at(bytes, at + 1), end),
+        _ => NextAnswer::Throw(value_record::value_at(bytes, at + 1), end),
     }
 }

@@ -3,6 +3,7 @@ use property::DescriptorObject;
 use value::Value;
 
 mod answers;
+pub mod counting;
 
 pub use answers::is_sheet;
 pub use answers::next_answer;

@@ -26,8 +26,8 @@ use Rattle.lasting.specs.Perform.{perform, maximumCalls}
 use Rattle.lasting.specs.Response.{reportOf, refusal}
 use Rattle.lasting.specs.Step.{recordTests, ended, ran, step}
 use Rattle.lasting.specs.StringEntry.{enterString, entered}
-use Rattle.making.specs.declared.Performed.{Performed}
-use Rattle.making.specs.Performed.{Taken, toldPerformed}
+use Rattle.reporting.specs.declared.Performed.{Performed}
+use Rattle.reporting.specs.Performed.{Taken, toldPerformed}
 use Rattle.reporting.specs.Reports.{start, performedReport, Finished}
 use Rattle.reporting.specs.Memory.{Shown, shown, shownBy, isMemory, stepOver, shownEntry, enterOver}
 use Rattle.reporting.proofs.EndLaws.{finished}

@@ -2,8 +2,11 @@
 use lasting::Completion;
 use lasting::Outcome;
 use lasting::Report;
+use performing::listing;
 use record::Refusal;
+use step_records::reading;
 use text::EntryAnswer;
+use text::entry;
 use value::Value;
 ghost use mathlib.Core.Path.{_≡_};
 ghost use mathlib.Core.Bool.{true};
@@ -36,7 +39,7 @@ fn run(words: &mut [u64], strings: &[u16], bytes: &[u8], sheet: &[u8], output: &
     ensures { λ r. ⌜ shown r (now (words .exit)) (now (strings .entry)) (now (output .exit)) ≡ shownBy (ended (worldOf (now (words .entry)) (now (strings .entry))) (sheetOf (now (sheet .entry))) (now (output .entry)) (ran (worldOf (now (words .entry)) (now (strings .entry))) (now (bytes .entry)) (now (sheet .entry)))) ⌝ }
     ensures { λ r. ⌜ WordsAfter (r .outcome) (now (words .entry)) (now (words .exit)) ⌝ }
 {
-    let step = step_reading::step_of(bytes);
+    let step = reading::step_of(bytes);
     if step.code == 14 {
         return listing::list(words, strings, sheet, step.object, output);
     }
@@ -57,7 +60,7 @@ pub fn step(
     ensures { λ r. ⌜ WordsAfter (r .outcome) (now (words .entry)) (now (words .exit)) ⌝ }
 {
     if is_memory(words, strings) {
-        match record_tests::record_refusal(words, strings, bytes, sheet) {
+        match step_records::record_refusal(words, strings, bytes, sheet) {
             Refusal::Failed(n) => reporting::refused(n),
             Refusal::Passed => run(words, strings, bytes, sheet, output),
         }
@@ -86,5 +89,5 @@ pub fn enter_string(strings: &mut [u16], units: &[u16]) -> Report
     ensures { λ _. ⌜ now (strings .exit) ≡ cellsAfter (now (strings .entry)) (now (units .entry)) (enterCells (now (strings .entry)) (now (units .entry))) ⌝ }
     ensures { λ _. ⌜ isTable (now (strings .exit)) ≡ isTable (now (strings .entry)) ⌝ }
 {
-    entered(string_entry::enter(strings, units))
+    entered(entry::enter(strings, units))
 }

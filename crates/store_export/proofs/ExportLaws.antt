@@ -21,7 +21,7 @@ use Rattle.store.specs.OwnKeys.{ordinaryOwnPropertyKeys}
 use Rattle.store.specs.Words.{isStore, storeOf, wordAt, withNewRow, withoutRow}
 use Rattle.store_read.specs.Answers.{Listed, keyFromWord, keyToWord}
 use Rattle.store_write.specs.Write.{Joins, New, numberIn}
-use Rattle.export_tests.specs.Export.{isListable, isJoined, isAbsent, isNew, isAddable, isRemovable, rowProperty, keyWordsOf, listAnswer, listed, added, addAnswer, removed, removeAnswer, refused}
+use Rattle.store_export.specs.Export.{isListable, isJoined, isAbsent, isNew, isAddable, isRemovable, rowProperty, keyWordsOf, listAnswer, listed, added, addAnswer, removed, removeAnswer, refused}
 
 -- Own keys -------------------------------------------------------------------------------
 

@@ -2,8 +2,15 @@
 // it is lent; where it refuses, it changes nothing and answers 257.
 use property::Property;
 use store_read::Place;
+use store_read::finding;
+use store_read::own_key_order;
+use store_write::properties;
+use store_write::removal;
+use value_operations::encoding;
 ghost use mathlib.Core.Path.{_≡_};
-ghost use Rattle.export_tests.specs.Export.{placeNumber, rowProperty, findAnswer, listed, listAnswer, added, addAnswer, removed, removeAnswer};
+ghost use Rattle.store_export.specs.Export.{placeNumber, rowProperty, findAnswer, listed, listAnswer, added, addAnswer, removed, removeAnswer};
+
+mod conditions;
 
 const NOWHERE: u64 = 256;
 
@@ -24,7 +31,7 @@ pub extern "C" fn store_find(words: &[u64], o: u64, key: u64) -> u64
     ensures { λ r. ⌜ r ≡ findAnswer (now (words .entry)) o key ⌝ }
 {
     if store_read::is_store(words) {
-        place_number(property_read::find(words, o, store_read::key_from_word(key)))
+        place_number(finding::find(words, o, store_read::key_from_word(key)))
     } else {
         REFUSED
     }
@@ -36,7 +43,7 @@ pub extern "C" fn store_own_keys(words: &[u64], strings: &[u16], o: u64, out: &m
     ensures { λ r. ⌜ r ≡ listAnswer (now (words .entry)) (now (strings .entry)) o (now (out .entry)) ⌝ }
     ensures { λ _. ⌜ now (out .exit) ≡ listed (now (words .entry)) (now (strings .entry)) o (now (out .entry)) ⌝ }
 {
-    if export_tests::is_listable(words, strings, out.len()) {
+    if conditions::is_listable(words, strings, out.len()) {
         own_key_order::list_own_keys(words, strings, o, out) as u64
     } else {
         REFUSED
@@ -67,8 +74,8 @@ pub extern "C" fn store_append(words: &mut [u64], o: u64, key: u64, row: &[u64; 
     ensures { λ r. ⌜ r ≡ addAnswer (now (words .entry)) o key (now (row .entry)) ⌝ }
     ensures { λ _. ⌜ now (words .exit) ≡ added (now (words .entry)) o key (now (row .entry)) ⌝ }
 {
-    if export_tests::is_addable(words, o, key) {
-        property_write::add_property(words, o, store_read::key_from_word(key), property_of(row));
+    if conditions::is_addable(words, o, key) {
+        properties::add_property(words, o, store_read::key_from_word(key), property_of(row));
         words[1]
     } else {
         REFUSED
@@ -81,8 +88,8 @@ pub extern "C" fn store_remove(words: &mut [u64], o: u64, key: u64) -> u64
     ensures { λ r. ⌜ r ≡ removeAnswer (now (words .entry)) o key ⌝ }
     ensures { λ _. ⌜ now (words .exit) ≡ removed (now (words .entry)) o key ⌝ }
 {
-    if export_tests::is_removable(words, o, key) {
-        property_removal::remove_property(words, o, store_read::key_from_word(key));
+    if conditions::is_removable(words, o, key) {
+        removal::remove_property(words, o, store_read::key_from_word(key));
         words[1]
     } else {
         REFUSED

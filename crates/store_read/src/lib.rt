@@ -1,12 +1,16 @@
 // Reading the store's words.
+use store::Object;
+
+pub mod finding;
+pub mod own_key_order;
 mod read;
+pub mod sorted_words;
 
 pub use read::is_store;
 pub use read::key_from_word;
 pub use read::object_at;
 pub use read::object_count;
 pub use read::property_count;
-use store::Object;
 
 // The object of a number, if it was made.
 pub enum ObjectFound {

@@ -1,4 +1,10 @@
 // Reading the store's words: its counts and objects, and the key that a word stands for.
+use crate::ObjectFound;
+use store::Object;
+use store::OrdinaryObject;
+use store::ProxyObject;
+use value::PropertyKey;
+use value_operations::encoding;
 ghost use mathlib.Core.Path.{_≡_};
 ghost use mathlib.Core.Bool.{true};
 ghost use Prim.Native.Nat.{_<_, _≤_};
@@ -6,11 +12,6 @@ ghost use lib.ListN.{length};
 ghost use Rattle.store.specs.Store as store;
 ghost use Rattle.store.specs.Words.{isStore, storeOf, objectOf};
 ghost use Rattle.store_read.specs.Answers.{objectFound, keyFromWord};
-use crate::ObjectFound;
-use store::Object;
-use store::OrdinaryObject;
-use store::ProxyObject;
-use value::PropertyKey;
 
 const STORE_SIZE: usize = 1634;
 

@@ -1,4 +1,10 @@
 // Writing the store's words.
+// The one write of a step, to the store's words.
+ghost use Rattle.store.specs.Words.{storeOf};
+ghost use Rattle.store_write.specs.Write.{Becomes, applied, writtenTo, fitsIn};
+
+pub mod properties;
+pub mod removal;
 mod write;
 
 pub use write::PropertyWords;
@@ -7,3 +13,18 @@ pub use write::add_object;
 pub use write::make_empty;
 pub use write::room;
 pub use write::set_object;
+
+// The one write of a step.
+pub fn commit(words: &mut [u64], w: Write)
+    requires { ⌜ fitsIn w (now words) ⌝ }
+    ensures { λ _. ⌜ Becomes (now (words .exit)) (writtenTo w (now (words .entry))) (applied w (storeOf (now (words .entry)))) ⌝ }
+{
+    match w {
+        Write::Nothing => {}
+        Write::Object(o, x) => set_object(words, o as usize, x),
+        Write::NewObject(x) => add_object(words, x),
+        Write::Change(i, p) => properties::set_property(words, i, p),
+        Write::Add(o, k, p) => properties::add_property(words, o, k, p),
+        Write::Remove(o, k) => removal::remove_property(words, o, k),
+    }
+}

@@ -2,6 +2,8 @@
 use property::Property;
 use store::Object;
 use value::PropertyKey;
+use value_operations::bits;
+use value_operations::encoding;
 ghost use mathlib.Core.Path.{_≡_};
 ghost use mathlib.Core.Bool.{true};
 ghost use Prim.Native.Nat.{_<_};

@@ -12,6 +12,9 @@ ghost use Rattle.text.specs.Strings.{textOf, lengthOf};
 ghost use Rattle.text.specs.Table.{tableSize, lengthAt, textAt, stringsOf, isTable};
 ghost use Rattle.text.specs.Answers.{readTable, countAnswer, emptied};
 
+pub mod entry;
+pub mod indices;
+
 // How many strings the cells hold, if they are a table.
 pub enum StringCount {
     Count(u64),

@@ -1,4 +1,10 @@
 // 10.1.6.3 ValidateAndApplyPropertyDescriptor, and 10.1.6.2.
+use descriptors::attributes;
+use descriptors::completion;
+use descriptors::fields;
+use descriptors::flags;
+use descriptors::kind_fields;
+use descriptors::kinds;
 use property::OwnProperty;
 use property::Property;
 use property::PropertyDescriptor;
@@ -9,13 +15,17 @@ ghost use Rattle.property.specs.Fields.{isAccessor};
 ghost use Rattle.property.specs.Descriptor.{isAccessorDescriptor, isGenericDescriptor};
 ghost use Rattle.property.specs.Validate.{hasNoFields, applied, validateKind, validateFixed, validate, isCompatible};
 
+mod applying;
+pub mod merging;
+pub mod outcome;
+
 // Step 4.
 fn has_no_fields(d: PropertyDescriptor) -> bool
     ensures { λ r. ⌜ r ≡ hasNoFields d ⌝ }
 {
     let enumerable = d.enumerable;
     let configurable = d.configurable;
-    if descriptor_kinds::is_generic_descriptor(d) {
+    if kinds::is_generic_descriptor(d) {
         if flags::has_flag(enumerable) {
             return false;
         }
@@ -28,10 +38,10 @@ fn has_no_fields(d: PropertyDescriptor) -> bool
 fn is_other_kind(d: PropertyDescriptor, current: Property) -> bool
     ensures { λ r. ⌜ r ≡ (not (isGenericDescriptor d) && not (Bool·beq (isAccessorDescriptor d) (isAccessor current))) ⌝ }
 {
-    if descriptor_kinds::is_generic_descriptor(d) {
+    if kinds::is_generic_descriptor(d) {
         return false;
     }
-    descriptor_kinds::is_accessor_descriptor(d) != attributes::is_accessor(current)
+    kinds::is_accessor_descriptor(d) != attributes::is_accessor(current)
 }
 
 // Steps 5.d and 5.e, where `next` is what step 6 makes of the property.
@@ -118,5 +128,5 @@ pub fn is_compatible_property_descriptor(
 ) -> bool
     ensures { λ r. ⌜ r ≡ isCompatible extensible d current ⌝ }
 {
-    validation_outcome::is_accepted(validate(extensible, d, current))
+    outcome::is_accepted(validate(extensible, d, current))
 }

@@ -1,11 +1,24 @@
 // Runs the outside vectors of the leaves, and counts those whose answer is another than the engine's.
 // A record of the input is 192 bytes: an operation, its inputs and the expected answer; tests/vectors.mjs makes them.
+use byte_records::descriptor_record;
+use byte_records::numbers;
+use byte_records::value_record;
+use descriptors::completion;
 use property::ArrayIndex;
 use property::Filling;
 use property::OwnProperty;
 use property::Property;
 use property::PropertyDescriptor;
 use record::Counts;
+use step_records::form;
+use step_records::kinds;
+use step_records::reading;
+use step_records::sheet_tests;
+use step_records::value_tests;
+use text::indices;
+use validation::merging;
+use validation::outcome;
+use value_operations::equality;
 ghost use mathlib.Core.Path.{_≡_};
 ghost use Prim.Native.Nat.{_<_, _≤_, _+_};
 ghost use lib.ListN.{length};
@@ -28,8 +41,8 @@ fn same_bool(a: bool, b: bool) -> bool {
 fn same_value(r: &[u8]) -> bool
     requires { ⌜ length (now r) ≡ 192 ⌝ }
 {
-    let a = value_bytes::value_at(r, 1);
-    let b = value_bytes::value_at(r, 10);
+    let a = value_record::value_at(r, 1);
+    let b = value_record::value_at(r, 10);
     same_bool(equality::same_value(a, b), truth(r[19]))
 }
 
@@ -37,16 +50,16 @@ fn same_value(r: &[u8]) -> bool
 fn to_boolean(r: &[u8]) -> bool
     requires { ⌜ length (now r) ≡ 192 ⌝ }
 {
-    let v = value_bytes::value_at(r, 1);
+    let v = value_record::value_at(r, 1);
     let n = place(r[10]);
-    same_bool(conversions::to_boolean(v, n), truth(r[11]))
+    same_bool(value_operations::to_boolean(v, n), truth(r[11]))
 }
 
 // The code unit in two bytes
 fn unit(r: &[u8], at: usize) -> u16
     requires { ⌜ at + 2 ≤ length (now r) ⌝ }
 {
-    (byte_numbers::short_at(r, at) % 65536) as u16
+    (numbers::short_at(r, at) % 65536) as u16
 }
 
 fn units(r: &[u8]) -> [u16; 32]
@@ -80,7 +93,7 @@ fn is_index(r: &[u8], answer: ArrayIndex) -> bool
     match answer {
         ArrayIndex::Index(k) => {
             if r[100] == 1 {
-                k == byte_numbers::word_at(r, 101)
+                k == numbers::word_at(r, 101)
             } else {
                 false
             }
@@ -160,7 +173,7 @@ fn same_own(p: OwnProperty, q: OwnProperty) -> bool {
 fn descriptor(r: &[u8], at: usize) -> PropertyDescriptor
     requires { ⌜ at + 29 ≤ length (now r) ⌝ }
 {
-    descriptors::to_property_descriptor(descriptor_bytes::descriptor_at(r, at))
+    descriptors::to_property_descriptor(descriptor_record::descriptor_at(r, at))
 }
 
 // The property that a complete record stands for; `present` says whether there is one.
@@ -188,11 +201,8 @@ fn validate(r: &[u8]) -> bool
 {
     let current = own_at(r, truth(r[2]), 32);
     let v = validation::validate(truth(r[1]), descriptor(r, 3), current);
-    if same_bool(validation_outcome::is_accepted(v), truth(r[61])) {
-        same_own(
-            validation_outcome::settled(current, v),
-            own_at(r, truth(r[62]), 63),
-        )
+    if same_bool(outcome::is_accepted(v), truth(r[61])) {
+        same_own(outcome::settled(current, v), own_at(r, truth(r[62]), 63))
     } else {
         false
     }
@@ -200,12 +210,12 @@ fn validate(r: &[u8]) -> bool
 
 // The first of refusals 1 to 4 over a step, or 0
 fn step_refusal(bytes: &[u8], n: Counts, proxy: bool) -> u8 {
-    if step_form::is_step(bytes) {
+    if form::is_step(bytes) {
         if bytes.len() == 58 {
-            let s = step_reading::step_of(bytes);
+            let s = reading::step_of(bytes);
             let d = s.descriptor;
-            if step_record::are_objects_made(n, s) {
-                if step_record::are_kinds_usable(proxy, n, s) {
+            if kinds::are_objects_made(n, s) {
+                if kinds::are_kinds_usable(proxy, n, s) {
                     if value_tests::is_descriptor(d) {
                         return 0;
                     }
@@ -224,8 +234,8 @@ fn step_tests(r: &[u8]) -> bool
     requires { ⌜ length (now r) ≡ 192 ⌝ }
 {
     let n = Counts {
-        objects: byte_numbers::wide(r[1]),
-        strings: byte_numbers::wide(r[2]),
+        objects: numbers::wide(r[1]),
+        strings: numbers::wide(r[2]),
     };
     let end = 5 + place(r[4]);
     if end <= 80 {
@@ -254,8 +264,8 @@ fn sheet_tests(r: &[u8]) -> bool
     requires { ⌜ length (now r) ≡ 192 ⌝ }
 {
     let n = Counts {
-        objects: byte_numbers::wide(r[1]),
-        strings: byte_numbers::wide(r[2]),
+        objects: numbers::wide(r[1]),
+        strings: numbers::wide(r[2]),
     };
     let end = 4 + place(r[3]);
     if end <= 180 {

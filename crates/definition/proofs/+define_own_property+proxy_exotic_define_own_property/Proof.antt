@@ -6,7 +6,7 @@ use Prim.Native.Nat.{_+_, _*_}
 use Rattle.internal_methods.specs.Monad.{pure, fails, next, _>>=_, throwIf, if_then_else_}
 use Rattle.internal_methods.specs.Proxy.{hasTrap, proxyDefineOwnProperty}
 use Rattle.calls.proofs.EnterLaws.{define-own-property-goes-on, ordinary-deep, ordinary-found, proxy-deep}
-use Rattle.definition_trap.specs.Define.{definedByTrap}
+use Rattle.definition.specs.Define.{definedByTrap}
 use Rattle.definition.proofs.DefineLaws.{ordinary-known}
 use Prim.Native.Nat.{ℕ, _<_}
 use borrow.Fn.Kinds.{In}
@@ -19,7 +19,7 @@ use Rattle.definition.proofs.proxy_exotic_define_own_property.Kinds as 
 use Rattle.definition.proofs.+define_own_property+proxy_exotic_define_own_property.Lts-proxy_exotic_define_own_property as proxy-exotic-define-own-property-lts
 use Rattle.calls.proofs.enter.Reads as enter-reads
 use Rattle.calls.proofs.has_trap.Reads as has-trap-reads
-use Rattle.definition_trap.proofs.define_own_property_trap.Reads as define-own-property-trap-reads
+use Rattle.definition.proofs.trap.define_own_property_trap.Reads as define-own-property-trap-reads
 use Rattle.definition.proofs.ordinary_define_own_property.Reads as ordinary-define-own-property-reads
 use Rattle.definition.proofs.+define_own_property+proxy_exotic_define_own_property.{
   statement,

@@ -6,7 +6,7 @@ use borrow.Author.Needs.{needs}
 use Rattle.internal_methods.specs.Monad.{pure, fails, next, _>>=_, throwIf, if_then_else_}
 use Rattle.internal_methods.specs.Proxy.{hasTrap, proxyDelete}
 use Rattle.calls.proofs.EnterLaws.{delete-goes-on, proxy-deep, ordinary-deep, ordinary-found}
-use Rattle.prevention.proofs.WriteLaws.{found-joins}
+use Rattle.extensibility.proofs.WriteLaws.{found-joins}
 use Prim.Native.Nat.{ℕ, _<_}
 use borrow.Fn.Kinds.{In}
 use borrow.Fn.PlainCycle.{Measures, is, falls, and}
@@ -18,7 +18,7 @@ use Rattle.deletion.proofs.proxy_exotic_delete.Kinds as proxy-exotic-de
 use Rattle.deletion.proofs.+delete+proxy_exotic_delete.Lts-proxy_exotic_delete as proxy-exotic-delete-lts
 use Rattle.calls.proofs.enter.Reads as enter-reads
 use Rattle.calls.proofs.has_trap.Reads as has-trap-reads
-use Rattle.deletion_trap.proofs.delete_trap.Reads as delete-trap-reads
+use Rattle.deletion.proofs.trap.delete_trap.Reads as delete-trap-reads
 use Rattle.deletion.proofs.ordinary_delete.Reads as ordinary-delete-reads
 use Rattle.deletion.proofs.+delete+proxy_exotic_delete.{statement}
 use Rattle.deletion.proofs.+delete+proxy_exotic_delete.Tie.{close}

@@ -2,7 +2,7 @@
 use mathlib.Core.Path.{sym, _∙_}
 use Rattle.internal_methods.specs.Monad.{pure, fails, next, _>>=_, if_then_else_}
 use Rattle.internal_methods.specs.Ordinary.{ordinaryDelete}
-use Rattle.prevention.proofs.WriteLaws.{nothing-fits}
+use Rattle.extensibility.proofs.WriteLaws.{nothing-fits}
 use borrow.Author.Needs.{needs}
 use Rattle.deletion.proofs.ordinary_delete.Statement.{statement}
 use Rattle.deletion.proofs.ordinary_delete.Tie as tie

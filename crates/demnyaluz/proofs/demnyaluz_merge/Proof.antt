@@ -1,5 +1,5 @@
 use mathlib.Core.Path.{ap, _∙_}
-use Rattle.report_words.specs.ReportWords.{reportWords}
+use Rattle.reporting.specs.ReportWords.{reportWords}
 use borrow.Author.Needs.{needs}
 use Rattle.demnyaluz.proofs.demnyaluz_merge.Statement.{statement}
 use Rattle.demnyaluz.proofs.demnyaluz_merge.Tie as tie

@@ -1,5 +1,5 @@
 use mathlib.Core.Path.{ap, _∙_}
-use Rattle.report_words.specs.ReportWords.{reportWords}
+use Rattle.reporting.specs.ReportWords.{reportWords}
 use Rattle.descriptor_entries.specs.Entries.{verdictReport, isAccepted}
 use borrow.Author.Needs.{needs}
 use Rattle.demnyaluz.proofs.demnyaluz_validate.Statement.{statement}

@@ -14,7 +14,7 @@ use Rattle.extensibility.proofs.+is_extensible+proxy_exotic_is_extensib
 use Rattle.extensibility.proofs.proxy_exotic_is_extensible.Reads as proxy-exotic-is-extensible
 use Rattle.extensibility.proofs.proxy_exotic_is_extensible.Kinds as proxy-exotic-is-extensible-kinds
 use Rattle.extensibility.proofs.+is_extensible+proxy_exotic_is_extensible.Lts-proxy_exotic_is_extensible as proxy-exotic-is-extensible-lts
-use Rattle.answers.proofs.next_boolean.Reads as next-boolean-reads
+use Rattle.calls.proofs.answers.next_boolean.Reads as next-boolean-reads
 use Rattle.calls.proofs.enter.Reads as enter-reads
 use Rattle.calls.proofs.has_trap.Reads as has-trap-reads
 use Rattle.extensibility.proofs.ordinary_is_extensible.Reads as ordinary-is-extensible-reads

@@ -21,14 +21,14 @@ use Rattle.getting.proofs.+get+ordinary_get+proxy_exotic_get.Lts-ordina
 use Rattle.getting.proofs.proxy_exotic_get.Reads as proxy-exotic-get
 use Rattle.getting.proofs.proxy_exotic_get.Kinds as proxy-exotic-get-kinds
 use Rattle.getting.proofs.+get+ordinary_get+proxy_exotic_get.Lts-proxy_exotic_get as proxy-exotic-get-lts
-use Rattle.answers.proofs.next_value.Reads as next-value-reads
+use Rattle.calls.proofs.answers.next_value.Reads as next-value-reads
 use Rattle.calls.proofs.enter.Reads as enter-reads
 use Rattle.calls.proofs.has_trap.Reads as has-trap-reads
-use Rattle.getting_trap.proofs.get_trap.Reads as get-trap-reads
+use Rattle.getting.proofs.trap.get_trap.Reads as get-trap-reads
 use Rattle.own_property.proofs.get_own_property.Reads as get-own-property-reads
 use Rattle.prototypes.proofs.get_prototype_of.Reads as get-prototype-of-reads
-use Rattle.conversions.proofs.is_undefined.Reads as is-undefined-reads
-use Rattle.conversions.proofs.object_of.Reads as object-of-reads
+use Rattle.value_operations.proofs.is_undefined.Reads as is-undefined-reads
+use Rattle.value_operations.proofs.object_of.Reads as object-of-reads
 use Rattle.getting.proofs.+get+ordinary_get+proxy_exotic_get.{statement}
 use Rattle.getting.proofs.+get+ordinary_get+proxy_exotic_get.Tie.{close}
 

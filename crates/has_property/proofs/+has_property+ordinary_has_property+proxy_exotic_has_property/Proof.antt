@@ -23,10 +23,10 @@ use Rattle.has_property.proofs.proxy_exotic_has_property.Kinds as proxy
 use Rattle.has_property.proofs.+has_property+ordinary_has_property+proxy_exotic_has_property.Lts-proxy_exotic_has_property as proxy-exotic-has-property-lts
 use Rattle.calls.proofs.enter.Reads as enter-reads
 use Rattle.calls.proofs.has_trap.Reads as has-trap-reads
-use Rattle.has_property_trap.proofs.has_property_trap.Reads as has-property-trap-reads
+use Rattle.has_property.proofs.trap.has_property_trap.Reads as has-property-trap-reads
 use Rattle.own_property.proofs.get_own_property.Reads as get-own-property-reads
 use Rattle.prototypes.proofs.get_prototype_of.Reads as get-prototype-of-reads
-use Rattle.conversions.proofs.object_of.Reads as object-of-reads
+use Rattle.value_operations.proofs.object_of.Reads as object-of-reads
 use Rattle.has_property.proofs.+has_property+ordinary_has_property+proxy_exotic_has_property.{
   statement,
 }

@@ -18,9 +18,9 @@ use Rattle.own_keys.proofs.proxy_exotic_own_property_keys.Kinds as prox
 use Rattle.own_keys.proofs.+own_property_keys+proxy_exotic_own_property_keys.Lts-proxy_exotic_own_property_keys as proxy-exotic-own-property-keys-lts
 use Rattle.calls.proofs.enter.Reads as enter-reads
 use Rattle.calls.proofs.has_trap.Reads as has-trap-reads
-use Rattle.own_keys_check.proofs.checked_keys.Reads as checked-keys-reads
+use Rattle.own_keys.proofs.check.checked_keys.Reads as checked-keys-reads
 use Rattle.own_keys.proofs.ordinary_own_property_keys.Reads as ordinary-own-property-keys-reads
-use Rattle.own_keys_trap.proofs.own_keys_trap.Reads as own-keys-trap-reads
+use Rattle.own_keys.proofs.trap.own_keys_trap.Reads as own-keys-trap-reads
 use Rattle.own_keys.proofs.+own_property_keys+proxy_exotic_own_property_keys.{statement}
 use Rattle.own_keys.proofs.+own_property_keys+proxy_exotic_own_property_keys.Tie.{close}
 

@@ -6,7 +6,7 @@ use Prim.Native.Nat.{_+_, _*_}
 use Rattle.internal_methods.specs.Monad.{pure, fails, next, _>>=_, throwIf, if_then_else_}
 use Rattle.internal_methods.specs.Proxy.{hasTrap, proxyGetOwnProperty}
 use Rattle.calls.proofs.EnterLaws.{get-own-property-goes-on, proxy-deep}
-use Rattle.own_property_results.specs.Result.{undefinedResult, descriptorResult}
+use Rattle.own_property.specs.Result.{undefinedResult, descriptorResult}
 use Prim.Native.Nat.{ℕ, _<_}
 use borrow.Fn.Kinds.{In}
 use borrow.Fn.PlainCycle.{Measures, is, falls, and}
@@ -16,12 +16,12 @@ use Rattle.own_property.proofs.+get_own_property+proxy_exotic_get_own_p
 use Rattle.own_property.proofs.proxy_exotic_get_own_property.Reads as proxy-exotic-get-own-property
 use Rattle.own_property.proofs.proxy_exotic_get_own_property.Kinds as proxy-exotic-get-own-property-kinds
 use Rattle.own_property.proofs.+get_own_property+proxy_exotic_get_own_property.Lts-proxy_exotic_get_own_property as proxy-exotic-get-own-property-lts
-use Rattle.answers.proofs.next_descriptor.Reads as next-descriptor-reads
+use Rattle.calls.proofs.answers.next_descriptor.Reads as next-descriptor-reads
 use Rattle.calls.proofs.enter.Reads as enter-reads
 use Rattle.calls.proofs.has_trap.Reads as has-trap-reads
-use Rattle.own_property_results.proofs.descriptor_result.Reads as descriptor-result-reads
+use Rattle.own_property.proofs.results.descriptor_result.Reads as descriptor-result-reads
 use Rattle.own_property.proofs.ordinary_get_own_property.Reads as ordinary-get-own-property-reads
-use Rattle.own_property_results.proofs.undefined_result.Reads as undefined-result-reads
+use Rattle.own_property.proofs.results.undefined_result.Reads as undefined-result-reads
 use Rattle.own_property.proofs.+get_own_property+proxy_exotic_get_own_property.{statement}
 use Rattle.own_property.proofs.+get_own_property+proxy_exotic_get_own_property.Tie.{close}
 

@@ -6,9 +6,9 @@ use Rattle.performing.proofs.perform.Tie as tie
 use Rattle.performing.proofs.perform.Reads as reads
 use Rattle.performing.proofs.perform.Lts as lts
 use Rattle.performing.proofs.perform_making.Reads as perform-making-reads
-use Rattle.performing_reads.proofs.is_reading.Reads as is-reading-reads
-use Rattle.performing_reads.proofs.perform_reading.Reads as perform-reading-reads
-use Rattle.performing_writes.proofs.perform_writing.Reads as perform-writing-reads
+use Rattle.performing.proofs.reads.is_reading.Reads as is-reading-reads
+use Rattle.performing.proofs.reads.perform_reading.Reads as perform-reading-reads
+use Rattle.performing.proofs.writes.perform_writing.Reads as perform-writing-reads
 
 -- src/lib.rt:51:8
 is-reading-requires : tie.Need-is-reading-requires

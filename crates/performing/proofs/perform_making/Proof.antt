@@ -5,15 +5,15 @@ use borrow.Author.Needs.{needs}
 use Rattle.calls.specs.Told.{context}
 use Rattle.lasting.specs.Operation.{operationOf}
 use Rattle.lasting.specs.Perform.{maximumCalls}
-use Rattle.making.proofs.MakingLaws.{object-made, proxy-made, proxy-revoked}
+use Rattle.performing.proofs.MakingLaws.{object-made, proxy-made, proxy-revoked}
 use borrow.Author.Needs.{needs}
 use Rattle.performing.proofs.perform_making.Statement.{statement}
 use Rattle.performing.proofs.perform_making.Tie as tie
 use Rattle.performing.proofs.perform_making.Reads as reads
 use Rattle.performing.proofs.perform_making.Lts as lts
-use Rattle.making.proofs.make_object.Reads as make-object-reads
-use Rattle.making.proofs.make_proxy.Reads as make-proxy-reads
-use Rattle.making.proofs.revoke.Reads as revoke-reads
+use Rattle.performing.proofs.creation.make_object.Reads as make-object-reads
+use Rattle.performing.proofs.creation.make_proxy.Reads as make-proxy-reads
+use Rattle.performing.proofs.creation.revoke.Reads as revoke-reads
 
 -- src/lib.rt:32:14
 make-object-requires : tie.Need-make-object-requires

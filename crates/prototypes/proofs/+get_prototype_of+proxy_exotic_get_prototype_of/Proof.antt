@@ -15,12 +15,12 @@ use Rattle.prototypes.proofs.+get_prototype_of+proxy_exotic_get_prototy
 use Rattle.prototypes.proofs.proxy_exotic_get_prototype_of.Reads as proxy-exotic-get-prototype-of
 use Rattle.prototypes.proofs.proxy_exotic_get_prototype_of.Kinds as proxy-exotic-get-prototype-of-kinds
 use Rattle.prototypes.proofs.+get_prototype_of+proxy_exotic_get_prototype_of.Lts-proxy_exotic_get_prototype_of as proxy-exotic-get-prototype-of-lts
-use Rattle.answers.proofs.next_prototype.Reads as next-prototype-reads
+use Rattle.calls.proofs.answers.next_prototype.Reads as next-prototype-reads
 use Rattle.calls.proofs.enter.Reads as enter-reads
 use Rattle.calls.proofs.has_trap.Reads as has-trap-reads
 use Rattle.extensibility.proofs.is_extensible.Reads as is-extensible-reads
 use Rattle.prototypes.proofs.ordinary_get_prototype_of.Reads as ordinary-get-prototype-of-reads
-use Rattle.equality.proofs.same_value.Reads as same-value-reads
+use Rattle.value_operations.proofs.equality.same_value.Reads as same-value-reads
 use Rattle.prototypes.proofs.+get_prototype_of+proxy_exotic_get_prototype_of.{statement}
 use Rattle.prototypes.proofs.+get_prototype_of+proxy_exotic_get_prototype_of.Tie.{close}
 

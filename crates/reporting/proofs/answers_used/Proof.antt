@@ -10,7 +10,7 @@ use Rattle.reporting.proofs.answers_used.Tie as tie
 use Rattle.reporting.proofs.answers_used.Reads as reads
 use Rattle.reporting.proofs.answers_used.Lts as lts
 use Rattle.reporting.proofs.wide.Reads as wide-reads
-use Rattle.unread.proofs.unread.Reads as unread-reads
+use Rattle.sheet.proofs.counting.unread.Reads as unread-reads
 
 -- src/lib.rt:45:45
 shared-slice-read-wide : tie.Need-shared-slice-read-wide

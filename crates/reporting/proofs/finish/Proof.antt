@@ -6,7 +6,7 @@ use Rattle.reporting.proofs.finish.Reads as reads
 use Rattle.reporting.proofs.finish.Lts as lts
 use Rattle.reporting.proofs.completed.Reads as completed-reads
 use Rattle.reporting.proofs.failed.Reads as failed-reads
-use Rattle.store_commit.proofs.commit.Reads as commit-reads
+use Rattle.store_write.proofs.commit.Reads as commit-reads
 
 -- src/lib.rt:111:27
 enum-known-p : tie.Need-enum-known-p

@@ -10,7 +10,7 @@ use Rattle.internal_methods.specs.Proxy.{hasTrap, proxySet}
 use Rattle.calls.proofs.EnterLaws.{set-goes-on, ordinary-deep, proxy-deep}
 use Rattle.value.proofs.Objects.{is-object, is-no-object}
 use Rattle.setting.specs.Set.{setAccessor}
-use Rattle.setting_trap.specs.SetByTrap.{setByTrap}
+use Rattle.setting.specs.SetByTrap.{setByTrap}
 use Prim.Native.Nat.{ℕ, _<_}
 use borrow.Fn.Kinds.{In}
 use borrow.Fn.PlainCycle.{Measures, is, falls, and}
@@ -29,8 +29,8 @@ use Rattle.own_property.proofs.get_own_property.Reads as get-own-property-reads
 use Rattle.prototypes.proofs.get_prototype_of.Reads as get-prototype-of-reads
 use Rattle.setting.proofs.set_accessor.Reads as set-accessor-reads
 use Rattle.setting.proofs.set_data.Reads as set-data-reads
-use Rattle.setting_trap.proofs.set_trap.Reads as set-trap-reads
-use Rattle.conversions.proofs.object_of.Reads as object-of-reads
+use Rattle.setting.proofs.trap.set_trap.Reads as set-trap-reads
+use Rattle.value_operations.proofs.object_of.Reads as object-of-reads
 use Rattle.setting.proofs.+ordinary_set+proxy_exotic_set+set.{statement}
 use Rattle.setting.proofs.+ordinary_set+proxy_exotic_set+set.Tie.{close}
 

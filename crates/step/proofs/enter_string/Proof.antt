@@ -6,7 +6,7 @@ use Rattle.step.proofs.enter_string.Tie as tie
 use Rattle.step.proofs.enter_string.Reads as reads
 use Rattle.step.proofs.enter_string.Lts as lts
 use Rattle.step.proofs.entered.Reads as entered-reads
-use Rattle.string_entry.proofs.enter.Reads as enter-reads
+use Rattle.text.proofs.entry.enter.Reads as enter-reads
 
 -- src/lib.rt:87:13
 enter-requires : tie.Need-enter-requires

@@ -3,9 +3,9 @@ use native.Mathlib.Omega.{arith}
 use mathlib.Core.Path.{sym, _∙_}
 use Rattle.store.specs.Words.{worldOf}
 use Rattle.lasting.specs.Step.{countsOf}
-use Rattle.sorted_words.proofs.ListLaws.{few-strings}
-use Rattle.record_tests.proofs.PassedLaws.{step-formed, step-length, sheet-there, sheet-formed, sheet-known, key-fits, code-low, code-high}
-use Rattle.listing.proofs.FitLaws.{sheet-fits}
+use Rattle.store_read.proofs.ListLaws.{few-strings}
+use Rattle.step_records.proofs.PassedLaws.{step-formed, step-length, sheet-there, sheet-formed, sheet-known, key-fits, code-low, code-high}
+use Rattle.performing.proofs.FitLaws.{sheet-fits}
 use Rattle.reporting.proofs.EndLaws.{finished-words, kept-words}
 use Rattle.step.proofs.StepLaws.{run-listed, run-performed, below}
 use borrow.Author.Needs.{needs}
@@ -13,11 +13,11 @@ use Rattle.step.proofs.run.Statement.{statement}
 use Rattle.step.proofs.run.Tie as tie
 use Rattle.step.proofs.run.Reads as reads
 use Rattle.step.proofs.run.Lts as lts
-use Rattle.listing.proofs.list.Reads as list-reads
+use Rattle.performing.proofs.listing.list.Reads as list-reads
 use Rattle.performing.proofs.perform.Reads as perform-reads
 use Rattle.reporting.proofs.finish.Reads as finish-reads
 use Rattle.reporting.proofs.start.Reads as start-reads
-use Rattle.step_reading.proofs.step_of.Reads as step-of-reads
+use Rattle.step_records.proofs.reading.step_of.Reads as step-of-reads
 
 -- src/lib.rt:38:9
 step-of-requires : tie.Need-step-of-requires

@@ -10,7 +10,7 @@ use Rattle.step.proofs.step.Statement.{statement}
 use Rattle.step.proofs.step.Tie as tie
 use Rattle.step.proofs.step.Reads as reads
 use Rattle.step.proofs.step.Lts as lts
-use Rattle.record_tests.proofs.record_refusal.Reads as record-refusal-reads
+use Rattle.step_records.proofs.record_refusal.Reads as record-refusal-reads
 use Rattle.reporting.proofs.refused.Reads as refused-reads
 use Rattle.step.proofs.is_memory.Reads as is-memory-reads
 use Rattle.step.proofs.run.Reads as run-reads

@@ -1,6 +1,6 @@
 use Rattle.store.specs.Words.{propertyOf}
 use Rattle.store_read.proofs.ReadLaws.{odd-flag, even-flag}
-use Rattle.export_tests.specs.Export.{rowProperty}
+use Rattle.store_export.specs.Export.{rowProperty}
 use borrow.Author.Needs.{needs}
 use Rattle.store_export.proofs.property_of.Statement.{statement}
 use Rattle.store_export.proofs.property_of.Tie as tie

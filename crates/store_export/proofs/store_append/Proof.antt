@@ -3,7 +3,7 @@ use mathlib.Core.Path.{sym, _∙_}
 use native.Mathlib.Omega.{arith}
 use Rattle.store_read.proofs.ReadLaws.{sized}
 use Rattle.store_export.proofs.ExportLaws.{addable, add-words, add-count}
-use Rattle.export_tests.specs.Export.{added, addAnswer}
+use Rattle.store_export.specs.Export.{added, addAnswer}
 use borrow.Author.Needs.{needs}
 use Rattle.store_export.proofs.store_append.Statement.{statement}
 use Rattle.store_export.proofs.store_append.Tie as tie

@@ -1,5 +1,5 @@
 use mathlib.Core.Path.{sym, _∙_}
-use Rattle.export_tests.specs.Export.{findAnswer}
+use Rattle.store_export.specs.Export.{findAnswer}
 use borrow.Author.Needs.{needs}
 use Rattle.store_export.proofs.store_find.Statement.{statement}
 use Rattle.store_export.proofs.store_find.Tie as tie

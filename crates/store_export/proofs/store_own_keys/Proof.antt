@@ -1,7 +1,7 @@
 use denote.Ref.{now}
 use mathlib.Core.Path.{sym, _∙_}
 use Rattle.store_export.proofs.ExportLaws.{listable, list-count, list-words}
-use Rattle.export_tests.specs.Export.{listed, listAnswer}
+use Rattle.store_export.specs.Export.{listed, listAnswer}
 use borrow.Author.Needs.{needs}
 use Rattle.store_export.proofs.store_own_keys.Statement.{statement}
 use Rattle.store_export.proofs.store_own_keys.Tie as tie

@@ -3,7 +3,7 @@ use mathlib.Core.Path.{sym, _∙_}
 use native.Mathlib.Omega.{arith}
 use Rattle.store_read.proofs.ReadLaws.{sized}
 use Rattle.store_export.proofs.ExportLaws.{removable, remove-words, remove-count}
-use Rattle.export_tests.specs.Export.{removed, removeAnswer}
+use Rattle.store_export.specs.Export.{removed, removeAnswer}
 use borrow.Author.Needs.{needs}
 use Rattle.store_export.proofs.store_remove.Statement.{statement}
 use Rattle.store_export.proofs.store_remove.Tie as tie

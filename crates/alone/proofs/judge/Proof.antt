@@ -1,9 +1,0 @@
-use borrow.Author.Needs.{needs}
-use Rattle.alone.proofs.judge.Statement.{statement}
-use Rattle.alone.proofs.judge.Tie as tie
-
-returns : tie.Need-returns
-returns c = rw (c .settled .ensures, c .before .is-accepted .ensures, c .before .before .validate .ensures)
-
-pub judge-spec : {M : Type 1} → statement M
-judge-spec = tie.close (tie.spec (λ c κs. search needs) (λ c κs. search needs) (λ c κs. search needs) returns)

@@ -1,0 +1,70 @@
+use Prim.Native.Nat.{_+_, _-_, _≤_}
+use native.Mathlib.Omega.{arith}
+use mathlib.Core.Path.{_≡_, refl, sym, _∙_}
+use lib.ListN.{length, length-set}
+use lib.Seq.{sets}
+use borrow.Author.Needs.{needs}
+use Rattle.record.specs.Bytes.{bytesOf}
+use Rattle.byte_records.proofs.ByteLaws.{store-step, store-end}
+use Rattle.byte_records.proofs.value_record.put_word.Statement.{statement}
+use Rattle.byte_records.proofs.value_record.put_word.Tie as tie
+use Rattle.byte_records.proofs.value_record.put_word.Reads as reads
+use Rattle.byte_records.proofs.value_record.put_word.Lts as lts
+
+abbrev Inv-loop : tie.InvT-loop
+Inv-loop out₀ at x rest₀ k₀ out rest k = (k ≤ 8) × ((length out ≡ length out₀) × (sets out₀ at (bytesOf 8 x) ≡ sets out (at + k) (bytesOf (8 - k) rest)))
+
+abbrev μ-loop : tie.MeasureT-loop
+μ-loop out₀ at x rest₀ k₀ out rest k = 8 - k
+
+-- src/bytes.rt:88:5
+loop-holds : tie.Need-loop-holds Inv-loop μ-loop
+loop-holds c = let e : c .args .at + 0 ≡ c .args .at = omega arith in (omega arith, (refl, rw e))
+
+-- src/bytes.rt:89:23
+cast-out : tie.Need-cast-out Inv-loop μ-loop
+cast-out c = search needs
+
+-- src/bytes.rt:89:13
+add-out : tie.Need-add-out Inv-loop μ-loop
+add-out c = omega arith
+
+-- src/bytes.rt:89:9
+slice-write-out : tie.Need-slice-write-out Inv-loop μ-loop
+slice-write-out c = omega arith
+
+-- src/bytes.rt:91:9
+add-k : tie.Need-add-k Inv-loop μ-loop
+add-k c = omega arith
+
+-- src/bytes.rt:88:5
+loop-less : tie.Need-loop-less Inv-loop μ-loop
+loop-less c = omega arith
+
+-- src/bytes.rt:88:5
+loop-again : tie.Need-loop-again Inv-loop μ-loop
+loop-again c = (omega arith, (simp length-set (c .before .loop .inv .1 .0), c .before .loop .inv .1 .1 ∙ store-step _ _ _ _ (c .loop-test .taken)))
+
+-- src/bytes.rt:82:1
+same-length : tie.Need-same-length Inv-loop μ-loop
+same-length c = c .before .loop .inv .1 .0
+
+-- src/bytes.rt:82:1
+returns : tie.Need-returns Inv-loop μ-loop
+returns c = sym (c .before .loop .inv .1 .1 ∙ store-end _ _ _ _ (c .loop-test .left))
+
+pub put-word-spec : {M : Type 1} → statement M
+put-word-spec =
+    tie.close
+    (tie.spec
+    Inv-loop
+    μ-loop
+    loop-holds
+    cast-out
+    add-out
+    slice-write-out
+    add-k
+    loop-less
+    loop-again
+    same-length
+    returns)

@@ -1,2 +1,0 @@
-pub mod KeyWordLaws
-pub mod MessageLaws

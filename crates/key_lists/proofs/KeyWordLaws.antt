@@ -1,0 +1,136 @@
+-- Laws of key lists in words. Assumes nothing.
+use Prim.Native.Nat.{ℕ, suc, _+_, _/_, _%_, _<_, _≤_}
+use native.Mathlib.Omega.{arith}
+use native.Mathlib.Numerals.{add-one}
+use mathlib.Core.Path.{_≡_, refl, sym, ap, _∙_}
+use mathlib.Core.Bool.{Bool, true, false, _||_, cond}
+use mathlib.Core.Option.{Option, none, some}
+use mathlib.Core.List.{List, [], _∷_, _++_, map}
+use lib.Dec.{eqb, ltb}
+use lib.ListN.{length, getD, take, drop, drop-of-length-le}
+use lib.Seq.{length-take-le, take-suc, drop-cons, getD-take}
+use borrow.Author.Tests.{eqb-true, eqb-false, eq-eqb, ne-eqb, ltb-true, lt-ltb, le-ltb}
+use Rattle.value.specs.declared.PropertyKey.{PropertyKey}
+use Rattle.value.specs.declared.PropertyKey.the-variants.{String, Symbol}
+use Rattle.value.specs.PropertyKey.{sameKey}
+use Rattle.value.specs.Words.{pick}
+use Rattle.value.proofs.Bools.{bool-ext, or-swap}
+use Rattle.store_read.specs.Answers.{keyFromWord}
+use Rattle.internal_methods.specs.KeyList.{hasKey, duplicate, duplicateMessage}
+use Rattle.key_lists.specs.KeyWords.{messageNumber, placeOfWord}
+
+-- One key in a word ---------------------------------------------------------------------------
+
+same-word : (a b : ℕ) (p q : Bool) → eqb (a % 2) 0 ≡ p → eqb (b % 2) 0 ≡ q
+    → sameKey (pick p (String (a / 2)) (Symbol (a / 2))) (pick q (String (b / 2)) (Symbol (b / 2))) ≡ eqb a b
+unfolding sameKey
+same-word a b true true e f =
+    let x : a % 2 ≡ 0 = eqb-true _ _ e in
+    let y : b % 2 ≡ 0 = eqb-true _ _ f in
+    bool-ext _ _ (λ h. let z = eqb-true (a / 2) (b / 2) h in eq-eqb a b (omega arith)) (λ h. let z = eqb-true a b h in eq-eqb (a / 2) (b / 2) (omega arith))
+same-word a b true false e f =
+    let x : a % 2 ≡ 0 = eqb-true _ _ e in
+    let y : b % 2 ≡ 0 → ⊥ = eqb-false _ _ f in
+    sym (ne-eqb a b (λ z. y (omega arith)))
+same-word a b false true e f =
+    let x : a % 2 ≡ 0 → ⊥ = eqb-false _ _ e in
+    let y : b % 2 ≡ 0 = eqb-true _ _ f in
+    sym (ne-eqb a b (λ z. x (omega arith)))
+same-word a b false false e f =
+    let x : a % 2 ≡ 0 → ⊥ = eqb-false _ _ e in
+    let y : b % 2 ≡ 0 → ⊥ = eqb-false _ _ f in
+    bool-ext _ _ (λ h. let z = eqb-true (a / 2) (b / 2) h in eq-eqb a b (omega arith)) (λ h. let z = eqb-true a b h in eq-eqb (a / 2) (b / 2) (omega arith))
+
+pub key-word : (a b : ℕ) → sameKey (keyFromWord a) (keyFromWord b) ≡ eqb a b
+unfolding keyFromWord
+key-word a b = same-word a b _ _ refl refl
+
+message-word : (w : ℕ) → duplicateMessage (keyFromWord w) ≡ 22 + w % 2
+unfolding keyFromWord
+message-word w = go (eqb (w % 2) 0) refl
+  where
+    go : (b : Bool) → eqb (w % 2) 0 ≡ b → duplicateMessage (pick b (String (w / 2)) (Symbol (w / 2))) ≡ 22 + w % 2
+    go true e = let z : w % 2 ≡ 0 = eqb-true _ _ e in omega arith
+    go false e = let z : w % 2 ≡ 0 → ⊥ = eqb-false _ _ e in omega arith
+
+pub ltb-suc : (a b : ℕ) → ltb a b ≡ ltb (suc a) (suc b)
+ltb-suc a b = bool-ext _ _ (λ h. lt-ltb (suc a) (suc b) (omega (arith, ltb-true a b h))) (λ h. lt-ltb a b (omega (arith, ltb-true (suc a) (suc b) h)))
+
+-- Where a word stands -----------------------------------------------------------------------
+
+pub next-word : (ws : List ℕ) (n i : ℕ) → n ≤ length ws → i < n → drop i (take n ws) ≡ getD ws i 0 ∷ drop (i + 1) (take n ws)
+next-word ws n i h l =
+    let s : i < length (take n ws) = omega (arith, length-take-le n ws h) in
+    rw (drop-cons (take n ws) i 0 s, getD-take n ws i 0 l, add-one i)
+
+pub no-more : (ws : List ℕ) (n i : ℕ) → n ≤ length ws → n ≤ i → drop i (take n ws) ≡ []
+no-more ws n i h l = drop-of-length-le (take n ws) {i = i} (omega (arith, length-take-le n ws h))
+
+module _ (word : ℕ) (ws : List ℕ) (i n : ℕ) (h : n ≤ length ws) where
+  pub place-hit : i < n → getD ws i 0 ≡ word → i ≡ i + placeOfWord word (drop i (take n ws))
+  unfolding placeOfWord
+  place-hit l e = rw (next-word ws n i h l, eq-eqb _ _ e) (omega arith)
+
+  pub place-step : i < n → (getD ws i 0 ≡ word → ⊥) → i + placeOfWord word (drop i (take n ws)) ≡ i + 1 + placeOfWord word (drop (i + 1) (take n ws))
+  unfolding placeOfWord
+  place-step l e = rw (next-word ws n i h l, ne-eqb _ _ e) (omega arith)
+
+  pub place-end : n ≤ i → i ≡ i + placeOfWord word (drop i (take n ws))
+  unfolding placeOfWord
+  place-end l = rw (no-more ws n i h l) (omega arith)
+
+-- Step 9 --------------------------------------------------------------------------------------
+
+-- a word stands among others where its key does
+pub place-has : (word : ℕ) (ws : List ℕ) → hasKey (keyFromWord word) (map keyFromWord ws) ≡ ltb (placeOfWord word ws) (length ws)
+unfolding hasKey placeOfWord
+place-has word [] = sym (le-ltb 0 0 (omega arith))
+place-has word (w ∷ ws) = rw (key-word w word) (go (eqb w word) (place-has word ws))
+  where
+    go : (b : Bool) → hasKey (keyFromWord word) (map keyFromWord ws) ≡ ltb (placeOfWord word ws) (length ws)
+        → (b || hasKey (keyFromWord word) (map keyFromWord ws)) ≡ ltb (cond b 0 (suc (placeOfWord word ws))) (suc (length ws))
+    go true ih = sym (lt-ltb 0 (suc (length ws)) (omega arith))
+    go false ih = ih ∙ ltb-suc (placeOfWord word ws) (length ws)
+
+snoc-has : (k l : PropertyKey) (ls : List PropertyKey) → hasKey k (ls ++ (l ∷ [])) ≡ hasKey k (l ∷ ls)
+unfolding hasKey
+snoc-has k l [] = refl
+snoc-has k l (m ∷ ms) = ap (λ (x : Bool). sameKey m k || x) (snoc-has k l ms) ∙ or-swap (sameKey m k) (sameKey l k) (hasKey k ms)
+
+-- the order of the keys before does not count
+duplicate-same : (before others ks : List PropertyKey) → ((k : PropertyKey) → hasKey k before ≡ hasKey k others) → duplicate before ks ≡ duplicate others ks
+unfolding duplicate hasKey
+duplicate-same before others [] h = refl
+duplicate-same before others (k ∷ ks) h =
+    rw (h k, duplicate-same (k ∷ before) (k ∷ others) ks (λ l. ap (λ (x : Bool). sameKey k l || x) (h l)))
+
+map-append : (ws vs : List ℕ) → map keyFromWord (ws ++ vs) ≡ map keyFromWord ws ++ map keyFromWord vs
+map-append [] vs = refl
+map-append (w ∷ ws) vs = ap (λ (l : List PropertyKey). keyFromWord w ∷ l) (map-append ws vs)
+
+-- of the words from i on, with those before it
+abbrev pub duplicateFrom : List ℕ → ℕ → ℕ → Option ℕ
+duplicateFrom ws n i = duplicate (map keyFromWord (take i ws)) (map keyFromWord (drop i (take n ws)))
+
+module _ (ws : List ℕ) (n i : ℕ) (h : n ≤ length ws) (l : i < n) where
+  place-before : hasKey (keyFromWord (getD ws i 0)) (map keyFromWord (take i ws)) ≡ ltb (placeOfWord (getD ws i 0) (take i ws)) i
+  place-before = place-has (getD ws i 0) (take i ws) ∙ ap (ltb (placeOfWord (getD ws i 0) (take i ws))) (length-take-le i ws (omega arith))
+
+  pub duplicate-hit : placeOfWord (getD ws i 0) (take i ws) < i → 22 + getD ws i 0 % 2 ≡ messageNumber (duplicateFrom ws n i)
+  unfolding duplicate
+  duplicate-hit g = rw (next-word ws n i h l, place-before, lt-ltb _ _ g) (sym (message-word (getD ws i 0)))
+
+  -- a new word joins those before it
+  grown : duplicate (keyFromWord (getD ws i 0) ∷ map keyFromWord (take i ws)) (map keyFromWord (drop (i + 1) (take n ws))) ≡ duplicateFrom ws n (i + 1)
+  grown =
+      duplicate-same _ _ _ (λ k. sym (snoc-has k (keyFromWord (getD ws i 0)) (map keyFromWord (take i ws))))
+      ∙ ap (λ (ks : List PropertyKey). duplicate ks (map keyFromWord (drop (i + 1) (take n ws))))
+      (sym (rw (add-one i, take-suc ws i 0 (omega arith)) (map-append (take i ws) (getD ws i 0 ∷ []))))
+
+  pub duplicate-step : i ≤ placeOfWord (getD ws i 0) (take i ws) → duplicateFrom ws n i ≡ duplicateFrom ws n (i + 1)
+  unfolding duplicate
+  duplicate-step g = rw (next-word ws n i h l, place-before, le-ltb _ _ g) grown
+
+pub duplicate-end : (ws : List ℕ) (n i : ℕ) → n ≤ length ws → n ≤ i → duplicateFrom ws n i ≡ none
+unfolding duplicate
+duplicate-end ws n i h g = rw (no-more ws n i h g)

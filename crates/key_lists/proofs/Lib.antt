@@ -1,0 +1,5 @@
+pub mod KeyWordLaws
+pub mod MessageLaws
+pub mod CheckLaws
+pub mod TurnLaws
+pub mod KeyLaws

@@ -1,0 +1,4 @@
+pub mod KeyWords
+pub mod Unchecked
+pub mod Records
+pub mod Keys

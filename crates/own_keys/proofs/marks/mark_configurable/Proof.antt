@@ -1,0 +1,101 @@
+use denote.Ref.{now}
+use Prim.Native.Nat.{_≤_, _-_}
+use native.Mathlib.Omega.{arith}
+use mathlib.Core.Path.{_≡_, refl, sym, _∙_}
+use mathlib.Core.List.{map}
+use lib.ListN.{length, take, length-set}
+use borrow.Author.Needs.{needs}
+use Rattle.store_read.specs.Answers.{keyFromWord}
+use Rattle.internal_methods.specs.Proxy.{sorted}
+use Rattle.internal_methods.specs.Internal.{methods}
+use Rattle.calls.specs.Told.{context, stateOf}
+use Rattle.own_keys.proofs.MarkLaws.{sortedOnto, sorted-start, sorted-failed, sorted-more, sorted-end}
+use Rattle.own_keys.proofs.marks.mark_configurable.Statement.{statement}
+use Rattle.own_keys.proofs.marks.mark_configurable.Tie as tie
+use Rattle.own_keys.proofs.marks.mark_configurable.Reads as reads
+use Rattle.own_keys.proofs.marks.mark_configurable.Lts as lts
+use Rattle.own_keys.proofs.marks.mark_of.Reads as mark-of-reads
+use Rattle.own_property.proofs.get_own_property.Reads as get-own-property-reads
+use Rattle.store_read.proofs.key_from_word.Reads as key-from-word-reads
+
+abbrev Inv-loop : tie.InvT-loop
+Inv-loop words strings allowance sheet target keys m marks₀ depth t₀ i₀ marks t i =
+    (i ≤ m) × ((length marks ≡ length marks₀) × (sorted (methods depth (context words strings allowance) .getOwnProperty target) (map keyFromWord (take m keys)) .run (stateOf sheet t₀) ≡ sortedOnto (methods depth (context words strings allowance) .getOwnProperty target) keys m marks i (stateOf sheet t)))
+
+abbrev μ-loop : tie.MeasureT-loop
+μ-loop words strings allowance sheet target keys m marks₀ depth t₀ i₀ marks t i = m - i
+
+loop-holds : tie.Need-loop-holds Inv-loop μ-loop
+loop-holds c = (omega arith, (refl, sorted-start (methods (c .before .before .before .before .before .args .depth) (context (now (c .before .before .before .before .before .args .words)) (now (c .before .before .before .before .before .args .strings)) (c .before .before .before .before .before .args .allowance)) .getOwnProperty (c .before .before .before .before .before .args .target)) (now (c .before .before .before .before .before .args .keys)) (c .before .before .before .before .before .args .m) (now (c .before .before .before .before .before .args .marks)) (c .before .before .before .before .before .pre .1 .0) _))
+
+mul-key-from-word : tie.Need-mul-key-from-word Inv-loop μ-loop
+mul-key-from-word c = omega arith
+
+shared-slice-read-key-from-word : tie.Need-shared-slice-read-key-from-word Inv-loop μ-loop
+shared-slice-read-key-from-word c = omega arith
+
+key-from-word-requires : tie.Need-key-from-word-requires Inv-loop μ-loop
+key-from-word-requires c κs = search needs
+
+get-own-property-requires : tie.Need-get-own-property-requires Inv-loop μ-loop
+get-own-property-requires c κs = c .before .before .before .before .before .before .before .before .before .pre .0
+
+enum-known-f : tie.Need-enum-known-f Inv-loop μ-loop
+enum-known-f c = search needs
+
+same-length : tie.Need-same-length Inv-loop μ-loop
+same-length c = c .before .before .before .before .before .before .before .loop .inv .1 .0
+
+returns : tie.Need-returns Inv-loop μ-loop
+returns c = sym (c .before .before .before .before .before .before .before .loop .inv .1 .1 ∙ sorted-failed (methods (c .before .before .before .before .before .before .before .before .before .before .before .before .before .args .depth) (context (now (c .before .before .before .before .before .before .before .before .before .before .before .before .before .args .words)) (now (c .before .before .before .before .before .before .before .before .before .before .before .before .before .args .strings)) (c .before .before .before .before .before .before .before .before .before .before .before .before .before .args .allowance)) .getOwnProperty (c .before .before .before .before .before .before .before .before .before .before .before .before .before .args .target)) (now (c .before .before .before .before .before .before .before .before .before .before .before .before .before .args .keys)) (c .before .before .before .before .before .before .before .before .before .before .before .before .before .args .m) (c .before .before .before .before .before .before .before .loop .marks) (c .before .before .before .before .before .before .before .before .before .before .before .before .before .pre .1 .0) (c .before .before .before .before .before .before .before .loop .i) (c .before .before .before .before .before .before .loop-test .taken) (omega (arith, c .before .before .before .before .before .before .before .loop .inv .1 .0, c .before .before .before .before .before .before .before .before .before .before .before .before .before .pre .1 .1)) (stateOf (now (c .before .before .before .before .before .before .before .before .before .before .before .before .before .args .sheet)) (c .before .before .before .before .before .before .before .loop .t)) _ _ (sym (rw (c .before .f .given .1, c .before .before .before .before .key-from-word .ensures) at (c .before .before .before .get-own-property .ensures))))
+
+enum-known-desc : tie.Need-enum-known-desc Inv-loop μ-loop
+enum-known-desc c = search needs
+
+mark-of-requires : tie.Need-mark-of-requires Inv-loop μ-loop
+mark-of-requires c κs = search needs
+
+mul-marks : tie.Need-mul-marks Inv-loop μ-loop
+mul-marks c = omega (arith, c .before .before .before .before .before .before .before .before .loop .inv .1 .0)
+
+slice-write-marks : tie.Need-slice-write-marks Inv-loop μ-loop
+slice-write-marks c = omega (arith, c .before .before .before .before .before .before .before .before .loop .inv .1 .0)
+
+add-i : tie.Need-add-i Inv-loop μ-loop
+add-i c = omega arith
+
+loop-less : tie.Need-loop-less Inv-loop μ-loop
+loop-less c = omega arith
+
+loop-again : tie.Need-loop-again Inv-loop μ-loop
+loop-again c = (omega arith, (rw length-set (c .before .before .before .before .before .before .before .before .loop .inv .1 .0), c .before .before .before .before .before .before .before .before .loop .inv .1 .1 ∙ sorted-more (methods (c .before .before .before .before .before .before .before .before .before .before .before .before .before .before .args .depth) (context (now (c .before .before .before .before .before .before .before .before .before .before .before .before .before .before .args .words)) (now (c .before .before .before .before .before .before .before .before .before .before .before .before .before .before .args .strings)) (c .before .before .before .before .before .before .before .before .before .before .before .before .before .before .args .allowance)) .getOwnProperty (c .before .before .before .before .before .before .before .before .before .before .before .before .before .before .args .target)) (now (c .before .before .before .before .before .before .before .before .before .before .before .before .before .before .args .keys)) (c .before .before .before .before .before .before .before .before .before .before .before .before .before .before .args .m) (c .before .before .before .before .before .before .before .before .loop .marks) (c .before .before .before .before .before .before .before .before .before .before .before .before .before .before .pre .1 .0) (c .before .before .before .before .before .before .before .before .loop .i) (c .before .before .before .before .before .before .before .loop-test .taken) (omega (arith, c .before .before .before .before .before .before .before .before .loop .inv .1 .0, c .before .before .before .before .before .before .before .before .before .before .before .before .before .before .pre .1 .1)) (stateOf (now (c .before .before .before .before .before .before .before .before .before .before .before .before .before .before .args .sheet)) (c .before .before .before .before .before .before .before .before .loop .t)) _ _ (sym (rw (c .before .before .desc .given .1, c .before .before .before .before .before .key-from-word .ensures) at (c .before .before .before .before .get-own-property .ensures))) _ (c .mark-of .ensures)))
+
+same-length-2 : tie.Need-same-length-2 Inv-loop μ-loop
+same-length-2 c = c .before .loop .inv .1 .0
+
+returns-2 : tie.Need-returns-2 Inv-loop μ-loop
+returns-2 c = sym (c .before .loop .inv .1 .1 ∙ sorted-end (methods (c .before .before .before .before .before .before .before .args .depth) (context (now (c .before .before .before .before .before .before .before .args .words)) (now (c .before .before .before .before .before .before .before .args .strings)) (c .before .before .before .before .before .before .before .args .allowance)) .getOwnProperty (c .before .before .before .before .before .before .before .args .target)) (now (c .before .before .before .before .before .before .before .args .keys)) (c .before .before .before .before .before .before .before .args .m) (c .before .loop .marks) (c .before .before .before .before .before .before .before .pre .1 .0) (c .before .loop .i) (stateOf (now (c .before .before .before .before .before .before .before .args .sheet)) (c .before .loop .t)) (omega arith))
+
+pub mark-configurable-spec : {M : Type 1} → statement M
+mark-configurable-spec =
+    tie.close
+    (tie.spec
+    Inv-loop
+    μ-loop
+    loop-holds
+    mul-key-from-word
+    shared-slice-read-key-from-word
+    key-from-word-requires
+    get-own-property-requires
+    enum-known-f
+    same-length
+    returns
+    enum-known-desc
+    mark-of-requires
+    mul-marks
+    slice-write-marks
+    add-i
+    loop-less
+    loop-again
+    same-length-2
+    returns-2)

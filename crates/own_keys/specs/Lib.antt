@@ -1,0 +1,5 @@
+pub mod Trap
+pub mod Checked
+pub mod Lists
+pub mod Loading
+pub mod Marks

@@ -1,0 +1,72 @@
+-- The end of a step that lists keys. Assumes nothing.
+use Prim.Native.Nat.{ℕ, _*_, _≤_, _<_}
+use mathlib.Core.Path.{_≡_, refl, sym, ap, _∙_}
+use mathlib.Core.Bool.{Bool, true, false}
+use mathlib.Core.List.{List, _++_, map}
+use lib.Dec.{leb}
+use lib.ListN.{length, take, drop}
+use borrow.Author.Tests.{le-leb, lt-leb}
+use Rattle.value.specs.declared.PropertyKey.{PropertyKey}
+use Rattle.store.specs.Words.{storeOf, worldOf}
+use Rattle.store_read.specs.Answers.{keyFromWord, Listed}
+use Rattle.store_read.proofs.ListLaws.{listed-length}
+use Rattle.internal_methods.specs.declared.Failure.{Failure}
+use Rattle.internal_methods.specs.Monad.{Answer, State, failed, done, pure, next, _>>=_}
+use Rattle.internal_methods.specs.Methods.{Context}
+use Rattle.internal_methods.specs.Internal.{methods}
+use Rattle.record.specs.Sheet.{sheetOf}
+use Rattle.calls.specs.declared.Progress.{Progress}
+use Rattle.calls.specs.Told.{stateOf}
+use Rattle.lasting.specs.declared.Report.{Report}
+use Rattle.lasting.specs.Operation.{ownPropertyKeys}
+use Rattle.lasting.specs.declared.Completion.the-variants.{Keys}
+use Rattle.lasting.specs.Perform.{keys, perform, maximumCalls}
+use Rattle.lasting.specs.Response.{reportOf, refusal}
+use Rattle.lasting.specs.Step.{keysBytes, ended}
+use Rattle.reporting.specs.Reports.{start, failureResponse, completionReport}
+use Rattle.reporting.specs.Memory.{Shown, shown, shownBy}
+use Rattle.reporting.proofs.EndLaws.{failing}
+
+module _ (words cells output : List ℕ) (answers : List Answer) (s : State) (ks : List PropertyKey) where
+  pub keys-held : leb (9 * length ks) (length output) ≡ true
+      → shown (completionReport answers (Keys (length ks)) s) words cells (keysBytes ks ++ drop (9 * length ks) output)
+      ≡ shownBy (ended (worldOf words cells) answers output (done (keys ks, storeOf words) s))
+  keys-held e = rw e
+
+  pub keys-refused : leb (9 * length ks) (length output) ≡ false
+      → shown (reportOf (refusal 11)) words cells output
+      ≡ shownBy (ended (worldOf words cells) answers output (done (keys ks, storeOf words) s))
+  keys-refused e = rw e
+
+-- what was written, and what was not
+module _ (words cells output before after : List ℕ) (answers : List Answer) (s : State) (ks : List PropertyKey) (n : ℕ) (l : Listed before after n ks) (r : Report) where
+  pub written-out : (out : List ℕ) → out ≡ keysBytes (map keyFromWord (take n after)) ++ drop (9 * n) output → 9 * n ≤ length output → r ≡ completionReport answers (Keys n) s
+      → shown r words cells out ≡ shownBy (ended (worldOf words cells) answers output (done (keys ks, storeOf words) s))
+  written-out out w h q =
+      let e : n ≡ length ks = listed-length before after n ks l in
+      rw (q, w, l .listed, e) (keys-held words cells output answers s ks (le-leb (9 * length ks) (length output) (rw (sym e) h)))
+
+  pub not-written : length output < 9 * n → r ≡ reportOf (refusal 11)
+      → shown r words cells output ≡ shownBy (ended (worldOf words cells) answers output (done (keys ks, storeOf words) s))
+  not-written h q =
+      let e : n ≡ length ks = listed-length before after n ks l in
+      rw q (keys-refused words cells output answers s ks (lt-leb (9 * length ks) (length output) (rw (sym e) h)))
+
+-- the operation's run, from the method's
+module _ (words cells sheet output : List ℕ) (c : Context) (o : ℕ) (s : Progress) (e : s ≡ start sheet) where
+  abbrev listing : Shown
+  listing = shownBy (ended (worldOf words cells) (sheetOf sheet) output (perform maximumCalls c (ownPropertyKeys o) .run (stateOf sheet (start sheet))))
+
+  pub listing-failed : (f : Failure) (t : State) (r : Report) → failed f t ≡ methods maximumCalls c .ownPropertyKeys o .run (stateOf sheet s)
+      → r ≡ reportOf (failureResponse (sheetOf sheet) f t) → shown r words cells output ≡ listing
+  unfolding perform pure next _>>=_
+  listing-failed f t r h q =
+      let k : failed f t ≡ methods maximumCalls c .ownPropertyKeys o .run (stateOf sheet (start sheet)) = h ∙ ap (λ (p : Progress). methods maximumCalls c .ownPropertyKeys o .run (stateOf sheet p)) e in
+      rw (sym k, q) (sym (failing words cells sheet output f t))
+
+  pub listing-done : (ks : List PropertyKey) (t : State) (x : Shown) → done ks t ≡ methods maximumCalls c .ownPropertyKeys o .run (stateOf sheet s)
+      → x ≡ shownBy (ended (worldOf words cells) (sheetOf sheet) output (done (keys ks, c .store) t)) → x ≡ listing
+  unfolding perform pure next _>>=_
+  listing-done ks t x h q =
+      let k : done ks t ≡ methods maximumCalls c .ownPropertyKeys o .run (stateOf sheet (start sheet)) = h ∙ ap (λ (p : Progress). methods maximumCalls c .ownPropertyKeys o .run (stateOf sheet p)) e in
+      rw (sym k) q

@@ -1,0 +1,106 @@
+-- The operations that make no calls, as the definitions have them. Assumes nothing.
+use Prim.Native.Nat.{ℕ}
+use native.Mathlib.Omega.{arith}
+use mathlib.Core.Path.{_≡_, refl}
+use mathlib.Core.Bool.{Bool, true, false, cond}
+use mathlib.Core.Option.{Option, none, some}
+use mathlib.Core.List.{List, [], _∷_}
+use types.Run.{OneOf, miss}
+use denote.Enum.Declared.{tagOf}
+use borrow.Author.Tests.{ltb-true}
+use lib.IntN.{ℤ, pos, negsuc, natAbs}
+use lib.Signed.{ltZ, nonNeg}
+use mir.Syntax.{w32, w64}
+use mir.Val.{SFits, Fits, ofZ, toZ}
+use mir.ValLaws.{toZ-ofZ}
+use Rattle.value.proofs.Value.{the-type}
+use lib.Dec.{T, ltb}
+use lib.ListN.{length}
+use Rattle.value.specs.declared.Value.{Value}
+use Rattle.value.specs.declared.Value.the-variants as value
+use Rattle.store.specs.declared.Object.{Object}
+use Rattle.store.specs.declared.Object.the-variants.{Ordinary, Proxy}
+use Rattle.store.specs.Store.{Store, lookup, add, maximumObjects}
+use Rattle.internal_methods.specs.Monad.{done, pure, fails, if_then_else_}
+use Rattle.internal_methods.specs.Methods.{Context}
+use Rattle.calls.specs.declared.Progress.{Progress}
+use Rattle.calls.specs.Told.{stateOf}
+use Rattle.lasting.specs.Operation.{makeObject, makeProxy, revoke, maskNumber, maskOf}
+use Rattle.lasting.specs.Perform.{make, perform, boolean, revoked}
+use Rattle.lasting.specs.Perform as result
+use Rattle.lasting.specs.declared.Completion.the-variants as completion
+use Rattle.store_write.specs.declared.write.Write.the-variants as write
+use Rattle.internal_methods.specs.declared.Failure.the-variants.{Refused}
+use Rattle.reporting.specs.declared.Performed.the-variants.{Failed, Done}
+use Rattle.reporting.specs.Performed.{toldPerformed}
+use Rattle.performing.specs.Creation.{makeOut, makeObjectOut, makeProxyOut, revokeOut, revocation}
+use Rattle.store.specs.Words.{storeOf, isStore}
+use Rattle.store_write.specs.Write.{fitsIn}
+use Rattle.store_read.proofs.ReadLaws.{lookup-below}
+
+module _ (sheet : List ℕ) (s : Progress) where
+  making : (σ : Store) (x : Object) (b : Bool)
+      → toldPerformed sheet σ (cond b (Done (completion.Value (value.Object (length (σ .objects)))) (write.NewObject x) s) (Failed (Refused 7) s))
+      ≡ (if b then pure (result.value (value.Object (length (σ .objects))), add σ x) else fails (Refused 7)) .run (stateOf sheet s)
+  unfolding pure fails if_then_else_
+  making σ x true = refl
+  making σ x false = refl
+
+  made : (σ : Store) (x : Object) → toldPerformed sheet σ (makeOut σ x s) ≡ make σ x .run (stateOf sheet s)
+  unfolding makeOut make
+  made σ x = making σ x (ltb (length (σ .objects)) maximumObjects)
+
+  module _ (depth : ℕ) (c : Context) where
+    pub object-made : (v : Value) → toldPerformed sheet (c .store) (makeObjectOut (c .store) v s) ≡ perform depth c (makeObject v) .run (stateOf sheet s)
+    unfolding perform
+    object-made v = made (c .store) _
+
+    pub proxy-made : (o : ℕ) (mask : Value) → toldPerformed sheet (c .store) (makeProxyOut (c .store) o mask s) ≡ perform depth c (makeProxy o (maskOf mask)) .run (stateOf sheet s)
+    unfolding perform
+    proxy-made o mask = made (c .store) _
+
+    revoking : (o : ℕ) (x : Option Object) → toldPerformed sheet (c .store) (revokeOut o x s) ≡ done (boolean true, revoked (c .store) o x) (stateOf sheet s)
+    revoking o none = refl
+    revoking o (some (Ordinary r)) = refl
+    revoking o (some (Proxy p)) = refl
+
+    pub proxy-revoked : (o : ℕ) → toldPerformed sheet (c .store) (revokeOut o (lookup (c .store) o) s) ≡ perform depth c (revoke o) .run (stateOf sheet s)
+    unfolding perform pure
+    proxy-revoked o = revoking o (lookup (c .store) o)
+
+-- trap masks that are signed numbers
+negative : (z : ℤ) → ltZ z (pos 0) ≡ true → 0 ≡ maskNumber z
+negative (pos n) e = absurd (omega (arith, ltb-true n 0 e))
+negative (negsuc k) e = refl
+
+natural : (z : ℤ) → ltZ z (pos 0) ≡ false → natAbs z ≡ maskNumber z
+natural (pos n) e = refl
+natural (negsuc k) e = cc
+
+pub negative-mask : (z : ℤ) → SFits w32 z → ltZ (toZ w32 (ofZ w32 z)) (pos 0) ≡ true → 0 ≡ maskNumber z
+negative-mask z s e = negative z (rw (toZ-ofZ w32 z s) at e)
+
+pub natural-mask : (z : ℤ) → SFits w32 z → ltZ (toZ w32 (ofZ w32 z)) (pos 0) ≡ false → natAbs (toZ w32 (ofZ w32 z)) ≡ maskNumber z
+natural-mask z s e = rw (toZ-ofZ w32 z s) (natural z (rw (toZ-ofZ w32 z s) at e))
+
+natural-fits : (z : ℤ) → ltZ z (pos 0) ≡ false → SFits w32 z → T (nonNeg z) × Fits w64 (natAbs z)
+natural-fits (pos n) e f = (tt, record { fits = omega (arith, f .sfits) })
+natural-fits (negsuc k) e f = let y : _≡_ {A = ℕ} 0 1 = cc in absurd (omega arith)
+
+pub mask-fits : (z : ℤ) → SFits w32 z → ltZ (toZ w32 (ofZ w32 z)) (pos 0) ≡ false → T (nonNeg (toZ w32 (ofZ w32 z))) × Fits w64 (natAbs (toZ w32 (ofZ w32 z)))
+mask-fits z s e = rw (toZ-ofZ w32 z s) (natural-fits z (rw (toZ-ofZ w32 z s) at e) s)
+
+pub no-mask : (v : Value) → OneOf (0 ∷ 1 ∷ 2 ∷ 4 ∷ 5 ∷ 6 ∷ 7 ∷ 8 ∷ []) (tagOf the-type v) → 0 ≡ maskOf v
+no-mask value.Undefined h = refl
+no-mask value.Null h = refl
+no-mask (value.Boolean b) h = refl
+no-mask (value.Integer32 n) h = absurd (miss (0 ∷ 1 ∷ 2 ∷ 4 ∷ 5 ∷ 6 ∷ 7 ∷ 8 ∷ []) 3 tt h)
+no-mask (value.Float64 x) h = refl
+no-mask (value.String s) h = refl
+no-mask (value.Symbol s) h = refl
+no-mask (value.Object o) h = refl
+no-mask (value.Function f) h = refl
+
+pub revocation-fits : (words : List ℕ) (o : ℕ) (x : Object) → isStore words ≡ true → lookup (storeOf words) o ≡ some x → fitsIn (revocation o x) words
+revocation-fits words o (Ordinary r) s e = record { store = s; bounds = tt }
+revocation-fits words o (Proxy p) s e = record { store = s; bounds = lookup-below words o (Proxy p) e }

@@ -1,0 +1,89 @@
+-- A method's end as an operation's end, in the definitions. Assumes nothing.
+use Prim.Native.Nat.{ℕ, _<_, _≤_}
+use native.Mathlib.Omega.{arith}
+use mathlib.Core.Path.{_≡_, refl, sym, ap, _∙_}
+use mathlib.Core.Bool.{Bool, true, false, _||_}
+use mathlib.Core.List.{List}
+use lib.Dec.{eqb}
+use mathlib.Core.Option.{Option, none, some}
+use borrow.Author.Tests.{eqb-true, ne-eqb}
+use Rattle.value.specs.declared.PropertyKey.{PropertyKey}
+use Rattle.value.specs.declared.PropertyKey.the-variants.{String}
+use Rattle.value.specs.declared.KeyResult.{KeyResult}
+use Rattle.value.specs.declared.KeyResult.the-variants.{Key, NotKey}
+use Rattle.value.specs.Answers.{keyResult}
+use Rattle.lasting.specs.Operation.{keyOrFirst}
+use Rattle.value.specs.declared.Value.{Value}
+use Rattle.property.specs.declared.OwnProperty.{OwnProperty}
+use Rattle.property.specs.declared.OwnProperty.the-variants.{Absent, Present}
+use Rattle.store.specs.Store.{Store}
+use Rattle.store.specs.Words.{storeOf, isStore}
+use Rattle.internal_methods.specs.Monad.{State, Out, M, pure, next, _>>=_}
+use Rattle.store_write.specs.Write.{fitsIn}
+use Rattle.calls.specs.declared.ValueOut.{ValueOut}
+use Rattle.calls.specs.declared.ValueOut.the-variants as value
+use Rattle.calls.specs.declared.BooleanOut.{BooleanOut}
+use Rattle.calls.specs.declared.BooleanOut.the-variants as boolean
+use Rattle.calls.specs.declared.OwnPropertyOut.{OwnPropertyOut}
+use Rattle.calls.specs.declared.OwnPropertyOut.the-variants as own
+use Rattle.calls.specs.declared.WriteOut.{WriteOut}
+use Rattle.calls.specs.declared.WriteOut.the-variants as write
+use Rattle.calls.specs.Told.{toldValue, toldBoolean, toldOwnProperty, toldWrite, Fitting}
+use Rattle.lasting.specs.Perform.{reading, writing, ownResult}
+use Rattle.lasting.specs.Perform as result
+use Rattle.reporting.specs.Performed.{Taken, toldPerformed}
+use Rattle.performing.specs.Results.{isReading, valueResult, booleanResult, ownPropertyResult, writeResult}
+
+module _ (sheet : List ℕ) (σ : Store) (s : State) where
+  pub value-told : (m : M Value) (out : ValueOut) → toldValue sheet out ≡ m .run s → toldPerformed sheet σ (valueResult out) ≡ reading σ result.value m .run s
+  unfolding pure next _>>=_
+  value-told m (value.Failed f t) e = rw (sym e)
+  value-told m (value.Done v t) e = rw (sym e)
+
+  pub boolean-told : (m : M Bool) (out : BooleanOut) → toldBoolean sheet out ≡ m .run s → toldPerformed sheet σ (booleanResult out) ≡ reading σ result.boolean m .run s
+  unfolding pure next _>>=_
+  boolean-told m (boolean.Failed f t) e = rw (sym e)
+  boolean-told m (boolean.Done b t) e = rw (sym e)
+
+  pub own-told : (m : M OwnProperty) (out : OwnPropertyOut) → toldOwnProperty sheet out ≡ m .run s → toldPerformed sheet σ (ownPropertyResult out) ≡ reading σ ownResult m .run s
+  unfolding pure next _>>=_
+  own-told m (own.Failed f t) e = rw (sym e)
+  own-told m (own.Done Absent t) e = rw (sym e)
+  own-told m (own.Done (Present p) t) e = rw (sym e)
+
+  pub write-told : (m : M (Bool × Store)) (out : WriteOut) → toldWrite sheet σ out ≡ m .run s → toldPerformed sheet σ (writeResult out) ≡ writing m .run s
+  unfolding pure next _>>=_
+  write-told m (write.Failed f t) e = rw (sym e)
+  write-told m (write.Done b w t) e = rw (sym e)
+
+module _ (words : List ℕ) where
+  pub value-taken : isStore words ≡ true → (out : ValueOut) → Taken words (valueResult out)
+  value-taken h (value.Failed f t) = tt
+  value-taken h (value.Done v t) = (record { store = h; bounds = tt }, refl)
+
+  pub boolean-taken : isStore words ≡ true → (out : BooleanOut) → Taken words (booleanResult out)
+  boolean-taken h (boolean.Failed f t) = tt
+  boolean-taken h (boolean.Done b t) = (record { store = h; bounds = tt }, refl)
+
+  pub own-taken : isStore words ≡ true → (out : OwnPropertyOut) → Taken words (ownPropertyResult out)
+  own-taken h (own.Failed f t) = tt
+  own-taken h (own.Done Absent t) = (record { store = h; bounds = tt }, refl)
+  own-taken h (own.Done (Present p) t) = (record { store = h; bounds = tt }, refl)
+
+  pub write-taken : (out : WriteOut) → Fitting words out → Taken words (writeResult out)
+  write-taken (write.Failed f t) h = tt
+  write-taken (write.Done b w t) h = (h, refl)
+
+-- the key of a step, or the first
+pub key-there : (o : Option PropertyKey) (r : KeyResult) (k : PropertyKey) → r ≡ keyResult o → r ≡ Key k → k ≡ keyOrFirst o
+key-there none r k e f = let z : _≡_ {A = ℕ} 0 1 = cc in absurd (omega arith)
+key-there (some j) r k e f = cc
+
+pub key-missing : (o : Option PropertyKey) (r : KeyResult) → r ≡ keyResult o → r ≡ NotKey → String 0 ≡ keyOrFirst o
+key-missing none r e f = refl
+key-missing (some j) r e f = let z : _≡_ {A = ℕ} 0 1 = cc in absurd (omega arith)
+
+-- the last of the codes that read
+pub last-reading : (code : ℕ) → isReading code ≡ true → (code ≡ 4 → ⊥) → (code ≡ 6 → ⊥) → (code ≡ 8 → ⊥) → (code ≡ 10 → ⊥) → code ≡ 11
+unfolding isReading
+last-reading code e a b c d = eqb-true code 11 (simp (ne-eqb code 4 a, ne-eqb code 6 b, ne-eqb code 8 c, ne-eqb code 10 d) at e)

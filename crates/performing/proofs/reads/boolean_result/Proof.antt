@@ -1,0 +1,24 @@
+use borrow.Author.Needs.{needs}
+use Rattle.performing.proofs.reads.boolean_result.Statement.{statement}
+use Rattle.performing.proofs.reads.boolean_result.Tie as tie
+use Rattle.performing.proofs.reads.boolean_result.Reads as reads
+use Rattle.performing.proofs.reads.boolean_result.Lts as lts
+
+-- src/lib.rt:40:28
+enum-known-out : tie.Need-enum-known-out
+enum-known-out c = search needs
+
+-- src/lib.rt:41:26
+enum-known-out-2 : tie.Need-enum-known-out-2
+enum-known-out-2 c = search needs
+
+-- src/lib.rt:36:1
+returns : tie.Need-returns
+returns c = rw (c .before .out .given .1)
+
+-- src/lib.rt:36:1
+returns-2 : tie.Need-returns-2
+returns-2 c = rw (c .before .out2 .given .1)
+
+pub boolean-result-spec : {M : Type 1} → statement M
+boolean-result-spec = tie.close (tie.spec enum-known-out enum-known-out-2 returns returns-2)

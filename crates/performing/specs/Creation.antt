@@ -1,0 +1,36 @@
+-- What the code answers for the operations that make no calls. Assumes nothing.
+use Prim.Native.Nat.{ℕ}
+use mathlib.Core.Bool.{Bool, true, false, cond}
+use mathlib.Core.Option.{Option, none, some}
+use lib.Dec.{ltb}
+use lib.ListN.{length}
+use Rattle.value.specs.declared.Value.{Value}
+use Rattle.value.specs.declared.Value.the-variants as value
+use Rattle.store.specs.declared.Object.{Object}
+use Rattle.store.specs.declared.Object.the-variants.{Ordinary, Proxy}
+use Rattle.store.specs.Store.{Store, maximumObjects}
+use Rattle.store_write.specs.declared.write.Write.{Write}
+use Rattle.store_write.specs.declared.write.Write.the-variants as write
+use Rattle.internal_methods.specs.declared.Failure.the-variants.{Refused}
+use Rattle.calls.specs.declared.Progress.{Progress}
+use Rattle.lasting.specs.declared.Completion.the-variants as completion
+use Rattle.lasting.specs.Operation.{maskOf}
+use Rattle.reporting.specs.declared.Performed.{Performed}
+use Rattle.reporting.specs.declared.Performed.the-variants.{Failed, Done}
+
+unfoldable pub makeOut : Store → Object → Progress → Performed
+makeOut σ x s = cond (ltb (length (σ .objects)) maximumObjects) (Done (completion.Value (value.Object (length (σ .objects)))) (write.NewObject x) s) (Failed (Refused 7) s)
+
+abbrev pub makeObjectOut : Store → Value → Progress → Performed
+makeObjectOut σ v s = makeOut σ (Ordinary (record { prototype = v; extensible = true })) s
+
+abbrev pub makeProxyOut : Store → ℕ → Value → Progress → Performed
+makeProxyOut σ o mask s = makeOut σ (Proxy (record { target = o; traps = maskOf mask; revoked = false })) s
+
+abbrev pub revocation : ℕ → Object → Write
+revocation o (Ordinary r) = write.Nothing
+revocation o (Proxy p) = write.Object o (Proxy (record { target = p .target; traps = p .traps; revoked = true }))
+
+abbrev pub revokeOut : ℕ → Option Object → Progress → Performed
+revokeOut o none s = Done (completion.Value (value.Boolean true)) write.Nothing s
+revokeOut o (some x) s = Done (completion.Value (value.Boolean true)) (revocation o x) s

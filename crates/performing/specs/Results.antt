@@ -1,0 +1,58 @@
+-- How a method's end becomes an operation's. Assumes nothing.
+use Prim.Native.Nat.{ℕ, _<_, _≤_, _^_}
+use mathlib.Core.Bool.{Bool, _||_}
+use mathlib.Core.List.{List}
+use lib.Dec.{eqb}
+use Rattle.value.specs.declared.Value.the-variants as language
+use Rattle.value.specs.PropertyKey.{keyOf}
+use Rattle.property.specs.declared.OwnProperty.{OwnProperty}
+use Rattle.property.specs.declared.OwnProperty.the-variants.{Absent, Present}
+use Rattle.store.specs.Store.{maximumProperties}
+use Rattle.store_write.specs.declared.write.Write.the-variants.{Nothing}
+use Rattle.store_write.specs.Write.{numberIn}
+use Rattle.record.specs.declared.Step.{Step}
+use Rattle.calls.specs.declared.Progress.{Progress}
+use Rattle.calls.specs.declared.ValueOut.{ValueOut}
+use Rattle.calls.specs.declared.ValueOut.the-variants as value
+use Rattle.calls.specs.declared.BooleanOut.{BooleanOut}
+use Rattle.calls.specs.declared.BooleanOut.the-variants as boolean
+use Rattle.calls.specs.declared.OwnPropertyOut.{OwnPropertyOut}
+use Rattle.calls.specs.declared.OwnPropertyOut.the-variants as own
+use Rattle.calls.specs.declared.WriteOut.{WriteOut}
+use Rattle.calls.specs.declared.WriteOut.the-variants as write
+use Rattle.calls.specs.Told.{Readable}
+use Rattle.lasting.specs.declared.Completion.{Completion}
+use Rattle.lasting.specs.declared.Completion.the-variants as completion
+use Rattle.lasting.specs.Operation.{keyOrFirst}
+use Rattle.reporting.specs.declared.Performed.{Performed}
+use Rattle.reporting.specs.declared.Performed.the-variants.{Failed, Done}
+
+-- what performing asks of the memory, the allowance and the step's key
+pub record Performable (words cells : List ℕ) (allowance : ℕ) (s : Step) : Type 0 where
+  pub readable : Readable words cells
+  pub allowed : allowance ≤ maximumProperties
+  pub key : numberIn (keyOrFirst (keyOf (s .key))) < 2 ^ 58
+
+-- the codes of the methods that write nothing and list no keys
+unfoldable pub isReading : ℕ → Bool
+isReading code = eqb code 4 || (eqb code 6 || (eqb code 8 || (eqb code 10 || eqb code 11)))
+
+abbrev pub valueResult : ValueOut → Performed
+valueResult (value.Failed f s) = Failed f s
+valueResult (value.Done v s) = Done (completion.Value v) Nothing s
+
+abbrev pub booleanResult : BooleanOut → Performed
+booleanResult (boolean.Failed f s) = Failed f s
+booleanResult (boolean.Done b s) = Done (completion.Value (language.Boolean b)) Nothing s
+
+abbrev pub ownCompletion : OwnProperty → Completion
+ownCompletion Absent = completion.Absent
+ownCompletion (Present p) = completion.Descriptor p
+
+abbrev pub ownPropertyResult : OwnPropertyOut → Performed
+ownPropertyResult (own.Failed f s) = Failed f s
+ownPropertyResult (own.Done p s) = Done (ownCompletion p) Nothing s
+
+abbrev pub writeResult : WriteOut → Performed
+writeResult (write.Failed f s) = Failed f s
+writeResult (write.Done b w s) = Done (completion.Value (language.Boolean b)) w s

@@ -1,0 +1,117 @@
+// Making objects and proxies, and revoking a proxy: the operations that make no calls.
+use calls::Progress;
+use internal_methods::Failure;
+use lasting::Completion;
+use reporting::Performed;
+use store::Object;
+use store::OrdinaryObject;
+use store::ProxyObject;
+use store_read::ObjectFound;
+use store_write::Write;
+use value::Value;
+ghost use mathlib.Core.Path.{_≡_};
+ghost use mathlib.Core.Bool.{true};
+ghost use Rattle.store.specs.Store.{lookup};
+ghost use Rattle.store.specs.Words.{isStore, storeOf};
+ghost use Rattle.lasting.specs.Operation.{maskNumber, maskOf};
+ghost use Rattle.reporting.specs.Performed.{Taken};
+ghost use Rattle.performing.specs.Creation.{makeOut, makeObjectOut, makeProxyOut, revokeOut, revocation};
+
+// An object has the next number, if there is one.
+fn make(words: &[u64], x: Object, s: Progress) -> Performed
+    requires { ⌜ isStore (now words) ≡ true ⌝ }
+    ensures { λ r. ⌜ r ≡ makeOut (storeOf (now (words .entry))) x s ⌝ }
+    ensures { λ r. ⌜ Taken (now (words .entry)) r ⌝ }
+{
+    let n = store_read::object_count(words);
+    if n < 32 {
+        let number = n as u64;
+        return Performed::Done(
+            Completion::Value(Value::Object(number)),
+            Write::NewObject(x),
+            s,
+        );
+    }
+    Performed::Failed(Failure::Refused(7), s)
+}
+
+// Code 1: an ordinary object
+pub fn make_object(words: &[u64], prototype: Value, s: Progress) -> Performed
+    requires { ⌜ isStore (now words) ≡ true ⌝ }
+    ensures { λ r. ⌜ r ≡ makeObjectOut (storeOf (now (words .entry))) prototype s ⌝ }
+    ensures { λ r. ⌜ Taken (now (words .entry)) r ⌝ }
+{
+    let object = OrdinaryObject {
+        prototype,
+        extensible: true,
+    };
+    make(words, Object::Ordinary(object), s)
+}
+
+fn mask_number(n: i32) -> u64
+    ensures { λ r. ⌜ r ≡ maskNumber n ⌝ }
+{
+    if n < 0 {
+        return 0;
+    }
+    n as u64
+}
+
+// The trap mask that a value is.
+fn mask_of(v: Value) -> u64
+    ensures { λ r. ⌜ r ≡ maskOf v ⌝ }
+{
+    match v {
+        Value::Integer32(n) => mask_number(n),
+        _ => 0,
+    }
+}
+
+// Code 2: a proxy over an object
+pub fn make_proxy(words: &[u64], target: u64, mask: Value, s: Progress) -> Performed
+    requires { ⌜ isStore (now words) ≡ true ⌝ }
+    ensures { λ r. ⌜ r ≡ makeProxyOut (storeOf (now (words .entry))) target mask s ⌝ }
+    ensures { λ r. ⌜ Taken (now (words .entry)) r ⌝ }
+{
+    let proxy = ProxyObject {
+        target,
+        traps: mask_of(mask),
+        revoked: false,
+    };
+    make(words, Object::Proxy(proxy), s)
+}
+
+// The write that revokes a proxy.
+fn revocation(o: u64, x: Object) -> Write
+    ensures { λ r. ⌜ r ≡ revocation o x ⌝ }
+{
+    match x {
+        Object::Ordinary(_) => Write::Nothing,
+        Object::Proxy(p) => Write::Object(
+            o,
+            Object::Proxy(ProxyObject {
+                target: p.target,
+                traps: p.traps,
+                revoked: true,
+            }),
+        ),
+    }
+}
+
+// Code 3: a proxy is revoked; again is harmless
+pub fn revoke(words: &[u64], o: u64, s: Progress) -> Performed
+    requires { ⌜ isStore (now words) ≡ true ⌝ }
+    ensures { λ r. ⌜ r ≡ revokeOut o (lookup (storeOf (now (words .entry))) o) s ⌝ }
+    ensures { λ r. ⌜ Taken (now (words .entry)) r ⌝ }
+{
+    match store_read::object_at(words, o) {
+        ObjectFound::Missing => {
+            Performed::Done(Completion::Value(Value::Boolean(true)), Write::Nothing, s)
+        }
+        ObjectFound::Made(x) => Performed::Done(
+            Completion::Value(Value::Boolean(true)),
+            revocation(o, x),
+            s,
+        ),
+    }
+}

@@ -1,0 +1,4 @@
+pub mod TestLaws
+pub mod PassedLaws
+pub mod MaskLaws
+pub mod KeyLaws

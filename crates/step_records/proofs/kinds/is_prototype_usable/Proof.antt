@@ -1,0 +1,14 @@
+use Rattle.internal_methods.proofs.Longer.{left}
+use borrow.Author.Needs.{needs}
+use mathlib.Core.Path.{_∙_, sym}
+use Rattle.step_records.proofs.kinds.is_prototype_usable.Statement.{statement}
+use Rattle.step_records.proofs.kinds.is_prototype_usable.Tie as tie
+
+returns : tie.Need-returns
+returns c = rw (sym (c .before .before .uses-prototype .ensures) ∙ c .before .if1 .taken, c .is-null-or-object .ensures)
+
+returns-2 : tie.Need-returns-2
+returns-2 c = rw (sym (c .before .uses-prototype .ensures) ∙ c .if1 .left)
+
+pub is-prototype-usable-spec : {M : Type 1} → statement M
+is-prototype-usable-spec = tie.close (tie.spec (λ c κs. search needs) (λ c κs. search needs) returns returns-2)

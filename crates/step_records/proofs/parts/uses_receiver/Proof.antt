@@ -1,0 +1,13 @@
+use Rattle.internal_methods.proofs.Longer.{left}
+use borrow.Author.Tests.{eq-eqb, ne-eqb}
+use Rattle.step_records.proofs.parts.uses_receiver.Statement.{statement}
+use Rattle.step_records.proofs.parts.uses_receiver.Tie as tie
+
+returns : tie.Need-returns
+returns c = rw (eq-eqb _ _ (c .if1 .taken))
+
+returns-2 : tie.Need-returns-2
+returns-2 c = rw (ne-eqb _ _ (c .if1 .left))
+
+pub uses-receiver-spec : {M : Type 1} → statement M
+uses-receiver-spec = tie.close (tie.spec returns returns-2)

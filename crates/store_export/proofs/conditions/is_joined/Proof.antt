@@ -1,0 +1,16 @@
+use borrow.Author.Tests.{lt-ltb, le-ltb}
+use Rattle.store_export.specs.Export.{isJoined}
+use borrow.Author.Needs.{needs}
+use Rattle.store_export.proofs.conditions.is_joined.Statement.{statement}
+use Rattle.store_export.proofs.conditions.is_joined.Tie as tie
+
+returns : tie.Need-returns
+unfolding isJoined
+returns c = rw (lt-ltb _ _ (c .if1 .taken))
+
+returns-2 : tie.Need-returns-2
+unfolding isJoined
+returns-2 c = rw (le-ltb _ _ (c .if1 .left))
+
+pub is-joined-spec : {M : Type 1} → statement M
+is-joined-spec = tie.close (tie.spec returns returns-2)

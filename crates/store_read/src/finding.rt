@@ -1,0 +1,88 @@
+// Reading the store's words: where a property stands, and what it is.
+use crate::Place;
+use property::OwnProperty;
+use property::Property;
+use value::PropertyKey;
+use value_operations::encoding;
+ghost use mathlib.Core.Path.{_≡_};
+ghost use mathlib.Core.Bool.{true};
+ghost use Prim.Native.Nat.{ℕ, _<_};
+ghost use lib.Dec.{eqb};
+ghost use Rattle.store.specs.Store as store;
+ghost use Rattle.store.specs.Words.{isStore, storeOf, propertyIn};
+ghost use Rattle.store_read.specs.Answers.{findPlace, firstPlace, keyWords};
+
+const KEYS: usize = 98;
+
+const ROWS: usize = 354;
+
+const NUMBERS: u64 = 288230376151711744;
+
+// Where the first key word stands that equals the word.
+fn find_word(words: &[u64], word: u64) -> Place
+    requires { ⌜ isStore (now words) ≡ true ⌝ }
+    ensures { λ r. ⌜ r ≡ firstPlace (λ (w : ℕ). eqb w word) 0 (keyWords (now (words .entry))) ⌝ }
+{
+    let n = crate::property_count(words);
+    let mut i: usize = 0;
+    while i < n {
+        if words[KEYS + i] == word {
+            return Place::At(i);
+        }
+        i += 1;
+    }
+    Place::Nothing
+}
+
+// No key word holds an object from 32 on, or a number from 2^58 on.
+pub fn find(words: &[u64], o: u64, key: PropertyKey) -> Place
+    requires { ⌜ isStore (now words) ≡ true ⌝ }
+    ensures { λ r. ⌜ r ≡ findPlace (storeOf (now (words .entry)) .properties) o key ⌝ }
+{
+    if o < 32 {
+        match key {
+            PropertyKey::String(s) => {
+                if s < NUMBERS {
+                    return find_word(words, o + 64 * s);
+                }
+                return Place::Nothing;
+            }
+            PropertyKey::Symbol(s) => {
+                if s < NUMBERS {
+                    return find_word(words, o + 32 + 64 * s);
+                }
+                return Place::Nothing;
+            }
+        }
+    }
+    Place::Nothing
+}
+
+fn property_at(words: &[u64], i: usize) -> Property
+    requires { ⌜ (isStore (now words) ≡ true) × (i < 256) ⌝ }
+    ensures { λ r. ⌜ r ≡ propertyIn (now (words .entry)) i ⌝ }
+{
+    let at = ROWS + 5 * i;
+    let flags = words[at];
+    let a = encoding::value_of(words[at + 1], words[at + 2]);
+    if flags % 2 == 1 {
+        let b = encoding::value_of(words[at + 3], words[at + 4]);
+        return Property::Accessor(a, b, flags / 4 % 2 == 1, flags / 8 % 2 == 1);
+    }
+    Property::Data(
+        a,
+        flags / 2 % 2 == 1,
+        flags / 4 % 2 == 1,
+        flags / 8 % 2 == 1,
+    )
+}
+
+pub fn own(words: &[u64], o: u64, key: PropertyKey) -> OwnProperty
+    requires { ⌜ isStore (now words) ≡ true ⌝ }
+    ensures { λ r. ⌜ r ≡ store.own (storeOf (now (words .entry))) o key ⌝ }
+{
+    match find(words, o, key) {
+        Place::At(i) => OwnProperty::Present(property_at(words, i)),
+        Place::Nothing => OwnProperty::Absent,
+    }
+}

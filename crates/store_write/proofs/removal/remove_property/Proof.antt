@@ -1,0 +1,122 @@
+use Rattle.store_write.proofs.WriteLaws.{sized, length-moved, became, becomes-without, turn-hit, turn-miss, turn-end}
+use Rattle.store.specs.Words.{keyWord, swept, withoutRow}
+use Rattle.value.specs.declared.PropertyKey.{PropertyKey}
+use lib.ListN.{length, length-set}
+use native.Mathlib.Nat.{sub-zero}
+use Prim.Native.Nat.{_-_, _≤_}
+use denote.Ref.{now}
+use mathlib.Core.Path.{_≡_, sym, ap, _∙_}
+use native.Mathlib.Omega.{arith}
+use Rattle.store_write.proofs.removal.remove_property.Statement.{statement}
+use Rattle.store_write.proofs.removal.remove_property.Tie as tie
+
+abbrev Inv-loop : tie.InvT-loop
+Inv-loop words₀ o n key i₀ j₀ words i j =
+    (i ≤ n) × ((j ≤ i) × ((length words ≡ 1634) × ((k : PropertyKey) → key ≡ keyWord o k → withoutRow words₀ o k ≡ swept (n - i) words o k i j)))
+
+abbrev μ-loop : tie.MeasureT-loop
+μ-loop words₀ o n key i₀ j₀ words i j = n - i
+
+slice-read-n : tie.Need-slice-read-n Inv-loop μ-loop
+slice-read-n c = let s = sized (now (c .before .before .args .words)) (c .before .before .pre .0) in omega arith
+
+key-word-requires : tie.Need-key-word-requires Inv-loop μ-loop
+key-word-requires c κs = c .before .before .pre .1
+
+loop-holds : tie.Need-loop-holds Inv-loop μ-loop
+unfolding withoutRow
+loop-holds c =
+    let s = sized (now (c .before .before .before .args .words)) (c .before .before .before .pre .0) in (omega arith, (omega arith, (s .size, λ k e. rw sub-zero)))
+
+add-if1 : tie.Need-add-if1 Inv-loop μ-loop
+add-if1 c = let s = sized (now (c .before .before .before .before .before .args .words)) (c .before .before .before .before .before .pre .0) in omega arith
+
+mul-if1 : tie.Need-mul-if1 Inv-loop μ-loop
+mul-if1 c = let s = sized (now (c .before .before .before .before .before .args .words)) (c .before .before .before .before .before .pre .0) in omega arith
+
+slice-read-if1 : tie.Need-slice-read-if1 Inv-loop μ-loop
+slice-read-if1 c = let s = sized (now (c .before .before .before .before .before .before .args .words)) (c .before .before .before .before .before .before .pre .0) in omega arith
+
+add-i : tie.Need-add-i Inv-loop μ-loop
+add-i c = let s = sized (now (c .before .before .before .before .before .before .before .args .words)) (c .before .before .before .before .before .before .before .pre .0) in omega arith
+
+loop-less : tie.Need-loop-less Inv-loop μ-loop
+loop-less c = omega arith
+
+loop-again : tie.Need-loop-again Inv-loop μ-loop
+loop-again c =
+    let g = c .before .before .before .loop .inv in (
+      omega arith,
+      (
+        omega arith,
+        (
+          g .1 .1 .0,
+          λ k e.
+              g .1 .1 .1 k e ∙ turn-hit (c .before .before .before .loop .words) (c .before .before .before .before .before .before .before .args .o) k (c .before .before .before .loop .i) _ (c .before .before .before .loop .j) _ (c .before .before .loop-test .taken) (c .before .before .before .before .before .before .before .pre .1 .owner) e (c .if1 .taken),
+        ),
+      ),
+    )
+
+move-entry-requires : tie.Need-move-entry-requires Inv-loop μ-loop
+move-entry-requires c κs =
+    let s = sized (now (c .before .before .before .before .before .before .before .before .args .words)) (c .before .before .before .before .before .before .before .before .pre .0) in (c .before .before .before .before .loop .inv .1 .1 .0, (omega arith, omega arith))
+
+add-i-2 : tie.Need-add-i-2 Inv-loop μ-loop
+add-i-2 c = let s = sized (now (c .before .before .before .before .before .before .before .before .before .before .before .args .words)) (c .before .before .before .before .before .before .before .before .before .before .before .pre .0) in omega arith
+
+add-j : tie.Need-add-j Inv-loop μ-loop
+add-j c = let s = sized (now (c .before .before .before .before .before .before .before .before .before .before .before .args .words)) (c .before .before .before .before .before .before .before .before .before .before .before .pre .0) in omega arith
+
+loop-less-2 : tie.Need-loop-less-2 Inv-loop μ-loop
+loop-less-2 c = omega arith
+
+loop-again-2 : tie.Need-loop-again-2 Inv-loop μ-loop
+loop-again-2 c =
+    let g = c .before .before .before .before .before .before .before .loop .inv in
+    let m = c .before .before .move-entry .ensures in (
+      omega arith,
+      (
+        omega arith,
+        (
+          ap length m ∙ length-moved (c .before .before .before .before .before .before .before .loop .words) (c .before .before .before .before .before .before .before .loop .i) (c .before .before .before .before .before .before .before .loop .j) ∙ g .1 .1 .0,
+          λ k e.
+              rw m (g .1 .1 .1 k e ∙ turn-miss (c .before .before .before .before .before .before .before .loop .words) (c .before .before .before .before .before .before .before .before .before .before .before .args .o) k (c .before .before .before .before .before .before .before .loop .i) _ (c .before .before .before .before .before .before .before .loop .j) _ (c .before .before .before .before .before .before .loop-test .taken) (c .before .before .before .before .before .before .before .before .before .before .before .pre .1 .owner) e (c .before .before .before .before .if1 .left)),
+        ),
+      ),
+    )
+
+slice-write-words : tie.Need-slice-write-words Inv-loop μ-loop
+slice-write-words c = omega (arith, c .before .loop .inv .1 .1 .0)
+
+same-length : tie.Need-same-length Inv-loop μ-loop
+same-length c = let s = sized (now (c .before .before .before .before .before .args .words)) (c .before .before .before .before .before .pre .0) in simp length-set (c .before .loop .inv .1 .1 .0 ∙ sym (s .size))
+
+returns : tie.Need-returns Inv-loop μ-loop
+returns c =
+    let a = c .before .before .before .before .before .args in
+    became (sym (c .before .loop .inv .1 .1 .1 (a .k) (c .before .before .key-word .ensures) ∙ turn-end (c .before .loop .words) (a .o) (a .k) (c .before .loop .i) _ (c .before .loop .j) (c .before .before .key-word .result) (c .loop-test .left)))
+    (becomes-without (now (a .words)) (c .before .before .before .before .before .pre .0) (a .o) (a .k))
+
+pub remove-property-spec : {M : Type 1} → statement M
+remove-property-spec =
+    tie.close
+    (tie.spec
+    Inv-loop
+    μ-loop
+    slice-read-n
+    key-word-requires
+    loop-holds
+    add-if1
+    mul-if1
+    slice-read-if1
+    add-i
+    loop-less
+    loop-again
+    move-entry-requires
+    add-i-2
+    add-j
+    loop-less-2
+    loop-again-2
+    slice-write-words
+    same-length
+    returns)

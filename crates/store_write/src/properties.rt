@@ -1,0 +1,83 @@
+// Writing a property into the store's words.
+use crate::PropertyWords;
+use property::Property;
+use value::PropertyKey;
+use value_operations::bits;
+use value_operations::encoding;
+ghost use mathlib.Core.Path.{_≡_};
+ghost use mathlib.Core.Bool.{true};
+ghost use Prim.Native.Nat.{_<_};
+ghost use lib.ListN.{length};
+ghost use Rattle.store.specs.Store.{withProperty, withChange};
+ghost use Rattle.store.specs.Words.{storeSize, wordAt, keyWord, storeOf, isStore, withRow, withNewRow};
+ghost use Rattle.store_write.specs.Write.{PropertyCells, FitsProperty, Joins, New, Becomes};
+
+pub fn key_word(o: u64, k: PropertyKey) -> u64
+    requires { ⌜ Joins o k ⌝ }
+    ensures { λ r. ⌜ r ≡ keyWord o k ⌝ }
+{
+    match k {
+        PropertyKey::String(s) => o + 64 * s,
+        PropertyKey::Symbol(s) => o + 32 + 64 * s,
+    }
+}
+
+fn property_words(p: Property) -> PropertyWords
+    ensures { λ r. ⌜ PropertyCells p r ⌝ }
+{
+    match p {
+        Property::Data(v, w, e, c) => {
+            let a = encoding::words_of(v);
+            PropertyWords {
+                flags: bits::weight(w, 2) + bits::weight(e, 4) + bits::weight(c, 8),
+                kind: a.kind,
+                payload: a.payload,
+                second_kind: 0,
+                second_payload: 0,
+            }
+        }
+        Property::Accessor(g, s, e, c) => {
+            let a = encoding::words_of(g);
+            let b = encoding::words_of(s);
+            PropertyWords {
+                flags: 1 + bits::weight(e, 4) + bits::weight(c, 8),
+                kind: a.kind,
+                payload: a.payload,
+                second_kind: b.kind,
+                second_payload: b.payload,
+            }
+        }
+    }
+}
+
+fn write_row(words: &mut [u64], i: usize, p: Property)
+    requires { ⌜ (length (now words) ≡ storeSize) × (i < 256) ⌝ }
+    ensures { λ _. ⌜ (now (words .exit) ≡ withRow (now (words .entry)) i p) × FitsProperty p ⌝ }
+{
+    let w = property_words(p);
+    let b = 354 + 5 * i;
+    words[b] = w.flags;
+    words[b + 1] = w.kind;
+    words[b + 2] = w.payload;
+    words[b + 3] = w.second_kind;
+    words[b + 4] = w.second_payload;
+}
+
+// The property of entry i is p.
+pub fn set_property(words: &mut [u64], i: usize, p: Property)
+    requires { ⌜ (isStore (now words) ≡ true) × (i < wordAt (now words) 1) ⌝ }
+    ensures { λ _. ⌜ Becomes (now (words .exit)) (withRow (now (words .entry)) i p) (withChange (storeOf (now (words .entry))) i p) ⌝ }
+{
+    write_row(words, i, p);
+}
+
+pub fn add_property(words: &mut [u64], o: u64, k: PropertyKey, p: Property)
+    requires { ⌜ (isStore (now words) ≡ true) × New (now words) o k ⌝ }
+    ensures { λ _. ⌜ Becomes (now (words .exit)) (withNewRow (now (words .entry)) o k p) (withProperty (storeOf (now (words .entry))) o k p) ⌝ }
+{
+    let n = words[1];
+    let last = n as usize;
+    words[98 + last] = key_word(o, k);
+    write_row(words, last, p);
+    words[1] = n + 1;
+}

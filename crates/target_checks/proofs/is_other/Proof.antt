@@ -1,9 +1,0 @@
-use borrow.Author.Needs.{needs}
-use Rattle.target_checks.proofs.is_other.Statement.{statement}
-use Rattle.target_checks.proofs.is_other.Tie as tie
-
-returns-3 : tie.Need-returns-3
-returns-3 c = rw (c .before .before .if1 .left, c .before .if2 .left, c .same-value .ensures)
-
-pub is-other-spec : {M : Type 1} → statement M
-is-other-spec = tie.close (tie.spec (λ c. search needs) (λ c. search needs) (λ c κs. search needs) returns-3)
