@@ -1,9 +1,9 @@
 // Prints a report as a line on the standard output.
 use byte_records::value_record;
-use lasting::Completion;
-use lasting::Outcome;
-use lasting::Report;
 use property::Property;
+use steps::Completion;
+use steps::Outcome;
+use steps::Report;
 use value::Value;
 use value_operations::encoding;
 ghost use Prim.Native.Nat.{_+_, _*_, _<_, _≤_};

@@ -12,7 +12,7 @@ ghost use Rattle.store.specs.Store.{Store, empty};
 ghost use Rattle.store.specs.Words.{storeSize, storeOf, isStore, worldOf};
 ghost use Rattle.store_write.specs.Write as store_writes;
 ghost use Rattle.text.specs.Answers as table_answers;
-ghost use Rattle.lasting.specs.Response.{reportOf};
+ghost use Rattle.steps.specs.Response.{reportOf};
 ghost use Rattle.reporting.specs.ReportWords.{reportWords};
 ghost use Rattle.reporting.specs.Memory.{stepOver, enterOver, WordsAfter};
 ghost use Rattle.descriptor_entries.specs.Entries.{completeOver, validateOver, mergeOver, verdictReport, isAccepted};

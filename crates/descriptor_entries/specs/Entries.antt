@@ -5,11 +5,11 @@ use mathlib.Core.List.{List}
 use Rattle.property.specs.declared.OwnProperty.{OwnProperty}
 use Rattle.property.specs.declared.OwnProperty.the-variants.{Absent, Present}
 use Rattle.store.specs.Words.{worldOf}
-use Rattle.lasting.specs.declared.Report.{Report}
-use Rattle.lasting.specs.Perform as result
-use Rattle.lasting.specs.Response.{reportOf, refusal}
-use Rattle.lasting.specs.Response as ending
-use Rattle.lasting.specs.Step.{countsOf}
+use Rattle.steps.specs.declared.Report.{Report}
+use Rattle.steps.specs.Perform as result
+use Rattle.steps.specs.Response.{reportOf, refusal}
+use Rattle.steps.specs.Response as ending
+use Rattle.steps.specs.Step.{countsOf}
 use Rattle.reporting.specs.Memory.{isMemory}
 use Rattle.descriptor_entries.specs.declared.operations.DescriptorAnswer.{DescriptorAnswer}
 use Rattle.descriptor_entries.specs.declared.operations.DescriptorAnswer.the-variants as answer

@@ -1,11 +1,11 @@
 // Completing, validating and merging descriptors over lent memory, which says how many objects and strings there are.
 use crate::operations::DescriptorAnswer;
 use crate::operations::Verdict;
-use lasting::Completion;
-use lasting::Outcome;
-use lasting::Report;
 use property::OwnProperty;
 use record::Counts;
+use steps::Completion;
+use steps::Outcome;
+use steps::Report;
 ghost use mathlib.Core.Path.{_≡_};
 ghost use Rattle.descriptor_entries.specs.Entries.{countsIn, answerReport, afterReport, verdictReport, isAccepted, completeOver, validateOver, mergeOver};
 

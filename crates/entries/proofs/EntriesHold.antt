@@ -8,16 +8,16 @@ use Rattle.value.proofs.Bools.{and-true, and-both}
 use Rattle.text.specs.Table.{isTable, stringsOf}
 use Rattle.store.specs.Store.{World, empty}
 use Rattle.store.specs.Words.{isStore, storeOf, worldOf}
-use Rattle.lasting.specs.declared.Outcome.{Outcome}
-use Rattle.lasting.specs.declared.Outcome.the-variants.{Refused, Result, TypeError, Thrown}
-use Rattle.lasting.specs.declared.Report.{Report}
-use Rattle.lasting.specs.Response.{Effect, reportOf}
-use Rattle.lasting.specs.Run.{Call, effect, runFrom, run, worldFrom}
-use Rattle.lasting.specs.Run as call
-use Rattle.lasting.specs.Refusals.{StepDecided}
-use Rattle.lasting.proofs.LastingHolds.{lasting}
-use Rattle.lasting.proofs.FurtherHold.{further}
-use Rattle.lasting.proofs.Decided.{step-decided}
+use Rattle.steps.specs.declared.Outcome.{Outcome}
+use Rattle.steps.specs.declared.Outcome.the-variants.{Refused, Result, TypeError, Thrown}
+use Rattle.steps.specs.declared.Report.{Report}
+use Rattle.steps.specs.Response.{Effect, reportOf}
+use Rattle.steps.specs.Run.{Call, effect, runFrom, run, worldFrom}
+use Rattle.steps.specs.Run as call
+use Rattle.demands.specs.Refusals.{StepDecided}
+use Rattle.demands.proofs.LastingHolds.{lasting}
+use Rattle.demands.proofs.FurtherHold.{further}
+use Rattle.demands.proofs.Decided.{step-decided}
 use Rattle.reporting.specs.Memory.{Shown, shownBy, isMemory, stepOver, enterOver, WordsAfter}
 use Rattle.entries.specs.Entries.{Memory, Called, stepped, entered, Calls, none, more, reported, Kept}
 

@@ -4,13 +4,13 @@ use mathlib.Core.Path.{_≡_}
 use mathlib.Core.List.{List, [], _∷_, map}
 use Rattle.text.specs.Table.{isTable}
 use Rattle.store.specs.Store.{Store}
-use Rattle.lasting.specs.declared.Report.{Report}
-use Rattle.lasting.specs.Response.{reportOf}
-use Rattle.lasting.specs.Run.{Call, Event, run}
-use Rattle.lasting.specs.Run as call
-use Rattle.lasting.specs.Lasting.{Lasting}
-use Rattle.lasting.specs.Further.{Further}
-use Rattle.lasting.specs.Refusals.{StepDecided}
+use Rattle.steps.specs.declared.Report.{Report}
+use Rattle.steps.specs.Response.{reportOf}
+use Rattle.steps.specs.Run.{Call, Event, run}
+use Rattle.steps.specs.Run as call
+use Rattle.demands.specs.Lasting.{Lasting}
+use Rattle.demands.specs.Further.{Further}
+use Rattle.demands.specs.Refusals.{StepDecided}
 use Rattle.store.specs.Words.{worldOf}
 use Rattle.reporting.specs.Memory.{shown, shownBy, stepOver, shownEntry, enterOver, WordsAfter}
 

@@ -25,7 +25,7 @@ use Rattle.record.specs.Sheet.{valuesAt, valuesPass}
 use Rattle.byte_records.proofs.ByteLaws.{length-value}
 use Rattle.store_read.specs.Answers.{keyFromWord, Listed}
 use Rattle.store_read.proofs.ListLaws.{Listing, listing-start, listing-more, listing-end}
-use Rattle.lasting.specs.Step.{keysBytes}
+use Rattle.steps.specs.Step.{keysBytes}
 use Rattle.key_lists.specs.Keys.{keysHeld, greatest}
 
 -- A value by its kind ---------------------------------------------------------------------

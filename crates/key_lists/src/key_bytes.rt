@@ -15,7 +15,7 @@ ghost use Rattle.record.specs.Tests.{isKnown};
 ghost use Rattle.record.specs.Step.{isSome};
 ghost use Rattle.record.specs.Sheet.{valuesAt, valuesPass};
 ghost use Rattle.store_read.specs.Answers.{keyFromWord, Listed};
-ghost use Rattle.lasting.specs.Step.{keysBytes};
+ghost use Rattle.steps.specs.Step.{keysBytes};
 ghost use Rattle.key_lists.specs.Keys.{keysHeld, greatest};
 
 // Its kind alone says whether a value is a key.

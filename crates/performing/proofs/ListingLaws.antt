@@ -17,12 +17,12 @@ use Rattle.internal_methods.specs.Internal.{methods}
 use Rattle.record.specs.Sheet.{sheetOf}
 use Rattle.calls.specs.declared.Progress.{Progress}
 use Rattle.calls.specs.Told.{stateOf}
-use Rattle.lasting.specs.declared.Report.{Report}
-use Rattle.lasting.specs.Operation.{ownPropertyKeys}
-use Rattle.lasting.specs.declared.Completion.the-variants.{Keys}
-use Rattle.lasting.specs.Perform.{keys, perform, maximumCalls}
-use Rattle.lasting.specs.Response.{reportOf, refusal}
-use Rattle.lasting.specs.Step.{keysBytes, ended}
+use Rattle.steps.specs.declared.Report.{Report}
+use Rattle.steps.specs.Operation.{ownPropertyKeys}
+use Rattle.steps.specs.declared.Completion.the-variants.{Keys}
+use Rattle.steps.specs.Perform.{keys, perform, maximumCalls}
+use Rattle.steps.specs.Response.{reportOf, refusal}
+use Rattle.steps.specs.Step.{keysBytes, ended}
 use Rattle.reporting.specs.Reports.{start, failureResponse, completionReport}
 use Rattle.reporting.specs.Memory.{Shown, shown, shownBy}
 use Rattle.reporting.proofs.EndLaws.{failing}

@@ -25,10 +25,10 @@ use Rattle.internal_methods.specs.Monad.{done, pure, fails, if_then_else_}
 use Rattle.internal_methods.specs.Methods.{Context}
 use Rattle.calls.specs.declared.Progress.{Progress}
 use Rattle.calls.specs.Told.{stateOf}
-use Rattle.lasting.specs.Operation.{makeObject, makeProxy, revoke, maskNumber, maskOf}
-use Rattle.lasting.specs.Perform.{make, perform, boolean, revoked}
-use Rattle.lasting.specs.Perform as result
-use Rattle.lasting.specs.declared.Completion.the-variants as completion
+use Rattle.steps.specs.Operation.{makeObject, makeProxy, revoke, maskNumber, maskOf}
+use Rattle.steps.specs.Perform.{make, perform, boolean, revoked}
+use Rattle.steps.specs.Perform as result
+use Rattle.steps.specs.declared.Completion.the-variants as completion
 use Rattle.store_write.specs.declared.write.Write.the-variants as write
 use Rattle.internal_methods.specs.declared.Failure.the-variants.{Refused}
 use Rattle.reporting.specs.declared.Performed.the-variants.{Failed, Done}

@@ -12,7 +12,7 @@ use Rattle.value.specs.declared.PropertyKey.the-variants.{String}
 use Rattle.value.specs.declared.KeyResult.{KeyResult}
 use Rattle.value.specs.declared.KeyResult.the-variants.{Key, NotKey}
 use Rattle.value.specs.Answers.{keyResult}
-use Rattle.lasting.specs.Operation.{keyOrFirst}
+use Rattle.steps.specs.Operation.{keyOrFirst}
 use Rattle.value.specs.declared.Value.{Value}
 use Rattle.property.specs.declared.OwnProperty.{OwnProperty}
 use Rattle.property.specs.declared.OwnProperty.the-variants.{Absent, Present}
@@ -29,8 +29,8 @@ use Rattle.calls.specs.declared.OwnPropertyOut.the-variants as own
 use Rattle.calls.specs.declared.WriteOut.{WriteOut}
 use Rattle.calls.specs.declared.WriteOut.the-variants as write
 use Rattle.calls.specs.Told.{toldValue, toldBoolean, toldOwnProperty, toldWrite, Fitting}
-use Rattle.lasting.specs.Perform.{reading, writing, ownResult}
-use Rattle.lasting.specs.Perform as result
+use Rattle.steps.specs.Perform.{reading, writing, ownResult}
+use Rattle.steps.specs.Perform as result
 use Rattle.reporting.specs.Performed.{Taken, toldPerformed}
 use Rattle.performing.specs.Results.{isReading, valueResult, booleanResult, ownPropertyResult, writeResult}
 

@@ -13,8 +13,8 @@ use Rattle.store_write.specs.declared.write.Write.{Write}
 use Rattle.store_write.specs.declared.write.Write.the-variants as write
 use Rattle.internal_methods.specs.declared.Failure.the-variants.{Refused}
 use Rattle.calls.specs.declared.Progress.{Progress}
-use Rattle.lasting.specs.declared.Completion.the-variants as completion
-use Rattle.lasting.specs.Operation.{maskOf}
+use Rattle.steps.specs.declared.Completion.the-variants as completion
+use Rattle.steps.specs.Operation.{maskOf}
 use Rattle.reporting.specs.declared.Performed.{Performed}
 use Rattle.reporting.specs.declared.Performed.the-variants.{Failed, Done}
 

@@ -21,9 +21,9 @@ use Rattle.calls.specs.declared.OwnPropertyOut.the-variants as own
 use Rattle.calls.specs.declared.WriteOut.{WriteOut}
 use Rattle.calls.specs.declared.WriteOut.the-variants as write
 use Rattle.calls.specs.Told.{Readable}
-use Rattle.lasting.specs.declared.Completion.{Completion}
-use Rattle.lasting.specs.declared.Completion.the-variants as completion
-use Rattle.lasting.specs.Operation.{keyOrFirst}
+use Rattle.steps.specs.declared.Completion.{Completion}
+use Rattle.steps.specs.declared.Completion.the-variants as completion
+use Rattle.steps.specs.Operation.{keyOrFirst}
 use Rattle.reporting.specs.declared.Performed.{Performed}
 use Rattle.reporting.specs.declared.Performed.the-variants.{Failed, Done}
 

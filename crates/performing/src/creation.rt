@@ -1,8 +1,8 @@
 // Making objects and proxies, and revoking a proxy: the operations that make no calls.
 use calls::Progress;
 use internal_methods::Failure;
-use lasting::Completion;
 use reporting::Performed;
+use steps::Completion;
 use store::Object;
 use store::OrdinaryObject;
 use store::ProxyObject;
@@ -13,7 +13,7 @@ ghost use mathlib.Core.Path.{_≡_};
 ghost use mathlib.Core.Bool.{true};
 ghost use Rattle.store.specs.Store.{lookup};
 ghost use Rattle.store.specs.Words.{isStore, storeOf};
-ghost use Rattle.lasting.specs.Operation.{maskNumber, maskOf};
+ghost use Rattle.steps.specs.Operation.{maskNumber, maskOf};
 ghost use Rattle.reporting.specs.Performed.{Taken};
 ghost use Rattle.performing.specs.Creation.{makeOut, makeObjectOut, makeProxyOut, revokeOut, revocation};
 

@@ -7,8 +7,8 @@ ghost use mathlib.Core.Bool.{true};
 ghost use Prim.Native.Nat.{_≤_, _<_};
 ghost use Rattle.store.specs.Words.{storeOf};
 ghost use Rattle.calls.specs.Told.{context, stateOf};
-ghost use Rattle.lasting.specs.Operation.{operationOf};
-ghost use Rattle.lasting.specs.Perform.{perform, maximumCalls};
+ghost use Rattle.steps.specs.Operation.{operationOf};
+ghost use Rattle.steps.specs.Perform.{perform, maximumCalls};
 ghost use Rattle.reporting.specs.Performed.{Taken, toldPerformed};
 ghost use Rattle.performing.specs.Results.{Performable};
 

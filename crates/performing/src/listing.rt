@@ -1,11 +1,11 @@
 // A step of [[OwnPropertyKeys]]: its keys stand at the output's start, 9 bytes each.
 use calls::Progress;
 use key_lists::key_bytes;
-use lasting::Completion;
-use lasting::Report;
 use own_keys::loading;
 use own_keys::loading::KeyList;
 use own_keys::loading::KeysOut;
+use steps::Completion;
+use steps::Report;
 ghost use mathlib.Core.Path.{_≡_};
 ghost use mathlib.Core.Bool.{true};
 ghost use Prim.Native.Nat.{_<_, _≤_};
@@ -18,10 +18,10 @@ ghost use Rattle.record.specs.Sheet.{sheetOf};
 ghost use Rattle.calls.specs.Told.{Readable, context, stateOf};
 ghost use Rattle.own_keys.specs.Lists.{areListsFit};
 ghost use Rattle.own_keys.specs.Loading.{listedKeys, Loadable};
-ghost use Rattle.lasting.specs.Operation.{ownPropertyKeys};
-ghost use Rattle.lasting.specs.Perform.{perform, maximumCalls};
-ghost use Rattle.lasting.specs.Perform as result;
-ghost use Rattle.lasting.specs.Step.{ended};
+ghost use Rattle.steps.specs.Operation.{ownPropertyKeys};
+ghost use Rattle.steps.specs.Perform.{perform, maximumCalls};
+ghost use Rattle.steps.specs.Perform as result;
+ghost use Rattle.steps.specs.Step.{ended};
 ghost use Rattle.reporting.specs.Reports.{start};
 ghost use Rattle.reporting.specs.Memory.{shown, shownBy};
 

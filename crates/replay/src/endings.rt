@@ -3,8 +3,8 @@ use crate::comparison::Ending;
 use crate::readout;
 use byte_records::numbers;
 use descriptor_entries::operations::Verdict;
-use lasting::Report;
 use reporting::report_words;
+use steps::Report;
 ghost use Prim.Native.Nat.{_≤_, _*_, _+_};
 ghost use lib.ListN.{length};
 

@@ -1,10 +1,10 @@
 // Values, properties, completions and the whole store as bytes, for a comparison: a number is written as the bits of its Float64, so that
 // equal bytes are SameValue. tests/engines/1-records.js has the layout. Bytes for which there is no room are dropped.
-use lasting::Completion;
-use lasting::Outcome;
 use property::OwnProperty;
 use property::Property;
 use reporting::report_words;
+use steps::Completion;
+use steps::Outcome;
 use store::Object;
 use store::OrdinaryObject;
 use store_read::ObjectFound;

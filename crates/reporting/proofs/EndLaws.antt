@@ -14,14 +14,14 @@ use Rattle.internal_methods.specs.Monad.{Answer, State, failed, done}
 use Rattle.record.specs.Sheet.{sheetOf}
 use Rattle.calls.specs.declared.Progress.{Progress}
 use Rattle.calls.specs.Told.{stateOf}
-use Rattle.lasting.specs.declared.Completion.{Completion}
-use Rattle.lasting.specs.declared.Completion.the-variants as completion
-use Rattle.lasting.specs.declared.Outcome.{Outcome}
-use Rattle.lasting.specs.declared.Outcome.the-variants as outcome
+use Rattle.steps.specs.declared.Completion.{Completion}
+use Rattle.steps.specs.declared.Completion.the-variants as completion
+use Rattle.steps.specs.declared.Outcome.{Outcome}
+use Rattle.steps.specs.declared.Outcome.the-variants as outcome
 use Rattle.store_write.specs.declared.write.Write.the-variants.{Nothing}
-use Rattle.lasting.specs.declared.Report.{Report}
-use Rattle.lasting.specs.Response.{Effect, reportOf, refusal}
-use Rattle.lasting.specs.Step.{ended, refusing}
+use Rattle.steps.specs.declared.Report.{Report}
+use Rattle.steps.specs.Response.{Effect, reportOf, refusal}
+use Rattle.steps.specs.Step.{ended, refusing}
 use Rattle.reporting.specs.declared.Performed.{Performed}
 use Rattle.reporting.specs.declared.Performed.the-variants.{Failed, Done}
 use Rattle.reporting.specs.Performed.{Taken, toldPerformed, isPlain, resultOf}

@@ -8,12 +8,12 @@ use Rattle.store.specs.Store.{Store, World}
 use Rattle.store.specs.Words.{isStore, worldOf}
 use Rattle.store_write.specs.declared.write.Write.{Write}
 use Rattle.store_write.specs.Write.{writtenTo}
-use Rattle.lasting.specs.declared.Outcome.{Outcome}
-use Rattle.lasting.specs.declared.Outcome.the-variants.{Refused, Result, TypeError, Thrown}
-use Rattle.lasting.specs.declared.Report.{Report}
-use Rattle.lasting.specs.Response.{Effect, reportOf}
-use Rattle.lasting.specs.Step.{step, refusing}
-use Rattle.lasting.specs.StringEntry.{enterString}
+use Rattle.steps.specs.declared.Outcome.{Outcome}
+use Rattle.steps.specs.declared.Outcome.the-variants.{Refused, Result, TypeError, Thrown}
+use Rattle.steps.specs.declared.Report.{Report}
+use Rattle.steps.specs.Response.{Effect, reportOf}
+use Rattle.steps.specs.Step.{step, refusing}
+use Rattle.steps.specs.StringEntry.{enterString}
 
 -- what a call shows: its report, and what the memory holds after it
 pub record Shown : Type 0 where

@@ -7,10 +7,10 @@ use Rattle.store.specs.Store.{Store}
 use Rattle.store_write.specs.Write.{applied, fitsIn}
 use Rattle.internal_methods.specs.Monad.{Out, failed, done}
 use Rattle.calls.specs.Told.{stateOf}
-use Rattle.lasting.specs.declared.Completion.{Completion}
-use Rattle.lasting.specs.declared.Completion.the-variants as completion
-use Rattle.lasting.specs.Perform.{Result}
-use Rattle.lasting.specs.Perform as result
+use Rattle.steps.specs.declared.Completion.{Completion}
+use Rattle.steps.specs.declared.Completion.the-variants as completion
+use Rattle.steps.specs.Perform.{Result}
+use Rattle.steps.specs.Perform as result
 use Rattle.reporting.specs.declared.Performed.{Performed}
 use Rattle.reporting.specs.declared.Performed.the-variants.{Failed, Done}
 

@@ -5,12 +5,12 @@ use Rattle.value.specs.declared.Value.{Value}
 use Rattle.value.specs.declared.Value.the-variants.{Undefined}
 use Rattle.value.specs.Words.{kindOf, payloadOf}
 use Rattle.store.specs.Words.{flagsOf, primary, secondary}
-use Rattle.lasting.specs.declared.Completion.{Completion}
-use Rattle.lasting.specs.declared.Completion.the-variants as completion
-use Rattle.lasting.specs.declared.Outcome.{Outcome}
-use Rattle.lasting.specs.declared.Outcome.the-variants as outcome
-use Rattle.lasting.specs.declared.Report.{Report}
-use Rattle.lasting.specs.Response.{outcomeNumber, refusalOrMessage}
+use Rattle.steps.specs.declared.Completion.{Completion}
+use Rattle.steps.specs.declared.Completion.the-variants as completion
+use Rattle.steps.specs.declared.Outcome.{Outcome}
+use Rattle.steps.specs.declared.Outcome.the-variants as outcome
+use Rattle.steps.specs.declared.Report.{Report}
+use Rattle.steps.specs.Response.{outcomeNumber, refusalOrMessage}
 
 abbrev pub completionForm : Completion → ℕ
 completionForm (completion.Value v) = 1

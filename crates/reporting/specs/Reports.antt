@@ -13,12 +13,12 @@ use Rattle.record.specs.Sheet.{sheetOf}
 use Rattle.calls.specs.declared.Progress.{Progress}
 use Rattle.calls.specs.Entering.{progress}
 use Rattle.calls.specs.Told.{stateOf}
-use Rattle.lasting.specs.declared.Completion.{Completion}
-use Rattle.lasting.specs.declared.Outcome.the-variants as outcome
-use Rattle.lasting.specs.declared.Report.{Report}
-use Rattle.lasting.specs.Perform.{maximumCalls}
-use Rattle.lasting.specs.Response.{Response, typeError, thrown, refusal, reportOf}
-use Rattle.lasting.specs.Step.{responding}
+use Rattle.steps.specs.declared.Completion.{Completion}
+use Rattle.steps.specs.declared.Outcome.the-variants as outcome
+use Rattle.steps.specs.declared.Report.{Report}
+use Rattle.steps.specs.Perform.{maximumCalls}
+use Rattle.steps.specs.Response.{Response, typeError, thrown, refusal, reportOf}
+use Rattle.steps.specs.Step.{responding}
 use Rattle.reporting.specs.declared.Performed.{Performed}
 use Rattle.reporting.specs.declared.Performed.the-variants.{Failed, Done}
 

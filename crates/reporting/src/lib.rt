@@ -1,10 +1,10 @@
 // What a step reports once its run has ended, and the commit of its write.
 use calls::Progress;
 use internal_methods::Failure;
-use lasting::Completion;
-use lasting::Outcome;
-use lasting::Report;
 use sheet::counting;
+use steps::Completion;
+use steps::Outcome;
+use steps::Report;
 use store_write::Write;
 ghost use mathlib.Core.Path.{_≡_};
 ghost use mathlib.Core.Bool.{true};
@@ -13,8 +13,8 @@ ghost use lib.ListN.{length};
 ghost use Rattle.store.specs.Words.{isStore};
 ghost use Rattle.record.specs.Sheet.{sheetOf, answersAt};
 ghost use Rattle.calls.specs.Told.{stateOf};
-ghost use Rattle.lasting.specs.Perform.{maximumCalls};
-ghost use Rattle.lasting.specs.Response.{reportOf, refusal};
+ghost use Rattle.steps.specs.Perform.{maximumCalls};
+ghost use Rattle.steps.specs.Response.{reportOf, refusal};
 ghost use Rattle.reporting.specs.Performed.{Taken};
 ghost use Rattle.reporting.specs.Reports.{start, failureResponse, completionReport, performedReport, Finished};
 

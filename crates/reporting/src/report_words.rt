@@ -1,15 +1,15 @@
 // A report as ten words, for C: outcome, refusal or message, answers, calls, form, flags or number of keys,
 // then two values, each as its kind and its payload.
-use lasting::Completion;
-use lasting::Outcome;
-use lasting::Report;
 use property::Property;
+use steps::Completion;
+use steps::Outcome;
+use steps::Report;
 use value::Value;
 use value_operations::bits;
 use value_operations::encoding;
 ghost use mathlib.Core.Path.{_≡_};
 ghost use Rattle.store.specs.Words.{flagsOf, primary, secondary};
-ghost use Rattle.lasting.specs.Response.{outcomeNumber, refusalOrMessage};
+ghost use Rattle.steps.specs.Response.{outcomeNumber, refusalOrMessage};
 ghost use Rattle.reporting.specs.ReportWords.{completionForm, completionDetail, completionFirst, completionSecond, outcomeForm, outcomeDetail, outcomeFirst, outcomeSecond, reportWords};
 
 pub fn flags_of(p: Property) -> u64

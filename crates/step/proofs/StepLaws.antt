@@ -20,12 +20,12 @@ use Rattle.record.specs.Tests.{firstFailing}
 use Rattle.record.specs.Sheet.{sheetOf}
 use Rattle.calls.specs.declared.Progress.{Progress}
 use Rattle.calls.specs.Told.{Readable, context, stateOf}
-use Rattle.lasting.specs.declared.Report.{Report}
-use Rattle.lasting.specs.Operation.{Operation, ownPropertyKeys, operationOf, asked}
-use Rattle.lasting.specs.Perform.{perform, maximumCalls}
-use Rattle.lasting.specs.Response.{reportOf, refusal}
-use Rattle.lasting.specs.Step.{recordTests, ended, ran, step}
-use Rattle.lasting.specs.StringEntry.{enterString, entered}
+use Rattle.steps.specs.declared.Report.{Report}
+use Rattle.steps.specs.Operation.{Operation, ownPropertyKeys, operationOf, asked}
+use Rattle.steps.specs.Perform.{perform, maximumCalls}
+use Rattle.steps.specs.Response.{reportOf, refusal}
+use Rattle.steps.specs.Step.{recordTests, ended, ran, step}
+use Rattle.steps.specs.StringEntry.{enterString, entered}
 use Rattle.reporting.specs.declared.Performed.{Performed}
 use Rattle.reporting.specs.Performed.{Taken, toldPerformed}
 use Rattle.reporting.specs.Reports.{start, performedReport, Finished}

@@ -1,10 +1,10 @@
 // The interface: a step over lent memory, and the entering of a string.
-use lasting::Completion;
-use lasting::Outcome;
-use lasting::Report;
 use performing::listing;
 use record::Refusal;
 use step_records::reading;
+use steps::Completion;
+use steps::Outcome;
+use steps::Report;
 use text::EntryAnswer;
 use text::entry;
 use value::Value;
@@ -18,7 +18,7 @@ ghost use Rattle.store.specs.Words.{isStore, worldOf};
 ghost use Rattle.record.specs.Tests.{firstFailing};
 ghost use Rattle.record.specs.Sheet.{sheetOf};
 ghost use Rattle.calls.specs.Told.{Readable};
-ghost use Rattle.lasting.specs.Step.{recordTests, ended, ran};
+ghost use Rattle.steps.specs.Step.{recordTests, ended, ran};
 ghost use Rattle.step.specs.Entry.{entryReport};
 ghost use Rattle.reporting.specs.Memory.{isMemory, shown, shownBy, stepOver, shownEntry, enterOver, WordsAfter};
 

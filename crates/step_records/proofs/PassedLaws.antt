@@ -18,8 +18,8 @@ use Rattle.record.specs.Bytes.{byteAt}
 use Rattle.record.specs.Tests.{Counts, isKnown, failing, firstFailing, isDescriptor}
 use Rattle.record.specs.Step.{stepOf, isStep, isCode, areKindsUsable}
 use Rattle.record.specs.Sheet.{sheetOf, isSheet, sheetPasses}
-use Rattle.lasting.specs.Operation.{keyOrFirst}
-use Rattle.lasting.specs.Step.{countsOf, isProxy, recordTests}
+use Rattle.steps.specs.Operation.{keyOrFirst}
+use Rattle.steps.specs.Step.{countsOf, isProxy, recordTests}
 
 passed : (n : ℕ) (b : Bool) (ts : List (ℕ × Bool)) → firstFailing ((n, b) ∷ ts) ≡ none → b ≡ true
 unfolding firstFailing

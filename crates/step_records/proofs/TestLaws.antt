@@ -26,7 +26,7 @@ use Rattle.record.specs.declared.Refusal.the-variants.{Passed, Failed}
 use Rattle.record.specs.Step.{stepOf, isStep}
 use Rattle.record.specs.Tests.{Counts, failing, firstFailing, refusal}
 use Rattle.record.proofs.RefusalLaws.{is-failed, is-passed}
-use Rattle.lasting.specs.Step.{countsOf, isProxy, recordTests}
+use Rattle.steps.specs.Step.{countsOf, isProxy, recordTests}
 use Rattle.step_records.specs.Groups.{stepTests, sheetTests}
 
 -- the object found, by its kind

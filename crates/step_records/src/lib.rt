@@ -11,7 +11,7 @@ ghost use Rattle.text.specs.Table.{isTable};
 ghost use Rattle.store.specs.Store.{lookup};
 ghost use Rattle.store.specs.Words.{isStore, storeOf, worldOf};
 ghost use Rattle.record.specs.Tests.{firstFailing, refusal};
-ghost use Rattle.lasting.specs.Step.{countsOf, isProxy, recordTests};
+ghost use Rattle.steps.specs.Step.{countsOf, isProxy, recordTests};
 ghost use Rattle.step_records.specs.Groups.{stepTests, sheetTests};
 
 pub mod form;

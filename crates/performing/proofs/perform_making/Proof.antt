@@ -3,8 +3,8 @@ use native.Mathlib.Omega.{arith}
 use mathlib.Core.Path.{_≡_, sym, _∙_}
 use borrow.Author.Needs.{needs}
 use Rattle.calls.specs.Told.{context}
-use Rattle.lasting.specs.Operation.{operationOf}
-use Rattle.lasting.specs.Perform.{maximumCalls}
+use Rattle.steps.specs.Operation.{operationOf}
+use Rattle.steps.specs.Perform.{maximumCalls}
 use Rattle.performing.proofs.MakingLaws.{object-made, proxy-made, proxy-revoked}
 use borrow.Author.Needs.{needs}
 use Rattle.performing.proofs.perform_making.Statement.{statement}

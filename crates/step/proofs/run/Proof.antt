@@ -2,7 +2,7 @@ use denote.Ref.{now}
 use native.Mathlib.Omega.{arith}
 use mathlib.Core.Path.{sym, _∙_}
 use Rattle.store.specs.Words.{worldOf}
-use Rattle.lasting.specs.Step.{countsOf}
+use Rattle.steps.specs.Step.{countsOf}
 use Rattle.store_read.proofs.ListLaws.{few-strings}
 use Rattle.step_records.proofs.PassedLaws.{step-formed, step-length, sheet-there, sheet-formed, sheet-known, key-fits, code-low, code-high}
 use Rattle.performing.proofs.FitLaws.{sheet-fits}

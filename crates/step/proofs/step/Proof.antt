@@ -3,7 +3,7 @@ use mathlib.Core.Path.{refl, sym, _∙_}
 use Rattle.store.specs.Words.{worldOf}
 use Rattle.record.specs.Tests.{firstFailing}
 use Rattle.record.proofs.RefusalLaws.{is-failed, is-passed}
-use Rattle.lasting.specs.Step.{recordTests}
+use Rattle.steps.specs.Step.{recordTests}
 use Rattle.step.proofs.StepLaws.{memory-readable, step-refused, step-ran, step-unread}
 use borrow.Author.Needs.{needs}
 use Rattle.step.proofs.step.Statement.{statement}

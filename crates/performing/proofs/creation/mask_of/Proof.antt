@@ -2,7 +2,7 @@ use lib.IntN.{ℤ}
 use mathlib.Core.Path.{_∙_, _≡_, ap}
 use mir.Syntax.{w32}
 use mir.Val.{ofZ, toZ}
-use Rattle.lasting.specs.Operation.{maskNumber}
+use Rattle.steps.specs.Operation.{maskNumber}
 use Rattle.performing.proofs.MakingLaws.{no-mask}
 use borrow.Author.Needs.{needs}
 use Rattle.performing.proofs.creation.mask_of.Statement.{statement}

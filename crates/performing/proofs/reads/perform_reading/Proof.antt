@@ -3,8 +3,8 @@ use mathlib.Core.Path.{sym, _∙_}
 use borrow.Author.Needs.{needs}
 use Rattle.store.specs.Words.{storeOf}
 use Rattle.calls.specs.Told.{stateOf}
-use Rattle.lasting.specs.Operation.{operationOf}
-use Rattle.lasting.specs.Perform.{perform}
+use Rattle.steps.specs.Operation.{operationOf}
+use Rattle.steps.specs.Perform.{perform}
 use Rattle.performing.proofs.ResultLaws.{value-told, boolean-told, own-told, value-taken, boolean-taken, own-taken, last-reading}
 use Rattle.performing.proofs.reads.perform_reading.Statement.{statement}
 use Rattle.performing.proofs.reads.perform_reading.Tie as tie

@@ -3,8 +3,8 @@ use mathlib.Core.Path.{sym, _∙_}
 use borrow.Author.Needs.{needs}
 use Rattle.store.specs.Words.{storeOf}
 use Rattle.calls.specs.Told.{stateOf}
-use Rattle.lasting.specs.Operation.{operationOf}
-use Rattle.lasting.specs.Perform.{perform}
+use Rattle.steps.specs.Operation.{operationOf}
+use Rattle.steps.specs.Perform.{perform}
 use Rattle.performing.proofs.ResultLaws.{write-told, write-taken}
 use Rattle.performing.proofs.WritingLaws.{last-writing}
 use borrow.Author.Needs.{needs}

@@ -5,10 +5,10 @@ use Rattle.value.specs.declared.Value.the-variants as value
 use Rattle.text.specs.Strings.{Entry, enter}
 use Rattle.text.specs.Strings as entry
 use Rattle.store.specs.Store.{World}
-use Rattle.lasting.specs.Perform as result
-use Rattle.lasting.specs.Response.{Effect}
-use Rattle.lasting.specs.Response as ending
-use Rattle.lasting.specs.Step.{refusing}
+use Rattle.steps.specs.Perform as result
+use Rattle.steps.specs.Response.{Effect}
+use Rattle.steps.specs.Response as ending
+use Rattle.steps.specs.Step.{refusing}
 
 abbrev pub entered : World → Entry → Effect
 entered ω (entry.refused n) = refusing n ω []

@@ -4,7 +4,3 @@ pub mod Response
 pub mod Step
 pub mod StringEntry
 pub mod Run
-pub mod Rows
-pub mod Lasting
-pub mod Refusals
-pub mod Further

@@ -21,9 +21,9 @@ use Rattle.property.specs.Validate.{validate, isAccepted}
 use Rattle.property.specs.ArrayIndex.{arrayIndex}
 use Rattle.internal_methods.specs.Messages.{codes}
 use Rattle.record.specs.Step.{isSome}
-use Rattle.lasting.specs.Perform.{Result, absent}
-use Rattle.lasting.specs.Response.{Ending, refused, result, typeError, Response, refusal}
-use Rattle.lasting.specs.Run.{Call, step, enter, Event, run}
+use Rattle.steps.specs.Perform.{Result, absent}
+use Rattle.steps.specs.Response.{Ending, refused, result, typeError, Response, refusal}
+use Rattle.steps.specs.Run.{Call, step, enter, Event, run}
 
 pub data Cell : Type 0 where
   test : Bool → Cell  -- same or index or true; differ or string or false

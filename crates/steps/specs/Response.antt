@@ -4,12 +4,12 @@ use mathlib.Core.List.{List}
 use lib.ListN.{length}
 use Rattle.value.specs.declared.Value.{Value}
 use Rattle.store.specs.Store.{World}
-use Rattle.lasting.specs.declared.Completion.{Completion}
-use Rattle.lasting.specs.declared.Completion.the-variants as completion
-use Rattle.lasting.specs.declared.Outcome.{Outcome}
-use Rattle.lasting.specs.declared.Outcome.the-variants as outcome
-use Rattle.lasting.specs.declared.Report.{Report}
-use Rattle.lasting.specs.Perform.{Result, value, descriptor, absent, keys}
+use Rattle.steps.specs.declared.Completion.{Completion}
+use Rattle.steps.specs.declared.Completion.the-variants as completion
+use Rattle.steps.specs.declared.Outcome.{Outcome}
+use Rattle.steps.specs.declared.Outcome.the-variants as outcome
+use Rattle.steps.specs.declared.Report.{Report}
+use Rattle.steps.specs.Perform.{Result, value, descriptor, absent, keys}
 
 pub data Ending : Type 0 where
   refused : ℕ → Ending

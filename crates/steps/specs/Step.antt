@@ -18,9 +18,9 @@ use Rattle.record.specs.Bytes.{valueSize, valueBytes}
 use Rattle.record.specs.Tests.{Counts, isMade, isKnown, isDescriptor, firstFailing}
 use Rattle.record.specs.Step.{stepOf, isStep, areObjectsMade, areKindsUsable}
 use Rattle.record.specs.Sheet.{sheetOf, isSheet, sheetPasses}
-use Rattle.lasting.specs.Operation.{asked}
-use Rattle.lasting.specs.Perform.{Result, value, descriptor, absent, keys, maximumCalls, perform}
-use Rattle.lasting.specs.Response.{Ending, refused, result, typeError, thrown, Response, refusal, Effect}
+use Rattle.steps.specs.Operation.{asked}
+use Rattle.steps.specs.Perform.{Result, value, descriptor, absent, keys, maximumCalls, perform}
+use Rattle.steps.specs.Response.{Ending, refused, result, typeError, thrown, Response, refusal, Effect}
 
 abbrev pub countsOf : World → Counts
 countsOf ω = record { objects = length (ω .store .objects); strings = length (ω .strings) }

@@ -19,9 +19,9 @@ use Rattle.internal_methods.specs.Methods.{Context, Written}
 use Rattle.internal_methods.proofs.StoreClosed.{Made, MadeValue, MadeObject, Closed, closed-put, closed-object}
 use Rattle.internal_methods.proofs.Budget.{MadeAnswers, Met, Steady, KeptBy, steady-pure, steady-bind, steady-above, ends-alike, ends-failed, ends-done, SteadyMethods}
 use Rattle.internal_methods.proofs.Longer.{Longer, longer-pure, longer-fails, longer-bind, longer-if, methods-longer}
-use Rattle.lasting.specs.Operation.{Operation, makeObject, makeProxy, revoke, getPrototypeOf, setPrototypeOf, isExtensible, preventExtensions, getOwnProperty, defineOwnProperty, hasProperty, get, set, delete, ownPropertyKeys}
-use Rattle.lasting.specs.Perform.{Result, value, keys, ownResult, boolean, reading, writing, make, revoked, perform}
-use Rattle.lasting.proofs.Made.{MadeOperation, closed-add}
+use Rattle.steps.specs.Operation.{Operation, makeObject, makeProxy, revoke, getPrototypeOf, setPrototypeOf, isExtensible, preventExtensions, getOwnProperty, defineOwnProperty, hasProperty, get, set, delete, ownPropertyKeys}
+use Rattle.steps.specs.Perform.{Result, value, keys, ownResult, boolean, reading, writing, make, revoked, perform}
+use Rattle.steps.proofs.Made.{MadeOperation, closed-add}
 
 -- what making an object gives
 abbrev added : Store → Object → Result × Store

@@ -15,18 +15,32 @@ use Rattle.property.specs.declared.Property.the-variants.{Data, Accessor}
 use Rattle.property.specs.declared.OwnProperty.{OwnProperty}
 use Rattle.property.specs.declared.OwnProperty.the-variants.{Absent, Present}
 use Rattle.store.specs.declared.OrdinaryObject.{OrdinaryObject}
-use Rattle.store.specs.Store.{Store, own}
+use Rattle.store.specs.Store.{Store, World, empty, own}
 use Rattle.internal_methods.specs.KeyList.{hasKey}
 use Rattle.internal_methods.proofs.Base.{frozenAs, isAbsent, Under, at-base, Frozen, Shut, Lacking}
 use Rattle.internal_methods.proofs.Later.{frozen-lasts, shut-lasts, rooted-lasts, lacking-lasts}
 use Rattle.internal_methods.proofs.Reports.{Faithful, SamePrototype, frozen-learnt, frozen-told, lacking-learnt, lacking-told, rooted-learnt, rooted-told}
-use Rattle.lasting.specs.Operation.{Operation, getPrototypeOf, isExtensible, preventExtensions, getOwnProperty, hasProperty, get, delete, ownPropertyKeys}
-use Rattle.lasting.specs.Perform.{Result, value, descriptor, absent, keys, ownResult, boolean}
-use Rattle.lasting.specs.Run.{Call, Event, run, worldAt}
-use Rattle.lasting.specs.Lasting.{At, Tells, ReportsFixed, ReportsNonExtensible, by-isExtensible, by-preventExtensions, ReportsAbsent, ShowsOwn, IsDataWith, StaysFixed, StaysNonExtensible, Lasting}
-use Rattle.lasting.specs.Lasting
-use Rattle.lasting.proofs.Performed.{boolean-is}
-use Rattle.lasting.proofs.Places.{says-at, grows-at}
+use Rattle.steps.specs.Operation.{Operation, getPrototypeOf, isExtensible, preventExtensions, getOwnProperty, hasProperty, get, delete, ownPropertyKeys}
+use Rattle.steps.specs.Perform.{Result, value, descriptor, absent, keys, ownResult, boolean}
+use Rattle.steps.specs.Response.{Effect, Response}
+use Rattle.steps.specs.Run.{Call, Event, At, effect, run, worldAt}
+use Rattle.demands.specs.Lasting.{Tells, ReportsFixed, ReportsNonExtensible, by-isExtensible, by-preventExtensions, ReportsAbsent, ShowsOwn, IsDataWith, StaysFixed, StaysNonExtensible, Lasting}
+use Rattle.demands.specs.Lasting
+use Rattle.steps.proofs.Steps.{ends, resulted}
+use Rattle.steps.proofs.Performed.{Says, boolean-is}
+use Rattle.steps.proofs.Places.{ran-said, grows-at, happened-from}
+
+-- what an event that tells a result says of the worlds before and after it
+pub says-at : (calls : List Call) (i : ℕ) (e : Event) (asks : Operation) (r : Result) → At (run calls) i e → Tells e asks r
+    → Says (worldAt calls i .store) asks r (worldAt calls (suc i) .store)
+unfolding run effect
+says-at calls i e asks r h t =
+    let p = happened-from empty calls i e h in
+    let ω = worldAt calls i in
+    let q = ap (λ (c : Call). effect ω c) (t .call) in
+    let d = resulted r (ends ω (t .bytes) (t .sheet) (t .output)) (ap (λ (x : Effect). x .response .ending) (sym q) ∙ (ap (λ (x : Response). x .ending) (sym (p .response)) ∙ t .ending)) in
+    let w : worldAt calls (suc i) .store ≡ d .store = ap (λ (x : World). x .store) (p .world ∙ (ap (λ (x : Effect). x .world) q ∙ d .world)) in
+    rw w (subst (λ (o : Operation). Says (ω .store) o r (d .store)) (t .operation) (ran-said ω (t .bytes) (t .sheet) _ _ (d .runs) .says))
 
 -- Results as what methods give --------------------------------------------------------
 

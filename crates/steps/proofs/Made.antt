@@ -24,8 +24,8 @@ use Rattle.record.specs.declared.Step.{Step}
 use Rattle.record.specs.Tests.{Counts, isMade, descriptorPasses, failing, firstFailing}
 use Rattle.record.specs.Step.{stepOf, usesObject, stepPasses, areObjectsMade, unless}
 use Rattle.record.specs.Sheet.{sheetOf, answerPasses, sheetPasses}
-use Rattle.lasting.specs.Operation.{Operation, makeObject, makeProxy, revoke, getPrototypeOf, setPrototypeOf, isExtensible, preventExtensions, getOwnProperty, defineOwnProperty, hasProperty, get, set, delete, ownPropertyKeys, operationOf, asked}
-use Rattle.lasting.specs.Step.{countsOf, recordTests}
+use Rattle.steps.specs.Operation.{Operation, makeObject, makeProxy, revoke, getPrototypeOf, setPrototypeOf, isExtensible, preventExtensions, getOwnProperty, defineOwnProperty, hasProperty, get, set, delete, ownPropertyKeys, operationOf, asked}
+use Rattle.steps.specs.Step.{countsOf, recordTests}
 
 -- the objects that an operation names are made
 abbrev pub MadeOperation : Store → Operation → Type 0

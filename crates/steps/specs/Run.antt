@@ -1,10 +1,13 @@
 -- Lists of calls: each finds the world that its predecessor left. Assumes nothing.
 use Prim.Native.Nat.{ℕ, zero, suc}
+use mathlib.Core.Path.{_≡_}
+use mathlib.Core.Option.{some}
 use mathlib.Core.List.{List, [], _∷_}
+use lib.ListN.{getElem?}
 use Rattle.store.specs.Store.{World, empty}
-use Rattle.lasting.specs.Response.{Response, Effect}
-use Rattle.lasting.specs.Step
-use Rattle.lasting.specs.StringEntry.{enterString}
+use Rattle.steps.specs.Response.{Response, Effect}
+use Rattle.steps.specs.Step
+use Rattle.steps.specs.StringEntry.{enterString}
 
 -- a step with its sheet and its output, of any content and length; or a string's code units
 pub data Call : Type 0 where
@@ -19,6 +22,10 @@ effect ω (enter units) = enterString ω units
 pub record Event : Type 0 where
   pub call : Call
   pub response : Response
+
+-- the event at a place of the list, counted from 0
+abbrev pub At : List Event → ℕ → Event → Type 0
+At events i e = getElem? events i ≡ some e
 
 unfoldable pub runFrom : World → List Call → List Event
 runFrom ω [] = []

@@ -14,11 +14,11 @@ use Rattle.internal_methods.specs.declared.Failure.the-variants.{Refused}
 use Rattle.internal_methods.specs.Monad.{Answer, State, state, Out, failed, done}
 use Rattle.record.specs.Sheet.{sheetOf}
 use Rattle.record.specs.Tests.{firstFailing}
-use Rattle.lasting.specs.Operation.{asked}
-use Rattle.lasting.specs.Perform.{Result, maximumCalls, perform}
-use Rattle.lasting.specs.Response.{Ending, refused, result, typeError, thrown, Response, Effect}
-use Rattle.lasting.specs.Step.{contextOf, recordTests, outputHolds, refusing, ran, step}
-use Rattle.lasting.specs.StringEntry.{enterString}
+use Rattle.steps.specs.Operation.{asked}
+use Rattle.steps.specs.Perform.{Result, maximumCalls, perform}
+use Rattle.steps.specs.Response.{Ending, refused, result, typeError, thrown, Response, Effect}
+use Rattle.steps.specs.Step.{contextOf, recordTests, outputHolds, refusing, ran, step}
+use Rattle.steps.specs.StringEntry.{enterString}
 
 -- 32 objects, or 256 properties
 pub data NoRoom (ω : World) : Type 0 where
@@ -28,7 +28,7 @@ pub data NoRoom (ω : World) : Type 0 where
 -- the conditions of document 01, "Turned back at the desk", by their numbers
 pub data Refusal (ω : World) (bytes sheet output : List ℕ) : ℕ → Type 0 where
   -- 1 to 4 over the step, then 1 to 3 over the sheet: the first test that fails
-  malformed : {n : ℕ} → firstFailing (recordTests ω bytes sheet) ≡ some n → Refusal ω bytes sheet output n
+  inadmissible : {n : ℕ} → firstFailing (recordTests ω bytes sheet) ≡ some n → Refusal ω bytes sheet output n
   -- 7: there is no room for the object or the property that would be added
   full : {s : State} → firstFailing (recordTests ω bytes sheet) ≡ none → ran ω bytes sheet ≡ failed (Refused 7) s → NoRoom ω → Refusal ω bytes sheet output 7
   -- 8: there is no next answer; all were taken

@@ -1,33 +1,27 @@
 -- In every world of a list of calls, the bound on the walk of 10.1.2.1 step 7 never decides. Assumes nothing.
-use Prim.Native.Nat.{ℕ, zero, suc, _≤_}
+use Prim.Native.Nat.{ℕ, _≤_}
 use mathlib.Core.Path.{_≡_, refl}
 use mathlib.Core.Bool.{Bool, true, false, false≢true}
 use mathlib.Core.Option.{Option, none, some}
-use mathlib.Core.List.{List, [], _∷_}
+use mathlib.Core.List.{List}
 use lib.ListN.{length}
 use Rattle.value.specs.declared.Value.{Value}
 use Rattle.value.specs.Value.{objectOf}
-use Rattle.text.specs.Strings.{Entry, enter}
-use Rattle.text.specs.Strings as entry
 use Rattle.store.specs.declared.Object.{Object}
 use Rattle.store.specs.declared.Object.the-variants.{Ordinary, Proxy}
 use Rattle.store.specs.Store.{Store, World, empty, lookup}
-use Rattle.internal_methods.specs.declared.Failure.the-variants.{Refused, TypeError, Thrown}
-use Rattle.internal_methods.specs.Monad.{State, Out, failed, done, M}
+use Rattle.internal_methods.specs.Monad.{M}
 use Rattle.internal_methods.specs.Methods.{Context, Written}
 use Rattle.internal_methods.specs.Ordinary.{reaches}
 use Rattle.internal_methods.proofs.Ensures.{Ensures, ensures-pure, ensures-fails, ensures-bind, ensures-if, ensures-then}
 use Rattle.internal_methods.proofs.StoreClosed.{MadeValue, MadeObject}
 use Rattle.internal_methods.proofs.Chain.{Chain, value, Ends, proxies-alike, walk-enough, ends-put, ends-add, setPrototypeOf-ends, preventExtensions-ends, defineOwnProperty-ends, set-ends, delete-ends}
-use Rattle.record.specs.Sheet.{sheetOf}
-use Rattle.record.specs.Tests.{firstFailing}
-use Rattle.lasting.specs.Operation.{Operation, makeObject, makeProxy, revoke, getPrototypeOf, setPrototypeOf, isExtensible, preventExtensions, getOwnProperty, defineOwnProperty, hasProperty, get, set, delete, ownPropertyKeys, asked}
-use Rattle.lasting.specs.Perform.{Result, keys, ownResult, boolean, reading, writing, make, revoked, maximumCalls, perform}
-use Rattle.lasting.specs.Step.{contextOf, recordTests, outputHolds, completed, ended, ran, tested, step}
-use Rattle.lasting.specs.StringEntry.{enterString, entered}
-use Rattle.lasting.specs.Run.{Call, effect, worldFrom, worldAt}
-use Rattle.lasting.specs.Run as call
-use Rattle.lasting.proofs.Made.{MadeOperation, names-made}
+use Rattle.steps.specs.Operation.{Operation, makeObject, makeProxy, revoke, getPrototypeOf, setPrototypeOf, isExtensible, preventExtensions, getOwnProperty, defineOwnProperty, hasProperty, get, set, delete, ownPropertyKeys, asked}
+use Rattle.steps.specs.Perform.{Result, keys, ownResult, boolean, reading, writing, make, revoked, maximumCalls, perform}
+use Rattle.steps.specs.Step.{contextOf, ran}
+use Rattle.steps.specs.Run.{Call, worldAt}
+use Rattle.steps.proofs.Made.{MadeOperation, names-made}
+use Rattle.steps.proofs.Places.{Gives, gives, kept-from}
 
 -- Operations ----------------------------------------------------------------------------
 
@@ -69,43 +63,9 @@ module _ (c : Context) (h : Ends (c .store)) where
 
 -- Calls ---------------------------------------------------------------------------------
 
-module _ (ω : World) (bytes sheet output : List ℕ) (h : Ends (ω .store)) where
-  ran-ends : firstFailing (recordTests ω bytes sheet) ≡ none → (a : Result × Store) (s : State) → ran ω bytes sheet ≡ done a s → Ends (a .1)
-  unfolding ran
-  ran-ends p a s e = perform-ends (contextOf ω) h maximumCalls (asked bytes) (names-made ω bytes sheet p .operation) .at _ a s e
-
-  completed-ends : (a : Result × Store) (s : State) (b : Bool) → Ends (a .1) → Ends (completed ω (sheetOf sheet) output a s b .world .store)
-  completed-ends a s false k = h
-  completed-ends a s true k = k
-
-  ended-ends : firstFailing (recordTests ω bytes sheet) ≡ none → (x : Out (Result × Store)) → ran ω bytes sheet ≡ x → Ends (ended ω (sheetOf sheet) output x .world .store)
-  ended-ends p (failed (Refused n) s) e = h
-  ended-ends p (failed (TypeError n) s) e = h
-  ended-ends p (failed (Thrown v) s) e = h
-  ended-ends p (done a s) e = completed-ends a s (outputHolds (a .0) output) (ran-ends p a s e)
-
-  step-ends : Ends (step ω bytes sheet output .world .store)
-  unfolding step
-  step-ends = go (firstFailing (recordTests ω bytes sheet)) refl
-    where
-      go : (t : Option ℕ) → firstFailing (recordTests ω bytes sheet) ≡ t → Ends (tested ω (sheetOf sheet) output (ran ω bytes sheet) t .world .store)
-      go (some n) e = h
-      go none e = ended-ends e (ran ω bytes sheet) refl
-
-entered-ends : (ω : World) (x : Entry) → Ends (ω .store) → Ends (entered ω x .world .store)
-entered-ends ω (entry.refused n) h = h
-entered-ends ω (entry.entered n strings) h = h
-
-effect-ends : (ω : World) (c : Call) → Ends (ω .store) → Ends (effect ω c .world .store)
-unfolding effect enterString
-effect-ends ω (call.step bytes sheet output) h = step-ends ω bytes sheet output h
-effect-ends ω (call.enter units) h = entered-ends ω (enter (ω .strings) units) h
-
-ends-from : (ω : World) (cs : List Call) (i : ℕ) → Ends (ω .store) → Ends (worldFrom ω cs i .store)
-unfolding worldFrom
-ends-from ω cs zero h = h
-ends-from ω [] (suc i) h = h
-ends-from ω (c ∷ cs) (suc i) h = ends-from (effect ω c .world) cs i (effect-ends ω c h)
+given-ends : (ω : World) → Ends (ω .store) → (σ : Store) → Gives ω σ → Ends σ
+unfolding ran
+given-ends ω h σ (gives bytes sheet a s p e) = perform-ends (contextOf ω) h maximumCalls (asked bytes) (names-made ω bytes sheet p .operation) .at _ a s e
 
 ends-empty : Ends (empty .store)
 unfolding lookup
@@ -117,7 +77,7 @@ ends-empty = record { chain = λ v m. go v m (objectOf v) refl }
 
 -- in every world of a list of calls, the chain of prototypes from each object ends
 pub ends-at : (calls : List Call) (i : ℕ) → Ends (worldAt calls i .store)
-ends-at calls i = ends-from empty calls i ends-empty
+ends-at calls i = kept-from Ends given-ends empty calls i ends-empty
 
 -- and to walk further than there are objects changes nothing: the walk has met o, or has come to the chain's end
 pub walk-bounded : (calls : List Call) (i o : ℕ) (v : Value) → MadeValue (worldAt calls i .store) v → (n : ℕ) → length (worldAt calls i .store .objects) ≤ n

@@ -2,23 +2,17 @@
 use Prim.Native.Nat.{ℕ, _<_}
 use mathlib.Core.Path.{_≡_}
 use mathlib.Core.Bool.{Bool, true, false}
-use mathlib.Core.Option.{Option, none, some}
 use mathlib.Core.List.{List}
-use lib.ListN.{getElem?}
 use Rattle.value.specs.declared.Value.{Value}
 use Rattle.value.specs.declared.PropertyKey.{PropertyKey}
 use Rattle.value.specs.Value.{sameValue}
 use Rattle.property.specs.declared.Property.{Property}
 use Rattle.property.specs.declared.Property.the-variants.{Data}
 use Rattle.internal_methods.specs.KeyList.{hasKey}
-use Rattle.lasting.specs.Operation.{Operation, getPrototypeOf, isExtensible, preventExtensions, getOwnProperty, hasProperty, get, delete, ownPropertyKeys, asked}
-use Rattle.lasting.specs.Perform.{Result, value, descriptor, absent, keys, boolean}
-use Rattle.lasting.specs.Response.{Ending, result}
-use Rattle.lasting.specs.Run.{Call, step, Event}
-
--- the event at a place of the list, counted from 0
-abbrev pub At : List Event → ℕ → Event → Type 0
-At events i e = getElem? events i ≡ some e
+use Rattle.steps.specs.Operation.{Operation, getPrototypeOf, isExtensible, preventExtensions, getOwnProperty, hasProperty, get, delete, ownPropertyKeys, asked}
+use Rattle.steps.specs.Perform.{Result, value, descriptor, absent, keys, boolean}
+use Rattle.steps.specs.Response.{Ending, result}
+use Rattle.steps.specs.Run.{Call, step, Event, At}
 
 -- the event is a step that asks for this operation and ends in this result
 pub record Tells (e : Event) (asks : Operation) (r : Result) : Type 0 where

@@ -17,8 +17,8 @@ use Rattle.internal_methods.proofs.Ensures.{Ensures, ensures-pure, ensures-fail
 use Rattle.internal_methods.proofs.Base.{Under, Frozen, Shut}
 use Rattle.internal_methods.proofs.Later.{Grows, grows-refl, grows-add, grows-proxy}
 use Rattle.internal_methods.proofs.Reports.{Changed, Faithful, SamePrototype, Defined, Gone, KeysTied, HasTied, isExtensible-report, getOwnProperty-report, get-report, preventExtensions-report, defineOwnProperty-report, delete-report, getPrototypeOf-report, setPrototypeOf-report, ownPropertyKeys-report, hasProperty-report, set-report}
-use Rattle.lasting.specs.Operation.{Operation, makeObject, makeProxy, revoke, getPrototypeOf, setPrototypeOf, isExtensible, preventExtensions, getOwnProperty, defineOwnProperty, hasProperty, get, set, delete, ownPropertyKeys}
-use Rattle.lasting.specs.Perform.{Result, value, descriptor, absent, keys, ownResult, boolean, reading, writing, make, revoked, perform}
+use Rattle.steps.specs.Operation.{Operation, makeObject, makeProxy, revoke, getPrototypeOf, setPrototypeOf, isExtensible, preventExtensions, getOwnProperty, defineOwnProperty, hasProperty, get, set, delete, ownPropertyKeys}
+use Rattle.steps.specs.Perform.{Result, value, descriptor, absent, keys, ownResult, boolean, reading, writing, make, revoked, perform}
 
 -- what a result says, from the store before it and the store after it
 abbrev pub Says : Store → Operation → Result → Store → Type 0

@@ -5,10 +5,10 @@ use mathlib.Core.List.{List}
 use Rattle.value.specs.declared.Value.{Value}
 use Rattle.internal_methods.proofs.Later.{frozen-lasts, lacking-lasts}
 use Rattle.internal_methods.proofs.Reports.{SamePrototype}
-use Rattle.lasting.specs.Run.{Call, run, worldAt}
-use Rattle.lasting.specs.Further.{Further}
-use Rattle.lasting.proofs.Places.{says-at, grows-at}
-use Rattle.lasting.proofs.LastingHolds.{value-is, fixed-learnt, shut-learnt, absent-learnt, stays-fixed, same-prototypes, not-shown}
+use Rattle.steps.specs.Run.{Call, run, worldAt}
+use Rattle.demands.specs.Further.{Further}
+use Rattle.steps.proofs.Places.{grows-at}
+use Rattle.demands.proofs.LastingHolds.{says-at, value-is, fixed-learnt, shut-learnt, absent-learnt, stays-fixed, same-prototypes, not-shown}
 
 pub further : (calls : List Call) → Further (run calls)
 further calls = record {

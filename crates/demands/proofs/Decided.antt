@@ -1,40 +1,39 @@
 -- Demand 1 holds of every call of every list of calls. Assumes nothing.
-use Prim.Native.Nat.{ℕ, zero, suc, _≤_, _<_}
-use native.Mathlib.Nat.{le-refl, not-le-of-lt}
+use Prim.Native.Nat.{ℕ, _≤_, _<_}
+use native.Mathlib.Nat.{le-refl}
 use mathlib.Core.Path.{_≡_, refl, sym, ap, _∙_, subst}
 use mathlib.Core.Logic.{_↔_}
-use mathlib.Core.Bool.{Bool, true, false, not, cond, false≢true}
+use mathlib.Core.Bool.{Bool, true, false, cond, false≢true}
 use mathlib.Core.Option.{Option, none, some}
 use mathlib.Core.List.{List, [], _∷_, _++_}
 use lib.Dec.{leb, ltb}
 use lib.ListN.{length}
 use borrow.Author.Tests.{ltb-false, leb-true, leb-false, le-leb, lt-leb, le-ltb, not-true}
-use Rattle.text.specs.Strings.{Strings, Entry, entering, numberOf, enter, maximumLength, maximumStrings}
+use Rattle.text.specs.Strings.{Entry, entering, numberOf, enter, maximumLength, maximumStrings}
 use Rattle.text.specs.Strings as entry
-use Rattle.store.specs.Store.{Store, World, empty, lookup, maximumObjects, maximumProperties}
+use Rattle.store.specs.Store.{Store, World}
 use Rattle.internal_methods.specs.declared.Failure.{Failure}
-use Rattle.internal_methods.specs.declared.Failure.the-variants.{Refused, TypeError, Thrown}
+use Rattle.internal_methods.specs.declared.Failure.the-variants.{Refused, TypeError}
 use Rattle.internal_methods.specs.Monad.{Answer, State, state, Out, failed, done}
-use Rattle.internal_methods.specs.Ordinary.{isFull}
 use Rattle.internal_methods.proofs.StoreClosed.{Closed}
-use Rattle.internal_methods.proofs.Budget.{Met}
 use Rattle.internal_methods.proofs.Budget as met
 use Rattle.internal_methods.proofs.Longer.{Suffix, spent-reads-all}
 use Rattle.internal_methods.proofs.Longer as longer
 use Rattle.record.specs.Sheet.{sheetOf}
 use Rattle.record.specs.Tests.{firstFailing}
-use Rattle.lasting.specs.Operation.{asked}
-use Rattle.lasting.specs.Perform.{Result, maximumCalls, perform}
-use Rattle.lasting.specs.Response.{Ending, refused, result, typeError, thrown, Response, Effect}
-use Rattle.lasting.specs.Step.{contextOf, recordTests, outputHolds, refusing, withStore, completed, ended, ran, tested, step}
-use Rattle.lasting.specs.StringEntry.{enterString, entered}
-use Rattle.lasting.specs.Run.{Call, effect, worldFrom, worldAt}
-use Rattle.lasting.specs.Run as call
-use Rattle.lasting.specs.Refusals.{NoRoom, Refusal, malformed, spent, unreadable, exhausted, short, Accepted, by-result, by-typeError, by-throw, Unless, is-result, otherwise, LeftOf, leftIn, StepDecided, EntryRefusal, long, EntryDecided}
-use Rattle.lasting.specs.Refusals as refusal
-use Rattle.lasting.proofs.Made.{NamesMade, names-made}
-use Rattle.lasting.proofs.Performs.{Fails, Performs, crowded, method, performs, perform-longer}
-use Rattle.lasting.proofs.Steps.{step-is}
+use Rattle.steps.specs.Operation.{asked}
+use Rattle.steps.specs.Perform.{Result, maximumCalls, perform}
+use Rattle.steps.specs.Response.{Ending, refused, result, typeError, Effect}
+use Rattle.steps.specs.Step.{contextOf, recordTests, outputHolds, refusing, completed, ran, step}
+use Rattle.steps.specs.StringEntry.{enterString}
+use Rattle.steps.specs.Run.{Call, worldAt}
+use Rattle.demands.specs.Refusals.{Refusal, inadmissible, spent, unreadable, exhausted, short, Accepted, by-result, by-typeError, by-throw, Unless, is-result, otherwise, LeftOf, leftIn, StepDecided, EntryRefusal, long, EntryDecided}
+use Rattle.demands.specs.Refusals as refusal
+use Rattle.steps.proofs.Made.{names-made}
+use Rattle.steps.proofs.Performs.{Fails, Performs, crowded, method, performs, perform-longer}
+use Rattle.steps.proofs.Places.{closed-at}
+use Rattle.steps.proofs.Steps.{Ends, step-is, ends, EntryEnds, entry-ends}
+use Rattle.steps.proofs.Steps as how
 
 refused-is : (m n : ℕ) → refused m ≡ refused n → m ≡ n
 refused-is m n h = cc
@@ -44,66 +43,20 @@ not-accepted n e h (by-result r) = false≢true cc
 not-accepted n e h (by-typeError m i j) = false≢true cc
 not-accepted n e h (by-throw v) = false≢true cc
 
--- The store stays closed --------------------------------------------------------------
+-- Runs --------------------------------------------------------------------------------------
 
-module _ (ω : World) (bytes sheet output : List ℕ) (closed : Closed (ω .store)) where
-  -- what is known of the run once the records passed
-  module _ (passes : firstFailing (recordTests ω bytes sheet) ≡ none) where
-    abbrev runs : Performs (contextOf ω) maximumCalls (asked bytes)
-    runs = performs (contextOf ω) maximumCalls closed (asked bytes) (names-made ω bytes sheet passes .operation)
+-- what is known of the run once the records passed
+module _ (ω : World) (bytes sheet : List ℕ) (closed : Closed (ω .store)) (passes : firstFailing (recordTests ω bytes sheet) ≡ none) where
+  abbrev runs : Performs (contextOf ω) maximumCalls (asked bytes)
+  runs = performs (contextOf ω) maximumCalls closed (asked bytes) (names-made ω bytes sheet passes .operation)
 
-    pub ran-fails : (f : Failure) (s : State) → ran ω bytes sheet ≡ failed f s → Fails (contextOf ω) f s
-    unfolding ran
-    ran-fails f s e = runs .fails _ s f (le-refl _) (names-made ω bytes sheet passes .answers) e
+  pub ran-fails : (f : Failure) (s : State) → ran ω bytes sheet ≡ failed f s → Fails (contextOf ω) f s
+  unfolding ran
+  ran-fails f s e = runs .fails _ s f (le-refl _) (names-made ω bytes sheet passes .answers) e
 
-    ran-closes : (a : Result × Store) (s : State) → ran ω bytes sheet ≡ done a s → Closed (a .1)
-    unfolding ran
-    ran-closes a s e = runs .closes _ s a (le-refl _) (names-made ω bytes sheet passes .answers) e
-
-    ran-depth : (n : ℕ) → maximumCalls ≤ n → perform n (contextOf ω) (asked bytes) .run (state (sheetOf sheet) maximumCalls) ≡ ran ω bytes sheet
-    unfolding ran
-    ran-depth n h = runs .alike n maximumCalls h (le-refl _) _ (le-refl _) (names-made ω bytes sheet passes .answers)
-
-  completed-closed : (a : Result × Store) (s : State) (b : Bool) → Closed (a .1) → Closed (completed ω (sheetOf sheet) output a s b .world .store)
-  completed-closed a s false h = closed
-  completed-closed a s true h = h
-
-  ended-closed : firstFailing (recordTests ω bytes sheet) ≡ none → (x : Out (Result × Store)) → ran ω bytes sheet ≡ x → Closed (ended ω (sheetOf sheet) output x .world .store)
-  ended-closed p (failed (Refused n) s) e = closed
-  ended-closed p (failed (TypeError n) s) e = closed
-  ended-closed p (failed (Thrown v) s) e = closed
-  ended-closed p (done a s) e = completed-closed a s (outputHolds (a .0) output) (ran-closes p a s e)
-
-  step-closed : Closed (step ω bytes sheet output .world .store)
-  unfolding step
-  step-closed = go (firstFailing (recordTests ω bytes sheet)) refl
-    where
-      go : (t : Option ℕ) → firstFailing (recordTests ω bytes sheet) ≡ t → Closed (tested ω (sheetOf sheet) output (ran ω bytes sheet) t .world .store)
-      go (some n) e = closed
-      go none e = ended-closed e (ran ω bytes sheet) refl
-
-entered-closed : (ω : World) (x : Entry) → Closed (ω .store) → Closed (entered ω x .world .store)
-entered-closed ω (entry.refused n) h = h
-entered-closed ω (entry.entered n strings) h = h
-
-effect-closed : (ω : World) (c : Call) → Closed (ω .store) → Closed (effect ω c .world .store)
-unfolding effect enterString
-effect-closed ω (call.step bytes sheet output) h = step-closed ω bytes sheet output h
-effect-closed ω (call.enter units) h = entered-closed ω (enter (ω .strings) units) h
-
-closed-from : (ω : World) (cs : List Call) (i : ℕ) → Closed (ω .store) → Closed (worldFrom ω cs i .store)
-unfolding worldFrom
-closed-from ω cs zero h = h
-closed-from ω [] (suc i) h = h
-closed-from ω (c ∷ cs) (suc i) h = closed-from (effect ω c .world) cs i (effect-closed ω c h)
-
-closed-empty : Closed (empty .store)
-unfolding lookup
-closed-empty = record { ordinary = λ o r e. absurd (false≢true cc); proxy = λ o p e. absurd (false≢true cc) }
-
--- in every world of a list of calls, objects name objects that were made
-pub closed-at : (calls : List Call) (i : ℕ) → Closed (worldAt calls i .store)
-closed-at calls i = closed-from empty calls i closed-empty
+  ran-depth : (n : ℕ) → maximumCalls ≤ n → perform n (contextOf ω) (asked bytes) .run (state (sheetOf sheet) maximumCalls) ≡ ran ω bytes sheet
+  unfolding ran
+  ran-depth n h = runs .alike n maximumCalls h (le-refl _) _ (le-refl _) (names-made ω bytes sheet passes .answers)
 
 -- A step --------------------------------------------------------------------------------
 
@@ -133,36 +86,28 @@ module _ (ω : World) (bytes sheet output : List ℕ) (closed : Closed (ω .stor
   abbrev ending : Ending
   ending = step ω bytes sheet output .response .ending
 
-  -- how the step ended, with the step itself
+  -- how the step ended, by demand 1's conditions
   data Shape : Effect → Type 0 where
     refuses : {n : ℕ} → Refusal ω bytes sheet output n → Shape (refusing n ω output)
     accepts : {e : Effect} → Accepted (e .response .ending) → Unless (e .response .ending) ((e .world ≡ ω) × (e .output ≡ output)) → e .world .strings ≡ ω .strings → Shape e
 
-  shape-room : (a : Result × Store) (s : State) (b : Bool) → outputHolds (a .0) output ≡ b → firstFailing (recordTests ω bytes sheet) ≡ none → ran ω bytes sheet ≡ done a s
-      → Shape (completed ω (sheetOf sheet) output a s b)
-  shape-room a s false h p e = refuses (short p e h)
-  shape-room a s true h p e = accepts (by-result (a .0)) (is-result (a .0) refl) refl
-
-  shape-run : (x : Out (Result × Store)) → firstFailing (recordTests ω bytes sheet) ≡ none → ran ω bytes sheet ≡ x → Shape (ended ω (sheetOf sheet) output x)
-  shape-run (failed (Refused n) s) p e = refuses (met-refusal n s p e (ran-fails ω bytes sheet output closed p _ s e))
-  shape-run (failed (TypeError n) s) p e = accepts (errs n s (ran-fails ω bytes sheet output closed p _ s e)) (otherwise (refl, refl)) refl
-  shape-run (failed (Thrown v) s) p e = accepts (by-throw v) (otherwise (refl, refl)) refl
-  shape-run (done a s) p e = shape-room a s (outputHolds (a .0) output) refl p e
+  shaped : {x : Effect} → Ends ω bytes sheet output x → Shape x
+  shaped (how.inadmissible p) = refuses (inadmissible p)
+  shaped (how.refuses {n = n} {s = s} p e) = refuses (met-refusal n s p e (ran-fails ω bytes sheet closed p _ s e))
+  shaped (how.errs {n = n} {s = s} p e) = accepts (errs n s (ran-fails ω bytes sheet closed p _ s e)) (otherwise (refl, refl)) refl
+  shaped (how.throws {v = v} p e) = accepts (by-throw v) (otherwise (refl, refl)) refl
+  shaped (how.short p e h) = refuses (short p e h)
+  shaped (how.results {a = a} p e h) = accepts (by-result (a .0)) (is-result (a .0) refl) refl
 
   shape : Shape (step ω bytes sheet output)
-  unfolding step
-  shape = go (firstFailing (recordTests ω bytes sheet)) refl
-    where
-      go : (t : Option ℕ) → firstFailing (recordTests ω bytes sheet) ≡ t → Shape (tested ω (sheetOf sheet) output (ran ω bytes sheet) t)
-      go (some n) e = refuses (malformed e)
-      go none e = shape-run (ran ω bytes sheet) e refl
+  shape = shaped (ends ω bytes sheet output)
 
   ended-in : {e : Effect} → step ω bytes sheet output ≡ e → ending ≡ e .response .ending
   ended-in q = ap (λ (x : Effect). x .response .ending) q
 
   -- a condition that holds refuses the step
   refused-by : (n : ℕ) → Refusal ω bytes sheet output n → ending ≡ refused n
-  refused-by n (malformed e) = ended-in (step-is ω bytes sheet output _ _ e refl)
+  refused-by n (inadmissible e) = ended-in (step-is ω bytes sheet output _ _ e refl)
   refused-by n (refusal.full p e r) = ended-in (step-is ω bytes sheet output _ _ p e)
   refused-by n (spent p e h) = ended-in (step-is ω bytes sheet output _ _ p e)
   refused-by n (unreadable p e) = ended-in (step-is ω bytes sheet output _ _ p e)
@@ -189,7 +134,7 @@ module _ (ω : World) (bytes sheet output : List ℕ) (closed : Closed (ω .stor
       → LeftOf (leftIn (perform maximumCalls (contextOf ω) (asked bytes) .run (state (sheetOf sheet ++ more) maximumCalls))) more
   unfolding ran
   all-read {s} e p more = rw (← left-is _) (suffix-left (spent-reads-all (perform maximumCalls (contextOf ω) (asked bytes)) (perform-longer maximumCalls (contextOf ω) (asked bytes)) _ s e
-      (spent-met ω s (ran-fails ω bytes sheet output closed p _ s e)) more))
+      (spent-met ω s (ran-fails ω bytes sheet closed p _ s e)) more))
 
   decided : StepDecided ω bytes sheet output
   decided = record {
@@ -199,7 +144,7 @@ module _ (ω : World) (bytes sheet output : List ℕ) (closed : Closed (ω .stor
     unchanged = unchanged-in _ shape;
     strings = strings-in _ shape;
     reads = λ e p more. all-read e p more;
-    depth = λ p n h. ran-depth ω bytes sheet output closed p n h;
+    depth = λ p n h. ran-depth ω bytes sheet closed p n h;
   }
 
 -- Demand 1 for steps: at every place of every list of calls, whatever the bytes of the step, the sheet and the output
@@ -216,21 +161,32 @@ module _ (ω : World) (units : List ℕ) where
   abbrev added : Bool → Entry
   added b = cond b (entry.entered (length (ω .strings)) (ω .strings ++ (units ∷ []))) (entry.refused 7)
 
-  shape-full : (b : Bool) → ltb (length (ω .strings)) maximumStrings ≡ b → length units ≤ maximumLength → numberOf (ω .strings) units ≡ none → EntryShape (entered ω (added b))
-  shape-full true e h q = accepts (by-result _) refl
-  shape-full false e h q = refuses (refusal.EntryRefusal.full h q (ltb-false _ _ e))
+  -- a string is refused by one of the two conditions
+  refusal-of : (n : ℕ) → enter (ω .strings) units ≡ entry.refused n → EntryRefusal ω units n
+  unfolding enter
+  refusal-of n h = by-length (leb (length units) maximumLength) refl h
+    where
+      refused-entry : {i j : ℕ} → entry.refused i ≡ entry.refused j → i ≡ j
+      refused-entry q = cc
 
-  shape-number : (x : Option ℕ) → numberOf (ω .strings) units ≡ x → length units ≤ maximumLength → EntryShape (entered ω (entering (ω .strings) units x))
-  shape-number (some n) e h = accepts (by-result _) refl
-  shape-number none e h = shape-full (ltb (length (ω .strings)) maximumStrings) refl h e
+      by-room : (b : Bool) → ltb (length (ω .strings)) maximumStrings ≡ b → length units ≤ maximumLength → numberOf (ω .strings) units ≡ none → added b ≡ entry.refused n → EntryRefusal ω units n
+      by-room true e l q g = absurd (false≢true cc)
+      by-room false e l q g = subst (EntryRefusal ω units) (refused-entry g) (refusal.EntryRefusal.full l q (ltb-false _ _ e))
+
+      by-number : (x : Option ℕ) → numberOf (ω .strings) units ≡ x → length units ≤ maximumLength → entering (ω .strings) units x ≡ entry.refused n → EntryRefusal ω units n
+      by-number (some m) e l g = absurd (false≢true cc)
+      by-number none e l g = by-room (ltb (length (ω .strings)) maximumStrings) refl l e g
+
+      by-length : (b : Bool) → leb (length units) maximumLength ≡ b → cond b (entering (ω .strings) units (numberOf (ω .strings) units)) (entry.refused 3) ≡ entry.refused n → EntryRefusal ω units n
+      by-length true e g = by-number (numberOf (ω .strings) units) refl (leb-true _ _ e) g
+      by-length false e g = subst (EntryRefusal ω units) (refused-entry g) (long (leb-false _ _ e))
+
+  entry-shaped : {x : Effect} → EntryEnds ω units x → EntryShape x
+  entry-shaped (how.EntryEnds.refuses {n = n} e) = refuses (refusal-of n e)
+  entry-shaped (how.EntryEnds.enters e) = accepts (by-result _) refl
 
   entry-shape : EntryShape (enterString ω units)
-  unfolding enterString enter
-  entry-shape = go (leb (length units) maximumLength) refl
-    where
-      go : (b : Bool) → leb (length units) maximumLength ≡ b → EntryShape (entered ω (cond b (entering (ω .strings) units (numberOf (ω .strings) units)) (entry.refused 3)))
-      go true e = shape-number (numberOf (ω .strings) units) refl (leb-true _ _ e)
-      go false e = refuses (long (leb-false _ _ e))
+  entry-shape = entry-shaped (entry-ends ω units)
 
   entry-refused-by : (n : ℕ) → EntryRefusal ω units n → enterString ω units .response .ending ≡ refused n
   unfolding enterString enter

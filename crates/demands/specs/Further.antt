@@ -9,10 +9,10 @@ use Rattle.value.specs.Value.{sameValue}
 use Rattle.property.specs.declared.Field.the-variants.{Present}
 use Rattle.property.specs.declared.PropertyDescriptor.{PropertyDescriptor}
 use Rattle.property.specs.Fields.{isFalse, valueField, writableField}
-use Rattle.lasting.specs.Operation.{getPrototypeOf, setPrototypeOf, defineOwnProperty, set, delete}
-use Rattle.lasting.specs.Perform.{value, boolean}
-use Rattle.lasting.specs.Run.{Event}
-use Rattle.lasting.specs.Lasting.{At, Tells, ReportsFixed, ReportsNonExtensible, ReportsAbsent, ShowsOwn, StaysFixed}
+use Rattle.steps.specs.Operation.{getPrototypeOf, setPrototypeOf, defineOwnProperty, set, delete}
+use Rattle.steps.specs.Perform.{value, boolean}
+use Rattle.steps.specs.Run.{Event, At}
+use Rattle.demands.specs.Lasting.{Tells, ReportsFixed, ReportsNonExtensible, ReportsAbsent, ShowsOwn, StaysFixed}
 
 -- the descriptor has this value, and writable and configurable false
 pub record AsksFixed (d : PropertyDescriptor) (v : Value) : Type 0 where

@@ -1,0 +1,4 @@
+pub mod RowsHold
+pub mod LastingHolds
+pub mod Decided
+pub mod FurtherHold

@@ -1,0 +1,4 @@
+pub mod Rows
+pub mod Lasting
+pub mod Refusals
+pub mod Further

@@ -1,0 +1,6 @@
+pub mod Steps
+pub mod Made
+pub mod Performed
+pub mod Performs
+pub mod Places
+pub mod Walk
