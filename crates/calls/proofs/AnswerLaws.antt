@@ -19,7 +19,7 @@ use Rattle.sheet.specs.declared.NextAnswer.{NextAnswer}
 use Rattle.sheet.specs.declared.NextAnswer.the-variants as next
 use Rattle.sheet.specs.Next.{Next, told}
 use Rattle.calls.specs.declared.Progress.{Progress}
-use Rattle.calls.specs.Told.{stateOf, afterAnswer, textLength}
+use Rattle.calls.specs.Outs.{stateOf, afterAnswer, textLength}
 
 module _ (bytes : List ℕ) (s : Progress) (r : NextAnswer) (h : Next bytes (s .at) (s .left) r) where
   tells : (q : NextAnswer) → r ≡ q → answersAt bytes (s .at) (s .left) ≡ told bytes (s .left) q

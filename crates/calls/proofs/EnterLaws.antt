@@ -28,7 +28,7 @@ use Rattle.calls.specs.declared.Progress.{Progress}
 use Rattle.calls.specs.declared.Entered.{Entered}
 use Rattle.calls.specs.declared.Entered.the-variants as entered
 use Rattle.calls.specs.Entering.{progress, unrevoked, found, entering, begun, counting}
-use Rattle.calls.specs.Told.{stateOf}
+use Rattle.calls.specs.Outs.{stateOf}
 
 module _ {A : Type 0} (sheet : List ℕ) (f : OrdinaryObject → M A) (g : ProxyObject → M A) where
   -- how a method goes on once it has begun

@@ -12,7 +12,7 @@ ghost use Prim.Native.Nat.{ℕ, _<_};
 ghost use Rattle.text.specs.Table.{isTable, stringsOf};
 ghost use Rattle.internal_methods.specs.Answers.{askValue, askBoolean, askPrototype, askDescriptor, asPrototype, undefinedDescriptor};
 ghost use mathlib.Core.List.{List};
-ghost use Rattle.calls.specs.Told.{stateOf, afterAnswer, textLength, toldValue, toldBoolean, toldDescriptor};
+ghost use Rattle.calls.specs.Outs.{stateOf, afterAnswer, textLength, outValue, outBoolean, outDescriptor};
 
 // Past the answer that ends at `end`.
 pub fn past(s: Progress, end: usize) -> Progress
@@ -27,7 +27,7 @@ pub fn past(s: Progress, end: usize) -> Progress
 }
 
 pub fn next_value(sheet: &[u8], s: Progress) -> ValueOut
-    ensures { λ r. ⌜ toldValue (now (sheet .entry)) r ≡ askValue .run (stateOf (now (sheet .entry)) s) ⌝ }
+    ensures { λ r. ⌜ outValue (now (sheet .entry)) r ≡ askValue .run (stateOf (now (sheet .entry)) s) ⌝ }
 {
     match sheet::next_answer(sheet, s.at, s.left) {
         NextAnswer::NoAnswer => ValueOut::Failed(Failure::Refused(8), s),
@@ -51,7 +51,7 @@ fn text_length(strings: &[u16], v: Value) -> usize
 // ToBoolean of the next answer
 pub fn next_boolean(strings: &[u16], sheet: &[u8], s: Progress) -> BooleanOut
     requires { ⌜ isTable (now strings) ≡ true ⌝ }
-    ensures { λ r. ⌜ toldBoolean (now (sheet .entry)) r ≡ askBoolean (stringsOf (now (strings .entry))) .run (stateOf (now (sheet .entry)) s) ⌝ }
+    ensures { λ r. ⌜ outBoolean (now (sheet .entry)) r ≡ askBoolean (stringsOf (now (strings .entry))) .run (stateOf (now (sheet .entry)) s) ⌝ }
 {
     match next_value(sheet, s) {
         ValueOut::Failed(f, t) => BooleanOut::Failed(f, t),
@@ -64,7 +64,7 @@ pub fn next_boolean(strings: &[u16], sheet: &[u8], s: Progress) -> BooleanOut
 
 // 10.5.1 step 8: an object or null
 fn as_prototype(v: Value, s: Progress) -> ValueOut
-    ensures { λ r. ⌜ ((bytes : List ℕ) → toldValue bytes r ≡ asPrototype v .run (stateOf bytes s)) ⌝ }
+    ensures { λ r. ⌜ ((bytes : List ℕ) → outValue bytes r ≡ asPrototype v .run (stateOf bytes s)) ⌝ }
 {
     match v {
         Value::Null => ValueOut::Done(v, s),
@@ -75,7 +75,7 @@ fn as_prototype(v: Value, s: Progress) -> ValueOut
 }
 
 pub fn next_prototype(sheet: &[u8], s: Progress) -> ValueOut
-    ensures { λ r. ⌜ toldValue (now (sheet .entry)) r ≡ askPrototype .run (stateOf (now (sheet .entry)) s) ⌝ }
+    ensures { λ r. ⌜ outValue (now (sheet .entry)) r ≡ askPrototype .run (stateOf (now (sheet .entry)) s) ⌝ }
 {
     match next_value(sheet, s) {
         ValueOut::Failed(f, t) => ValueOut::Failed(f, t),
@@ -85,7 +85,7 @@ pub fn next_prototype(sheet: &[u8], s: Progress) -> ValueOut
 
 // 10.5.5 step 8: undefined, where a value is no descriptor
 fn as_undefined(v: Value, s: Progress) -> DescriptorOut
-    ensures { λ r. ⌜ ((bytes : List ℕ) → toldDescriptor bytes r ≡ undefinedDescriptor v .run (stateOf bytes s)) ⌝ }
+    ensures { λ r. ⌜ ((bytes : List ℕ) → outDescriptor bytes r ≡ undefinedDescriptor v .run (stateOf bytes s)) ⌝ }
 {
     match v {
         Value::Undefined => DescriptorOut::Undefined(s),
@@ -96,7 +96,7 @@ fn as_undefined(v: Value, s: Progress) -> DescriptorOut
 }
 
 pub fn next_descriptor(sheet: &[u8], s: Progress) -> DescriptorOut
-    ensures { λ r. ⌜ toldDescriptor (now (sheet .entry)) r ≡ askDescriptor .run (stateOf (now (sheet .entry)) s) ⌝ }
+    ensures { λ r. ⌜ outDescriptor (now (sheet .entry)) r ≡ askDescriptor .run (stateOf (now (sheet .entry)) s) ⌝ }
 {
     match sheet::next_answer(sheet, s.at, s.left) {
         NextAnswer::NoAnswer => DescriptorOut::Failed(Failure::Refused(8), s),

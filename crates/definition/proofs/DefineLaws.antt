@@ -25,7 +25,7 @@ use Rattle.internal_methods.specs.Internal.{methods}
 use Rattle.calls.specs.declared.Progress.{Progress}
 use Rattle.calls.specs.declared.Entered.{Entered}
 use Rattle.calls.specs.Entering.{entering, counting, found, progress}
-use Rattle.calls.specs.Told.{stateOf}
+use Rattle.calls.specs.Outs.{stateOf}
 use Rattle.calls.proofs.EnterLaws.{after, get-own-property-goes-on}
 use Rattle.definition.specs.Define.{isOrdinary}
 

@@ -18,7 +18,7 @@ use Rattle.internal_methods.specs.Monad.{M, pure, _>>=_, _>>_, throwIf, if_then
 use Rattle.internal_methods.specs.Answers.{askBoolean}
 use Rattle.internal_methods.specs.Methods.{Context, Methods, Written}
 use Rattle.internal_methods.specs.Proxy.{isWritable}
-use Rattle.calls.specs.Told.{Readable}
+use Rattle.calls.specs.Outs.{Readable}
 
 -- what a method that may add the property k asks of the words, the cells and the allowance
 pub record Definable (words cells : List ℕ) (allowance : ℕ) (k : PropertyKey) : Type 0 where

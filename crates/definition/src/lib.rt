@@ -14,7 +14,7 @@ ghost use Rattle.store.specs.Words.{storeOf};
 ghost use Rattle.internal_methods.specs.Ordinary.{ordinaryDefineOwnProperty};
 ghost use Rattle.internal_methods.specs.Proxy.{proxyDefineOwnProperty};
 ghost use Rattle.internal_methods.specs.Internal.{methods};
-ghost use Rattle.calls.specs.Told.{context, stateOf, toldWrite, Fitting};
+ghost use Rattle.calls.specs.Outs.{context, stateOf, outWrite, Fitting};
 ghost use Rattle.definition.specs.Define.{Definable, isOrdinary};
 
 mod checks;
@@ -34,7 +34,7 @@ fn ordinary_define_own_property(
     s: Progress,
 ) -> WriteOut
     requires { ⌜ Definable (now words) (now strings) allowance key × (isOrdinary (lookup (storeOf (now words)) o) ≡ true) ⌝ }
-    ensures { λ r. ⌜ toldWrite (now (sheet .entry)) (storeOf (now (words .entry))) r ≡ ordinaryDefineOwnProperty (context (now (words .entry)) (now (strings .entry)) allowance) (methods depth (context (now (words .entry)) (now (strings .entry)) allowance)) o key d .run (stateOf (now (sheet .entry)) s) ⌝ }
+    ensures { λ r. ⌜ outWrite (now (sheet .entry)) (storeOf (now (words .entry))) r ≡ ordinaryDefineOwnProperty (context (now (words .entry)) (now (strings .entry)) allowance) (methods depth (context (now (words .entry)) (now (strings .entry)) allowance)) o key d .run (stateOf (now (sheet .entry)) s) ⌝ }
     ensures { λ r. ⌜ Fitting (now (words .entry)) r ⌝ }
 {
     match own_property::get_own_property(words, strings, allowance, sheet, o, key, depth, s) {
@@ -64,7 +64,7 @@ pub fn define_own_property(
     s: Progress,
 ) -> WriteOut
     requires { ⌜ Definable (now words) (now strings) allowance key ⌝ }
-    ensures { λ r. ⌜ toldWrite (now (sheet .entry)) (storeOf (now (words .entry))) r ≡ methods depth (context (now (words .entry)) (now (strings .entry)) allowance) .defineOwnProperty o key d .run (stateOf (now (sheet .entry)) s) ⌝ }
+    ensures { λ r. ⌜ outWrite (now (sheet .entry)) (storeOf (now (words .entry))) r ≡ methods depth (context (now (words .entry)) (now (strings .entry)) allowance) .defineOwnProperty o key d .run (stateOf (now (sheet .entry)) s) ⌝ }
     ensures { λ r. ⌜ Fitting (now (words .entry)) r ⌝ }
 {
     match calls::enter(words, o, depth, s) {
@@ -101,7 +101,7 @@ fn proxy_exotic_define_own_property(
     s: Progress,
 ) -> WriteOut
     requires { ⌜ Definable (now words) (now strings) allowance key ⌝ }
-    ensures { λ r. ⌜ toldWrite (now (sheet .entry)) (storeOf (now (words .entry))) r ≡ proxyDefineOwnProperty (context (now (words .entry)) (now (strings .entry)) allowance) (methods depth (context (now (words .entry)) (now (strings .entry)) allowance)) p key d .run (stateOf (now (sheet .entry)) s) ⌝ }
+    ensures { λ r. ⌜ outWrite (now (sheet .entry)) (storeOf (now (words .entry))) r ≡ proxyDefineOwnProperty (context (now (words .entry)) (now (strings .entry)) allowance) (methods depth (context (now (words .entry)) (now (strings .entry)) allowance)) p key d .run (stateOf (now (sheet .entry)) s) ⌝ }
     ensures { λ r. ⌜ Fitting (now (words .entry)) r ⌝ }
 {
     let target = p.target;

@@ -13,7 +13,7 @@ ghost use mathlib.Core.Path.{_≡_};
 ghost use mathlib.Core.Bool.{true};
 ghost use Rattle.store.specs.Words.{storeOf};
 ghost use Rattle.internal_methods.specs.Internal.{methods};
-ghost use Rattle.calls.specs.Told.{context, stateOf, toldWrite, Fitting};
+ghost use Rattle.calls.specs.Outs.{context, stateOf, outWrite, Fitting};
 ghost use Rattle.definition.specs.Define.{Definable, definedByTrap};
 
 // 10.5.6 steps 7 to 16
@@ -29,7 +29,7 @@ pub fn define_own_property_trap(
     s: Progress,
 ) -> WriteOut
     requires { ⌜ Definable (now words) (now strings) allowance key ⌝ }
-    ensures { λ r. ⌜ toldWrite (now (sheet .entry)) (storeOf (now (words .entry))) r ≡ definedByTrap (context (now (words .entry)) (now (strings .entry)) allowance) (methods depth (context (now (words .entry)) (now (strings .entry)) allowance)) target key d .run (stateOf (now (sheet .entry)) s) ⌝ }
+    ensures { λ r. ⌜ outWrite (now (sheet .entry)) (storeOf (now (words .entry))) r ≡ definedByTrap (context (now (words .entry)) (now (strings .entry)) allowance) (methods depth (context (now (words .entry)) (now (strings .entry)) allowance)) target key d .run (stateOf (now (sheet .entry)) s) ⌝ }
     ensures { λ r. ⌜ Fitting (now (words .entry)) r ⌝ }
 {
     match answers::next_boolean(strings, sheet, s) {

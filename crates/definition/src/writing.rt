@@ -16,7 +16,7 @@ ghost use Rattle.store.specs.Store.{own, maximumProperties};
 ghost use Rattle.store.specs.Words.{isStore, storeOf};
 ghost use Rattle.store_write.specs.Write.{Joins};
 ghost use Rattle.internal_methods.specs.Ordinary.{applyValidation};
-ghost use Rattle.calls.specs.Told.{context, stateOf, toldWrite, Fitting};
+ghost use Rattle.calls.specs.Outs.{context, stateOf, outWrite, Fitting};
 
 // 10.1.6.3 steps 2.c, 2.d and 6: the property in its place, or a new one.
 fn write_property(
@@ -28,7 +28,7 @@ fn write_property(
     s: Progress,
 ) -> WriteOut
     requires { ⌜ (isStore (now words) ≡ true) × (Joins o key × (allowance ≤ maximumProperties)) ⌝ }
-    ensures { λ r. ⌜ ((bytes cells : List ℕ) → toldWrite bytes (storeOf (now (words .entry))) r ≡ applyValidation (context (now (words .entry)) cells allowance) o key (own (storeOf (now (words .entry))) o key) (Validation.Becomes p) .run (stateOf bytes s)) ⌝ }
+    ensures { λ r. ⌜ ((bytes cells : List ℕ) → outWrite bytes (storeOf (now (words .entry))) r ≡ applyValidation (context (now (words .entry)) cells allowance) o key (own (storeOf (now (words .entry))) o key) (Validation.Becomes p) .run (stateOf bytes s)) ⌝ }
     ensures { λ r. ⌜ Fitting (now (words .entry)) r ⌝ }
 {
     match finding::find(words, o, key) {
@@ -53,7 +53,7 @@ pub fn apply_validation(
     s: Progress,
 ) -> WriteOut
     requires { ⌜ (isStore (now words) ≡ true) × (Joins o key × (allowance ≤ maximumProperties)) ⌝ }
-    ensures { λ r. ⌜ ((bytes cells : List ℕ) → toldWrite bytes (storeOf (now (words .entry))) r ≡ applyValidation (context (now (words .entry)) cells allowance) o key (own (storeOf (now (words .entry))) o key) validation .run (stateOf bytes s)) ⌝ }
+    ensures { λ r. ⌜ ((bytes cells : List ℕ) → outWrite bytes (storeOf (now (words .entry))) r ≡ applyValidation (context (now (words .entry)) cells allowance) o key (own (storeOf (now (words .entry))) o key) validation .run (stateOf bytes s)) ⌝ }
     ensures { λ r. ⌜ Fitting (now (words .entry)) r ⌝ }
 {
     match validation {

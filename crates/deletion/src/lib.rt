@@ -17,7 +17,7 @@ ghost use Rattle.store_write.specs.Write.{Joins, numberIn};
 ghost use Rattle.internal_methods.specs.Ordinary.{ordinaryDelete};
 ghost use Rattle.internal_methods.specs.Proxy.{proxyDelete};
 ghost use Rattle.internal_methods.specs.Internal.{methods};
-ghost use Rattle.calls.specs.Told.{Readable, Fitting, context, stateOf, toldWrite};
+ghost use Rattle.calls.specs.Outs.{Readable, Fitting, context, stateOf, outWrite};
 
 mod trap;
 
@@ -33,7 +33,7 @@ fn ordinary_delete(
     s: Progress,
 ) -> WriteOut
     requires { ⌜ Readable (now words) (now strings) × Joins o key ⌝ }
-    ensures { λ r. ⌜ toldWrite (now (sheet .entry)) (storeOf (now (words .entry))) r ≡ ordinaryDelete (context (now (words .entry)) (now (strings .entry)) allowance) (methods depth (context (now (words .entry)) (now (strings .entry)) allowance)) o key .run (stateOf (now (sheet .entry)) s) ⌝ }
+    ensures { λ r. ⌜ outWrite (now (sheet .entry)) (storeOf (now (words .entry))) r ≡ ordinaryDelete (context (now (words .entry)) (now (strings .entry)) allowance) (methods depth (context (now (words .entry)) (now (strings .entry)) allowance)) o key .run (stateOf (now (sheet .entry)) s) ⌝ }
     ensures { λ r. ⌜ Fitting (now (words .entry)) r ⌝ }
 {
     match get_own_property(words, strings, allowance, sheet, o, key, depth, s) {
@@ -63,7 +63,7 @@ pub fn delete(
     s: Progress,
 ) -> WriteOut
     requires { ⌜ Readable (now words) (now strings) × (numberIn key < 2 ^ 58) ⌝ }
-    ensures { λ r. ⌜ toldWrite (now (sheet .entry)) (storeOf (now (words .entry))) r ≡ methods depth (context (now (words .entry)) (now (strings .entry)) allowance) .delete o key .run (stateOf (now (sheet .entry)) s) ⌝ }
+    ensures { λ r. ⌜ outWrite (now (sheet .entry)) (storeOf (now (words .entry))) r ≡ methods depth (context (now (words .entry)) (now (strings .entry)) allowance) .delete o key .run (stateOf (now (sheet .entry)) s) ⌝ }
     ensures { λ r. ⌜ Fitting (now (words .entry)) r ⌝ }
 {
     match calls::enter(words, o, depth, s) {
@@ -89,7 +89,7 @@ fn proxy_exotic_delete(
     s: Progress,
 ) -> WriteOut
     requires { ⌜ Readable (now words) (now strings) × (numberIn key < 2 ^ 58) ⌝ }
-    ensures { λ r. ⌜ toldWrite (now (sheet .entry)) (storeOf (now (words .entry))) r ≡ proxyDelete (context (now (words .entry)) (now (strings .entry)) allowance) (methods depth (context (now (words .entry)) (now (strings .entry)) allowance)) p key .run (stateOf (now (sheet .entry)) s) ⌝ }
+    ensures { λ r. ⌜ outWrite (now (sheet .entry)) (storeOf (now (words .entry))) r ≡ proxyDelete (context (now (words .entry)) (now (strings .entry)) allowance) (methods depth (context (now (words .entry)) (now (strings .entry)) allowance)) p key .run (stateOf (now (sheet .entry)) s) ⌝ }
     ensures { λ r. ⌜ Fitting (now (words .entry)) r ⌝ }
 {
     let target = p.target;

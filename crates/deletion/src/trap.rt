@@ -18,7 +18,7 @@ ghost use mathlib.Core.Bool.{true};
 ghost use Rattle.store.specs.Words.{storeOf};
 ghost use Rattle.internal_methods.specs.Proxy.{hasTrap, proxyDelete};
 ghost use Rattle.internal_methods.specs.Internal.{methods};
-ghost use Rattle.calls.specs.Told.{Readable, Fitting, context, stateOf, toldWrite};
+ghost use Rattle.calls.specs.Outs.{Readable, Fitting, context, stateOf, outWrite};
 ghost use Rattle.deletion.specs.Present.{deletePresent};
 
 // 10.5.10 steps 11 to 14, where the target has the property
@@ -33,7 +33,7 @@ fn delete_present(
     s: Progress,
 ) -> WriteOut
     requires { ⌜ Readable (now words) (now strings) ⌝ }
-    ensures { λ r. ⌜ toldWrite (now (sheet .entry)) (storeOf (now (words .entry))) r ≡ deletePresent (context (now (words .entry)) (now (strings .entry)) allowance) (methods depth (context (now (words .entry)) (now (strings .entry)) allowance)) target property .run (stateOf (now (sheet .entry)) s) ⌝ }
+    ensures { λ r. ⌜ outWrite (now (sheet .entry)) (storeOf (now (words .entry))) r ≡ deletePresent (context (now (words .entry)) (now (strings .entry)) allowance) (methods depth (context (now (words .entry)) (now (strings .entry)) allowance)) target property .run (stateOf (now (sheet .entry)) s) ⌝ }
     ensures { λ r. ⌜ Fitting (now (words .entry)) r ⌝ }
 {
     if attributes::is_configurable(property) {
@@ -64,7 +64,7 @@ pub fn delete_trap(
     s: Progress,
 ) -> WriteOut
     requires { ⌜ Readable (now words) (now strings) × (hasTrap p 9 ≡ true) ⌝ }
-    ensures { λ r. ⌜ toldWrite (now (sheet .entry)) (storeOf (now (words .entry))) r ≡ proxyDelete (context (now (words .entry)) (now (strings .entry)) allowance) (methods depth (context (now (words .entry)) (now (strings .entry)) allowance)) p key .run (stateOf (now (sheet .entry)) s) ⌝ }
+    ensures { λ r. ⌜ outWrite (now (sheet .entry)) (storeOf (now (words .entry))) r ≡ proxyDelete (context (now (words .entry)) (now (strings .entry)) allowance) (methods depth (context (now (words .entry)) (now (strings .entry)) allowance)) p key .run (stateOf (now (sheet .entry)) s) ⌝ }
     ensures { λ r. ⌜ Fitting (now (words .entry)) r ⌝ }
 {
     let target = p.target;

@@ -1,1 +1,1 @@
-pub mod AloneLaws
+pub mod OperationLaws

@@ -15,7 +15,7 @@ use Rattle.descriptor_entries.specs.declared.operations.DescriptorAnswer
 use Rattle.descriptor_entries.specs.declared.operations.DescriptorAnswer.the-variants as answer
 use Rattle.descriptor_entries.specs.declared.operations.Verdict.{Verdict}
 use Rattle.descriptor_entries.specs.declared.operations.Verdict.the-variants as verdict
-use Rattle.descriptor_entries.specs.Alone.{completeAlone, validateAlone, mergeAlone}
+use Rattle.descriptor_entries.specs.Operations.{completeRecord, validateRecords, mergeRecords}
 use Rattle.descriptor_entries.specs.declared.Held.{Held}
 use Rattle.descriptor_entries.specs.declared.Held.the-variants.{Counts, Malformed}
 
@@ -45,15 +45,15 @@ isAccepted (verdict.Refused n) = false
 isAccepted (verdict.Verdict accepted after) = accepted
 
 abbrev pub completedIn : List ℕ → Held → Report
-completedIn bytes (Counts n) = answerReport (completeAlone n bytes)
+completedIn bytes (Counts n) = answerReport (completeRecord n bytes)
 completedIn bytes Malformed = reportOf (refusal 1)
 
 abbrev pub validatedIn : Bool → List ℕ → List ℕ → Held → Verdict
-validatedIn extensible bytes current (Counts n) = validateAlone n extensible bytes current
+validatedIn extensible bytes current (Counts n) = validateRecords n extensible bytes current
 validatedIn extensible bytes current Malformed = verdict.Refused 1
 
 abbrev pub mergedIn : List ℕ → List ℕ → Held → Report
-mergedIn current bytes (Counts n) = answerReport (mergeAlone n current bytes)
+mergedIn current bytes (Counts n) = answerReport (mergeRecords n current bytes)
 mergedIn current bytes Malformed = reportOf (refusal 1)
 
 unfoldable pub completeOver : List ℕ → List ℕ → List ℕ → Report

@@ -1,3 +1,3 @@
 pub mod Entries
-pub mod Alone
+pub mod Operations
 pub mod Records

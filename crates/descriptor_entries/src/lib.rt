@@ -86,7 +86,7 @@ pub fn complete(words: &[u64], strings: &[u16], bytes: &[u8]) -> Report
     let held = counts_in(words, strings);
     match held {
         Held::Malformed => reporting::refused(1),
-        Held::Counts(n) => answer_report(operations::complete_alone(n, bytes)),
+        Held::Counts(n) => answer_report(operations::complete_record(n, bytes)),
     }
 }
 
@@ -102,7 +102,7 @@ pub fn validate(
     let held = counts_in(words, strings);
     match held {
         Held::Malformed => Verdict::Refused(1),
-        Held::Counts(n) => operations::validate_alone(n, extensible, bytes, current),
+        Held::Counts(n) => operations::validate_records(n, extensible, bytes, current),
     }
 }
 
@@ -112,6 +112,6 @@ pub fn merge(words: &[u64], strings: &[u16], current: &[u8], bytes: &[u8]) -> Re
     let held = counts_in(words, strings);
     match held {
         Held::Malformed => reporting::refused(1),
-        Held::Counts(n) => answer_report(operations::merge_alone(n, current, bytes)),
+        Held::Counts(n) => answer_report(operations::merge_records(n, current, bytes)),
     }
 }

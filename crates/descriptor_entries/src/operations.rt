@@ -15,7 +15,7 @@ ghost use mathlib.Core.Path.{_≡_};
 ghost use Rattle.property.specs.Descriptor.{toPropertyDescriptor};
 ghost use Rattle.property.specs.Validate.{validate, propertyOf};
 ghost use Rattle.record.specs.Tests.{refusal};
-ghost use Rattle.descriptor_entries.specs.Alone.{completed, judged, validatedOver, validated, validatedAbsent, mergedOver, merged, completeAlone, validateAlone, mergeAlone};
+ghost use Rattle.descriptor_entries.specs.Operations.{completed, judged, validatedOver, validated, validatedAbsent, mergedOver, merged, completeRecord, validateRecords, mergeRecords};
 ghost use Rattle.descriptor_entries.specs.Records.{laterOne, laterTwo};
 
 // A refusal by its number, or the property that the descriptors make.
@@ -46,8 +46,8 @@ fn complete_read(n: Counts, d: DescriptorObject) -> DescriptorAnswer
 }
 
 // Completing by itself.
-pub fn complete_alone(n: Counts, bytes: &[u8]) -> DescriptorAnswer
-    ensures { λ r. ⌜ r ≡ completeAlone n (now (bytes .entry)) ⌝ }
+pub fn complete_record(n: Counts, bytes: &[u8]) -> DescriptorAnswer
+    ensures { λ r. ⌜ r ≡ completeRecord n (now (bytes .entry)) ⌝ }
 {
     let reading = records::read(bytes);
     match reading {
@@ -115,8 +115,8 @@ fn validate_read(
 }
 
 // Validating by itself; no current record stands for an absent property.
-pub fn validate_alone(n: Counts, extensible: bool, bytes: &[u8], current: &[u8]) -> Verdict
-    ensures { λ r. ⌜ r ≡ validateAlone n extensible (now (bytes .entry)) (now (current .entry)) ⌝ }
+pub fn validate_records(n: Counts, extensible: bool, bytes: &[u8], current: &[u8]) -> Verdict
+    ensures { λ r. ⌜ r ≡ validateRecords n extensible (now (bytes .entry)) (now (current .entry)) ⌝ }
 {
     let reading = records::read(bytes);
     match reading {
@@ -167,8 +167,8 @@ fn merge_read(n: Counts, current: DescriptorObject, d: DescriptorObject) -> Desc
 }
 
 // Merging by itself: boa's current.fill_with(desc).
-pub fn merge_alone(n: Counts, current: &[u8], bytes: &[u8]) -> DescriptorAnswer
-    ensures { λ r. ⌜ r ≡ mergeAlone n (now (current .entry)) (now (bytes .entry)) ⌝ }
+pub fn merge_records(n: Counts, current: &[u8], bytes: &[u8]) -> DescriptorAnswer
+    ensures { λ r. ⌜ r ≡ mergeRecords n (now (current .entry)) (now (bytes .entry)) ⌝ }
 {
     let reading = records::read(current);
     match reading {

@@ -11,7 +11,7 @@ ghost use mathlib.Core.Bool.{Bool·beq};
 ghost use Rattle.internal_methods.specs.Ordinary.{ordinaryIsExtensible};
 ghost use Rattle.internal_methods.specs.Proxy.{proxyIsExtensible};
 ghost use Rattle.internal_methods.specs.Internal.{methods};
-ghost use Rattle.calls.specs.Told.{Readable, context, stateOf, toldBoolean};
+ghost use Rattle.calls.specs.Outs.{Readable, context, stateOf, outBoolean};
 
 pub mod prevention;
 
@@ -39,7 +39,7 @@ pub fn is_extensible(
     s: Progress,
 ) -> BooleanOut
     requires { ⌜ Readable (now words) (now strings) ⌝ }
-    ensures { λ r. ⌜ toldBoolean (now (sheet .entry)) r ≡ methods depth (context (now (words .entry)) (now (strings .entry)) allowance) .isExtensible o .run (stateOf (now (sheet .entry)) s) ⌝ }
+    ensures { λ r. ⌜ outBoolean (now (sheet .entry)) r ≡ methods depth (context (now (words .entry)) (now (strings .entry)) allowance) .isExtensible o .run (stateOf (now (sheet .entry)) s) ⌝ }
 {
     match calls::enter(words, o, depth, s) {
         Entered::Failed(f, t) => BooleanOut::Failed(f, t),
@@ -61,7 +61,7 @@ fn proxy_exotic_is_extensible(
     s: Progress,
 ) -> BooleanOut
     requires { ⌜ Readable (now words) (now strings) ⌝ }
-    ensures { λ r. ⌜ toldBoolean (now (sheet .entry)) r ≡ proxyIsExtensible (context (now (words .entry)) (now (strings .entry)) allowance) (methods depth (context (now (words .entry)) (now (strings .entry)) allowance)) p .run (stateOf (now (sheet .entry)) s) ⌝ }
+    ensures { λ r. ⌜ outBoolean (now (sheet .entry)) r ≡ proxyIsExtensible (context (now (words .entry)) (now (strings .entry)) allowance) (methods depth (context (now (words .entry)) (now (strings .entry)) allowance)) p .run (stateOf (now (sheet .entry)) s) ⌝ }
 {
     let target = p.target;
     if calls::has_trap(p, 4) {

@@ -15,7 +15,7 @@ ghost use mathlib.Core.Bool.{true};
 ghost use Rattle.store.specs.Words.{storeOf};
 ghost use Rattle.internal_methods.specs.Proxy.{hasTrap, proxyPreventExtensions};
 ghost use Rattle.internal_methods.specs.Internal.{methods};
-ghost use Rattle.calls.specs.Told.{Readable, Fitting, context, stateOf, toldWrite};
+ghost use Rattle.calls.specs.Outs.{Readable, Fitting, context, stateOf, outWrite};
 ghost use Rattle.extensibility.specs.Prevention.{prevention};
 
 // 10.1.4.1 OrdinaryPreventExtensions ( O ), the write of step 1
@@ -41,7 +41,7 @@ fn prevent_extensions_trap(
     s: Progress,
 ) -> WriteOut
     requires { ⌜ Readable (now words) (now strings) × (hasTrap p 3 ≡ true) ⌝ }
-    ensures { λ r. ⌜ toldWrite (now (sheet .entry)) (storeOf (now (words .entry))) r ≡ proxyPreventExtensions (context (now (words .entry)) (now (strings .entry)) allowance) (methods depth (context (now (words .entry)) (now (strings .entry)) allowance)) p .run (stateOf (now (sheet .entry)) s) ⌝ }
+    ensures { λ r. ⌜ outWrite (now (sheet .entry)) (storeOf (now (words .entry))) r ≡ proxyPreventExtensions (context (now (words .entry)) (now (strings .entry)) allowance) (methods depth (context (now (words .entry)) (now (strings .entry)) allowance)) p .run (stateOf (now (sheet .entry)) s) ⌝ }
     ensures { λ r. ⌜ Fitting (now (words .entry)) r ⌝ }
 {
     let target = p.target;
@@ -77,7 +77,7 @@ pub fn prevent_extensions(
     s: Progress,
 ) -> WriteOut
     requires { ⌜ Readable (now words) (now strings) ⌝ }
-    ensures { λ r. ⌜ toldWrite (now (sheet .entry)) (storeOf (now (words .entry))) r ≡ methods depth (context (now (words .entry)) (now (strings .entry)) allowance) .preventExtensions o .run (stateOf (now (sheet .entry)) s) ⌝ }
+    ensures { λ r. ⌜ outWrite (now (sheet .entry)) (storeOf (now (words .entry))) r ≡ methods depth (context (now (words .entry)) (now (strings .entry)) allowance) .preventExtensions o .run (stateOf (now (sheet .entry)) s) ⌝ }
     ensures { λ r. ⌜ Fitting (now (words .entry)) r ⌝ }
 {
     match calls::enter(words, o, depth, s) {
@@ -102,7 +102,7 @@ fn proxy_exotic_prevent_extensions(
     s: Progress,
 ) -> WriteOut
     requires { ⌜ Readable (now words) (now strings) ⌝ }
-    ensures { λ r. ⌜ toldWrite (now (sheet .entry)) (storeOf (now (words .entry))) r ≡ proxyPreventExtensions (context (now (words .entry)) (now (strings .entry)) allowance) (methods depth (context (now (words .entry)) (now (strings .entry)) allowance)) p .run (stateOf (now (sheet .entry)) s) ⌝ }
+    ensures { λ r. ⌜ outWrite (now (sheet .entry)) (storeOf (now (words .entry))) r ≡ proxyPreventExtensions (context (now (words .entry)) (now (strings .entry)) allowance) (methods depth (context (now (words .entry)) (now (strings .entry)) allowance)) p .run (stateOf (now (sheet .entry)) s) ⌝ }
     ensures { λ r. ⌜ Fitting (now (words .entry)) r ⌝ }
 {
     let target = p.target;

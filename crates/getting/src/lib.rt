@@ -14,7 +14,7 @@ ghost use mathlib.Core.Path.{_≡_};
 ghost use Rattle.internal_methods.specs.Ordinary.{ordinaryGet};
 ghost use Rattle.internal_methods.specs.Proxy.{proxyGet};
 ghost use Rattle.internal_methods.specs.Internal.{methods};
-ghost use Rattle.calls.specs.Told.{Readable, context, stateOf, toldValue};
+ghost use Rattle.calls.specs.Outs.{Readable, context, stateOf, outValue};
 
 mod trap;
 
@@ -31,7 +31,7 @@ pub fn get(
     s: Progress,
 ) -> ValueOut
     requires { ⌜ Readable (now words) (now strings) ⌝ }
-    ensures { λ r. ⌜ toldValue (now (sheet .entry)) r ≡ methods depth (context (now (words .entry)) (now (strings .entry)) allowance) .get o key receiver .run (stateOf (now (sheet .entry)) s) ⌝ }
+    ensures { λ r. ⌜ outValue (now (sheet .entry)) r ≡ methods depth (context (now (words .entry)) (now (strings .entry)) allowance) .get o key receiver .run (stateOf (now (sheet .entry)) s) ⌝ }
 {
     match calls::enter(words, o, depth, s) {
         Entered::Failed(f, t) => ValueOut::Failed(f, t),
@@ -77,7 +77,7 @@ fn ordinary_get(
     s: Progress,
 ) -> ValueOut
     requires { ⌜ Readable (now words) (now strings) ⌝ }
-    ensures { λ r. ⌜ toldValue (now (sheet .entry)) r ≡ ordinaryGet (methods depth (context (now (words .entry)) (now (strings .entry)) allowance)) o key receiver .run (stateOf (now (sheet .entry)) s) ⌝ }
+    ensures { λ r. ⌜ outValue (now (sheet .entry)) r ≡ ordinaryGet (methods depth (context (now (words .entry)) (now (strings .entry)) allowance)) o key receiver .run (stateOf (now (sheet .entry)) s) ⌝ }
 {
     match own_property::get_own_property(words, strings, allowance, sheet, o, key, depth, s) {
         OwnPropertyOut::Failed(f, t) => ValueOut::Failed(f, t), // 1
@@ -144,7 +144,7 @@ fn proxy_exotic_get(
     s: Progress,
 ) -> ValueOut
     requires { ⌜ Readable (now words) (now strings) ⌝ }
-    ensures { λ r. ⌜ toldValue (now (sheet .entry)) r ≡ proxyGet (methods depth (context (now (words .entry)) (now (strings .entry)) allowance)) p key receiver .run (stateOf (now (sheet .entry)) s) ⌝ }
+    ensures { λ r. ⌜ outValue (now (sheet .entry)) r ≡ proxyGet (methods depth (context (now (words .entry)) (now (strings .entry)) allowance)) p key receiver .run (stateOf (now (sheet .entry)) s) ⌝ }
 {
     let target = p.target;
     if calls::has_trap(p, 128) {

@@ -12,7 +12,7 @@ ghost use mathlib.Core.Path.{_≡_};
 ghost use mathlib.Core.Bool.{true};
 ghost use Rattle.internal_methods.specs.Proxy.{hasTrap, proxyGet};
 ghost use Rattle.internal_methods.specs.Internal.{methods};
-ghost use Rattle.calls.specs.Told.{Readable, context, stateOf, toldValue};
+ghost use Rattle.calls.specs.Outs.{Readable, context, stateOf, outValue};
 
 // 10.5.8 from step 7 on, where the trap is there.
 pub fn get_trap(
@@ -28,7 +28,7 @@ pub fn get_trap(
 ) -> ValueOut
     requires { ⌜ Readable (now words) (now strings) ⌝ }
     requires { ⌜ hasTrap p 7 ≡ true ⌝ }
-    ensures { λ r. ⌜ toldValue (now (sheet .entry)) r ≡ proxyGet (methods depth (context (now (words .entry)) (now (strings .entry)) allowance)) p key receiver .run (stateOf (now (sheet .entry)) s) ⌝ }
+    ensures { λ r. ⌜ outValue (now (sheet .entry)) r ≡ proxyGet (methods depth (context (now (words .entry)) (now (strings .entry)) allowance)) p key receiver .run (stateOf (now (sheet .entry)) s) ⌝ }
 {
     let target = p.target;
     match answers::next_value(sheet, s) {

@@ -13,7 +13,7 @@ ghost use mathlib.Core.Bool.{true};
 ghost use Rattle.internal_methods.specs.Ordinary.{ordinaryHasProperty};
 ghost use Rattle.internal_methods.specs.Proxy.{proxyHasProperty};
 ghost use Rattle.internal_methods.specs.Internal.{methods};
-ghost use Rattle.calls.specs.Told.{Readable, context, stateOf, toldBoolean};
+ghost use Rattle.calls.specs.Outs.{Readable, context, stateOf, outBoolean};
 
 mod trap;
 
@@ -29,7 +29,7 @@ pub fn has_property(
     s: Progress,
 ) -> BooleanOut
     requires { ⌜ Readable (now words) (now strings) ⌝ }
-    ensures { λ r. ⌜ toldBoolean (now (sheet .entry)) r ≡ methods depth (context (now (words .entry)) (now (strings .entry)) allowance) .hasProperty o key .run (stateOf (now (sheet .entry)) s) ⌝ }
+    ensures { λ r. ⌜ outBoolean (now (sheet .entry)) r ≡ methods depth (context (now (words .entry)) (now (strings .entry)) allowance) .hasProperty o key .run (stateOf (now (sheet .entry)) s) ⌝ }
 {
     match calls::enter(words, o, depth, s) {
         Entered::Failed(f, t) => BooleanOut::Failed(f, t),
@@ -54,7 +54,7 @@ fn ordinary_has_property(
     s: Progress,
 ) -> BooleanOut
     requires { ⌜ Readable (now words) (now strings) ⌝ }
-    ensures { λ r. ⌜ toldBoolean (now (sheet .entry)) r ≡ ordinaryHasProperty (methods depth (context (now (words .entry)) (now (strings .entry)) allowance)) o key .run (stateOf (now (sheet .entry)) s) ⌝ }
+    ensures { λ r. ⌜ outBoolean (now (sheet .entry)) r ≡ ordinaryHasProperty (methods depth (context (now (words .entry)) (now (strings .entry)) allowance)) o key .run (stateOf (now (sheet .entry)) s) ⌝ }
 {
     match own_property::get_own_property(words, strings, allowance, sheet, o, key, depth, s) {
         OwnPropertyOut::Failed(f, t) => BooleanOut::Failed(f, t), // 1
@@ -99,7 +99,7 @@ fn proxy_exotic_has_property(
     s: Progress,
 ) -> BooleanOut
     requires { ⌜ Readable (now words) (now strings) ⌝ }
-    ensures { λ r. ⌜ toldBoolean (now (sheet .entry)) r ≡ proxyHasProperty (context (now (words .entry)) (now (strings .entry)) allowance) (methods depth (context (now (words .entry)) (now (strings .entry)) allowance)) p key .run (stateOf (now (sheet .entry)) s) ⌝ }
+    ensures { λ r. ⌜ outBoolean (now (sheet .entry)) r ≡ proxyHasProperty (context (now (words .entry)) (now (strings .entry)) allowance) (methods depth (context (now (words .entry)) (now (strings .entry)) allowance)) p key .run (stateOf (now (sheet .entry)) s) ⌝ }
 {
     let target = p.target;
     if calls::has_trap(p, 64) {

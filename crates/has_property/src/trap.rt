@@ -12,7 +12,7 @@ ghost use mathlib.Core.Path.{_≡_};
 ghost use mathlib.Core.Bool.{true};
 ghost use Rattle.internal_methods.specs.Proxy.{hasTrap, proxyHasProperty};
 ghost use Rattle.internal_methods.specs.Internal.{methods};
-ghost use Rattle.calls.specs.Told.{Readable, context, stateOf, toldBoolean};
+ghost use Rattle.calls.specs.Outs.{Readable, context, stateOf, outBoolean};
 
 // 10.5.7 from step 7 on, where the trap is there.
 pub fn has_property_trap(
@@ -27,7 +27,7 @@ pub fn has_property_trap(
 ) -> BooleanOut
     requires { ⌜ Readable (now words) (now strings) ⌝ }
     requires { ⌜ hasTrap p 6 ≡ true ⌝ }
-    ensures { λ r. ⌜ toldBoolean (now (sheet .entry)) r ≡ proxyHasProperty (context (now (words .entry)) (now (strings .entry)) allowance) (methods depth (context (now (words .entry)) (now (strings .entry)) allowance)) p key .run (stateOf (now (sheet .entry)) s) ⌝ }
+    ensures { λ r. ⌜ outBoolean (now (sheet .entry)) r ≡ proxyHasProperty (context (now (words .entry)) (now (strings .entry)) allowance) (methods depth (context (now (words .entry)) (now (strings .entry)) allowance)) p key .run (stateOf (now (sheet .entry)) s) ⌝ }
 {
     let target = p.target;
     match answers::next_boolean(strings, sheet, s) {

@@ -13,7 +13,7 @@ use Rattle.record.specs.Tests.{isKnown}
 use Rattle.record.specs.Step.{isSome}
 use Rattle.record.specs.Sheet.{valuesAt, valuesPass}
 use Rattle.key_lists.specs.Keys.{keysHeld, greatest}
-use Rattle.calls.specs.Told.{stateOf}
+use Rattle.calls.specs.Outs.{stateOf}
 use Rattle.own_keys.specs.declared.answered.AnsweredOut.{AnsweredOut}
 use Rattle.own_keys.specs.declared.answered.AnsweredOut.the-variants as answered
 
@@ -40,9 +40,9 @@ areListsFit [] = true
 areListsFit (a ∷ rest) = isListFit a && areListsFit rest
 
 -- what the code's answer stands for
-abbrev pub toldAnswered : List ℕ → AnsweredOut → Out (List PropertyKey)
-toldAnswered sheet (answered.Failed f s) = failed f (stateOf sheet s)
-toldAnswered sheet (answered.Done first n s) = done (answeredKeys sheet first n) (stateOf sheet s)
+abbrev pub outAnswered : List ℕ → AnsweredOut → Out (List PropertyKey)
+outAnswered sheet (answered.Failed f s) = failed f (stateOf sheet s)
+outAnswered sheet (answered.Done first n s) = done (answeredKeys sheet first n) (stateOf sheet s)
 
 -- what is done can be loaded
 abbrev pub LoadableAnswer : List ℕ → AnsweredOut → Type 0

@@ -6,7 +6,7 @@ use Rattle.text.specs.Strings.{Strings}
 use Rattle.store.specs.Store.{Store}
 use Rattle.store.specs.OwnKeys.{ordinaryOwnPropertyKeys}
 use Rattle.internal_methods.specs.Monad.{Out, failed, done}
-use Rattle.calls.specs.Told.{stateOf}
+use Rattle.calls.specs.Outs.{stateOf}
 use Rattle.own_keys.specs.Lists.{answeredKeys, LoadableAt}
 use Rattle.own_keys.specs.declared.loading.KeyList.{KeyList}
 use Rattle.own_keys.specs.declared.loading.KeyList.the-variants.{Answered, Own}
@@ -22,9 +22,9 @@ Loadable sheet (Answered first n) = LoadableAt sheet first n
 Loadable sheet (Own o) = Unit {0}
 
 -- what the code's answer stands for
-abbrev pub toldKeys : List ℕ → Strings → Store → KeysOut → Out (List PropertyKey)
-toldKeys sheet strings σ (list.Failed f s) = failed f (stateOf sheet s)
-toldKeys sheet strings σ (list.Done keys s) = done (listedKeys sheet strings σ keys) (stateOf sheet s)
+abbrev pub outKeys : List ℕ → Strings → Store → KeysOut → Out (List PropertyKey)
+outKeys sheet strings σ (list.Failed f s) = failed f (stateOf sheet s)
+outKeys sheet strings σ (list.Done keys s) = done (listedKeys sheet strings σ keys) (stateOf sheet s)
 
 -- what is done can be loaded
 abbrev pub LoadableKeys : List ℕ → KeysOut → Type 0

@@ -7,7 +7,7 @@ use Rattle.internal_methods.specs.Monad.{M, Out, failed, done, pure, _>>=_, _>>
 use Rattle.internal_methods.specs.Answers.{askKeys}
 use Rattle.internal_methods.specs.Methods.{Methods}
 use Rattle.internal_methods.specs.KeyList.{duplicate}
-use Rattle.calls.specs.Told.{stateOf}
+use Rattle.calls.specs.Outs.{stateOf}
 use Rattle.own_keys.specs.Lists.{answeredKeys, LoadableAt}
 use Rattle.own_keys.specs.declared.trap.TrapOut.{TrapOut}
 use Rattle.own_keys.specs.declared.trap.TrapOut.the-variants as trap
@@ -21,9 +21,9 @@ trapKeys call o = do
   pure (trapResult, extensibleTarget)
 
 -- what the code's answer stands for
-abbrev pub toldTrap : List ℕ → TrapOut → Out (List PropertyKey × Bool)
-toldTrap sheet (trap.Failed f s) = failed f (stateOf sheet s)
-toldTrap sheet (trap.Done first n extensible s) = done (answeredKeys sheet first n, extensible) (stateOf sheet s)
+abbrev pub outTrap : List ℕ → TrapOut → Out (List PropertyKey × Bool)
+outTrap sheet (trap.Failed f s) = failed f (stateOf sheet s)
+outTrap sheet (trap.Done first n extensible s) = done (answeredKeys sheet first n, extensible) (stateOf sheet s)
 
 -- what is done can be loaded
 abbrev pub LoadableTrap : List ℕ → TrapOut → Type 0

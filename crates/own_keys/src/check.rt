@@ -16,9 +16,9 @@ ghost use Rattle.store.specs.Words.{storeOf};
 ghost use Rattle.internal_methods.specs.KeyList.{rejected};
 ghost use Rattle.internal_methods.specs.Internal.{methods};
 ghost use Rattle.key_lists.specs.KeyWords.{messageNumber, sortedFrom};
-ghost use Rattle.calls.specs.Told.{Readable, context, stateOf};
+ghost use Rattle.calls.specs.Outs.{Readable, context, stateOf};
 ghost use Rattle.own_keys.specs.Lists.{answeredKeys, LoadableAt};
-ghost use Rattle.own_keys.specs.Loading.{listedKeys, Loadable, toldKeys, LoadableKeys};
+ghost use Rattle.own_keys.specs.Loading.{listedKeys, Loadable, outKeys, LoadableKeys};
 ghost use Rattle.own_keys.specs.Checked.{checkedKeys};
 
 // 10.5.11 steps 17 to 22, of a list of the sheet: its message, or 0.
@@ -57,7 +57,7 @@ pub fn checked_keys(
     s: Progress,
 ) -> KeysOut
     requires { ⌜ Readable (now words) (now strings) × (LoadableAt (now sheet) first n × (Loadable (now sheet) listed × ((256 ≤ length (now keys)) × ((256 ≤ length (now marks)) × (256 ≤ length (now list)))))) ⌝ }
-    ensures { λ r. ⌜ toldKeys (now (sheet .entry)) (stringsOf (now (strings .entry))) (storeOf (now (words .entry))) r ≡ checkedKeys (methods depth (context (now (words .entry)) (now (strings .entry)) allowance)) target extensible (answeredKeys (now (sheet .entry)) first n) (listedKeys (now (sheet .entry)) (stringsOf (now (strings .entry))) (storeOf (now (words .entry))) listed) .run (stateOf (now (sheet .entry)) s) ⌝ }
+    ensures { λ r. ⌜ outKeys (now (sheet .entry)) (stringsOf (now (strings .entry))) (storeOf (now (words .entry))) r ≡ checkedKeys (methods depth (context (now (words .entry)) (now (strings .entry)) allowance)) target extensible (answeredKeys (now (sheet .entry)) first n) (listedKeys (now (sheet .entry)) (stringsOf (now (strings .entry))) (storeOf (now (words .entry))) listed) .run (stateOf (now (sheet .entry)) s) ⌝ }
     ensures { λ r. ⌜ LoadableKeys (now (sheet .entry)) r ⌝ }
 {
     let m = loading::load_list(words, strings, sheet, listed, keys);

@@ -14,9 +14,9 @@ ghost use Rattle.store.specs.Words.{storeOf};
 ghost use Rattle.internal_methods.specs.Proxy.{proxyOwnPropertyKeys};
 ghost use Rattle.internal_methods.specs.Internal.{methods};
 ghost use Rattle.record.specs.Sheet.{answersAt};
-ghost use Rattle.calls.specs.Told.{Readable, context, stateOf};
+ghost use Rattle.calls.specs.Outs.{Readable, context, stateOf};
 ghost use Rattle.own_keys.specs.Lists.{areListsFit};
-ghost use Rattle.own_keys.specs.Loading.{toldKeys, LoadableKeys};
+ghost use Rattle.own_keys.specs.Loading.{outKeys, LoadableKeys};
 
 pub mod answered;
 mod check;
@@ -45,7 +45,7 @@ pub fn own_property_keys(
     s: Progress,
 ) -> KeysOut
     requires { ⌜ Readable (now words) (now strings) × ((areListsFit (answersAt (now sheet) (s .at) (s .left)) ≡ true) × ((256 ≤ length (now keys)) × ((256 ≤ length (now marks)) × (256 ≤ length (now list))))) ⌝ }
-    ensures { λ r. ⌜ toldKeys (now (sheet .entry)) (stringsOf (now (strings .entry))) (storeOf (now (words .entry))) r ≡ methods depth (context (now (words .entry)) (now (strings .entry)) allowance) .ownPropertyKeys o .run (stateOf (now (sheet .entry)) s) ⌝ }
+    ensures { λ r. ⌜ outKeys (now (sheet .entry)) (stringsOf (now (strings .entry))) (storeOf (now (words .entry))) r ≡ methods depth (context (now (words .entry)) (now (strings .entry)) allowance) .ownPropertyKeys o .run (stateOf (now (sheet .entry)) s) ⌝ }
     ensures { λ r. ⌜ LoadableKeys (now (sheet .entry)) r ⌝ }
 {
     match calls::enter(words, o, depth, s) {
@@ -82,7 +82,7 @@ fn proxy_exotic_own_property_keys(
     s: Progress,
 ) -> KeysOut
     requires { ⌜ Readable (now words) (now strings) × ((areListsFit (answersAt (now sheet) (s .at) (s .left)) ≡ true) × ((256 ≤ length (now keys)) × ((256 ≤ length (now marks)) × (256 ≤ length (now list))))) ⌝ }
-    ensures { λ r. ⌜ toldKeys (now (sheet .entry)) (stringsOf (now (strings .entry))) (storeOf (now (words .entry))) r ≡ proxyOwnPropertyKeys (methods depth (context (now (words .entry)) (now (strings .entry)) allowance)) p .run (stateOf (now (sheet .entry)) s) ⌝ }
+    ensures { λ r. ⌜ outKeys (now (sheet .entry)) (stringsOf (now (strings .entry))) (storeOf (now (words .entry))) r ≡ proxyOwnPropertyKeys (methods depth (context (now (words .entry)) (now (strings .entry)) allowance)) p .run (stateOf (now (sheet .entry)) s) ⌝ }
     ensures { λ r. ⌜ LoadableKeys (now (sheet .entry)) r ⌝ }
 {
     let target = p.target;

@@ -8,7 +8,7 @@ ghost use lib.ListN.{length};
 ghost use Rattle.text.specs.Table.{stringsOf};
 ghost use Rattle.store.specs.Words.{storeOf};
 ghost use Rattle.store_read.specs.Answers.{Listed};
-ghost use Rattle.calls.specs.Told.{Readable};
+ghost use Rattle.calls.specs.Outs.{Readable};
 ghost use Rattle.own_keys.specs.Loading.{listedKeys, Loadable};
 
 // Keys of the sheet, by the place of the first and their count, or those of an ordinary object.

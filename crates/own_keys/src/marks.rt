@@ -12,8 +12,8 @@ ghost use lib.ListN.{length, take};
 ghost use Rattle.store_read.specs.Answers.{keyFromWord};
 ghost use Rattle.internal_methods.specs.Proxy.{absentOrConfigurable, sorted};
 ghost use Rattle.internal_methods.specs.Internal.{methods};
-ghost use Rattle.calls.specs.Told.{Readable, context, stateOf};
-ghost use Rattle.own_keys.specs.Marks.{toldMarks};
+ghost use Rattle.calls.specs.Outs.{Readable, context, stateOf};
+ghost use Rattle.own_keys.specs.Marks.{outMarks};
 
 pub enum MarksOut {
     Failed(Failure, Progress),
@@ -48,7 +48,7 @@ pub fn mark_configurable(
     s: Progress,
 ) -> MarksOut
     requires { ⌜ Readable (now words) (now strings) × ((m ≤ length (now keys)) × (m ≤ length (now marks))) ⌝ }
-    ensures { λ r. ⌜ toldMarks (now (sheet .entry)) (take m (now (keys .entry))) (take m (now (marks .exit))) r ≡ sorted (methods depth (context (now (words .entry)) (now (strings .entry)) allowance) .getOwnProperty target) (map keyFromWord (take m (now (keys .entry)))) .run (stateOf (now (sheet .entry)) s) ⌝ }
+    ensures { λ r. ⌜ outMarks (now (sheet .entry)) (take m (now (keys .entry))) (take m (now (marks .exit))) r ≡ sorted (methods depth (context (now (words .entry)) (now (strings .entry)) allowance) .getOwnProperty target) (map keyFromWord (take m (now (keys .entry)))) .run (stateOf (now (sheet .entry)) s) ⌝ }
 {
     let mut t = s;
     let mut i: usize = 0;

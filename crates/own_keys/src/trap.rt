@@ -15,9 +15,9 @@ ghost use Rattle.internal_methods.specs.KeyList.{duplicate};
 ghost use Rattle.internal_methods.specs.Internal.{methods};
 ghost use Rattle.record.specs.Sheet.{answersAt};
 ghost use Rattle.key_lists.specs.KeyWords.{messageNumber};
-ghost use Rattle.calls.specs.Told.{Readable, context, stateOf};
+ghost use Rattle.calls.specs.Outs.{Readable, context, stateOf};
 ghost use Rattle.own_keys.specs.Lists.{answeredKeys, LoadableAt, areListsFit};
-ghost use Rattle.own_keys.specs.Trap.{trapKeys, toldTrap, LoadableTrap};
+ghost use Rattle.own_keys.specs.Trap.{trapKeys, outTrap, LoadableTrap};
 
 // The list that a trap answered, by the place of its first value and its count, and whether the target is extensible.
 pub enum TrapOut {
@@ -46,7 +46,7 @@ pub fn own_keys_trap(
     s: Progress,
 ) -> TrapOut
     requires { ⌜ Readable (now words) (now strings) × ((areListsFit (answersAt (now sheet) (s .at) (s .left)) ≡ true) × (256 ≤ length (now list))) ⌝ }
-    ensures { λ r. ⌜ toldTrap (now (sheet .entry)) r ≡ trapKeys (methods depth (context (now (words .entry)) (now (strings .entry)) allowance)) target .run (stateOf (now (sheet .entry)) s) ⌝ }
+    ensures { λ r. ⌜ outTrap (now (sheet .entry)) r ≡ trapKeys (methods depth (context (now (words .entry)) (now (strings .entry)) allowance)) target .run (stateOf (now (sheet .entry)) s) ⌝ }
     ensures { λ r. ⌜ LoadableTrap (now (sheet .entry)) r ⌝ }
 {
     match answered::next_keys(sheet, s) {

@@ -14,7 +14,7 @@ ghost use Rattle.store.specs.Words.{isStore, storeOf};
 ghost use Rattle.internal_methods.specs.Ordinary.{ordinaryGetOwnProperty};
 ghost use Rattle.internal_methods.specs.Proxy.{proxyGetOwnProperty};
 ghost use Rattle.internal_methods.specs.Internal.{methods};
-ghost use Rattle.calls.specs.Told.{Readable, context, stateOf, toldOwnProperty};
+ghost use Rattle.calls.specs.Outs.{Readable, context, stateOf, outOwnProperty};
 
 mod results;
 pub mod target_checks;
@@ -39,7 +39,7 @@ pub fn get_own_property(
     s: Progress,
 ) -> OwnPropertyOut
     requires { ⌜ Readable (now words) (now strings) ⌝ }
-    ensures { λ r. ⌜ toldOwnProperty (now (sheet .entry)) r ≡ methods depth (context (now (words .entry)) (now (strings .entry)) allowance) .getOwnProperty o key .run (stateOf (now (sheet .entry)) s) ⌝ }
+    ensures { λ r. ⌜ outOwnProperty (now (sheet .entry)) r ≡ methods depth (context (now (words .entry)) (now (strings .entry)) allowance) .getOwnProperty o key .run (stateOf (now (sheet .entry)) s) ⌝ }
 {
     match calls::enter(words, o, depth, s) {
         Entered::Failed(f, t) => OwnPropertyOut::Failed(f, t),
@@ -64,7 +64,7 @@ fn proxy_exotic_get_own_property(
     s: Progress,
 ) -> OwnPropertyOut
     requires { ⌜ Readable (now words) (now strings) ⌝ }
-    ensures { λ r. ⌜ toldOwnProperty (now (sheet .entry)) r ≡ proxyGetOwnProperty (methods depth (context (now (words .entry)) (now (strings .entry)) allowance)) p key .run (stateOf (now (sheet .entry)) s) ⌝ }
+    ensures { λ r. ⌜ outOwnProperty (now (sheet .entry)) r ≡ proxyGetOwnProperty (methods depth (context (now (words .entry)) (now (strings .entry)) allowance)) p key .run (stateOf (now (sheet .entry)) s) ⌝ }
 {
     let target = p.target;
     if calls::has_trap(p, 16) {

@@ -12,7 +12,7 @@ use property::OwnProperty;
 use property::Property;
 ghost use mathlib.Core.Path.{_≡_};
 ghost use Rattle.internal_methods.specs.Internal.{methods};
-ghost use Rattle.calls.specs.Told.{Readable, context, stateOf, toldOwnProperty};
+ghost use Rattle.calls.specs.Outs.{Readable, context, stateOf, outOwnProperty};
 ghost use Rattle.own_property.specs.Result.{undefinedResult, descriptorResult, resultMessage};
 
 // The TypeError of 10.5.5 steps 14 to 16 by its number, or 0.
@@ -49,7 +49,7 @@ pub fn undefined_result(
     s: Progress,
 ) -> OwnPropertyOut
     requires { ⌜ Readable (now words) (now strings) ⌝ }
-    ensures { λ r. ⌜ toldOwnProperty (now (sheet .entry)) r ≡ undefinedResult (methods depth (context (now (words .entry)) (now (strings .entry)) allowance)) target current .run (stateOf (now (sheet .entry)) s) ⌝ }
+    ensures { λ r. ⌜ outOwnProperty (now (sheet .entry)) r ≡ undefinedResult (methods depth (context (now (words .entry)) (now (strings .entry)) allowance)) target current .run (stateOf (now (sheet .entry)) s) ⌝ }
 {
     match current {
         OwnProperty::Absent => OwnPropertyOut::Done(OwnProperty::Absent, s), // a
@@ -93,7 +93,7 @@ pub fn descriptor_result(
     s: Progress,
 ) -> OwnPropertyOut
     requires { ⌜ Readable (now words) (now strings) ⌝ }
-    ensures { λ r. ⌜ toldOwnProperty (now (sheet .entry)) r ≡ descriptorResult (methods depth (context (now (words .entry)) (now (strings .entry)) allowance)) target object current .run (stateOf (now (sheet .entry)) s) ⌝ }
+    ensures { λ r. ⌜ outOwnProperty (now (sheet .entry)) r ≡ descriptorResult (methods depth (context (now (words .entry)) (now (strings .entry)) allowance)) target object current .run (stateOf (now (sheet .entry)) s) ⌝ }
 {
     let get = object.get;
     let set = object.set;

@@ -2,4 +2,4 @@ pub mod ResultLaws
 pub mod WritingLaws
 pub mod ListingLaws
 pub mod FitLaws
-pub mod MakingLaws
+pub mod CreationLaws

@@ -16,7 +16,7 @@ use Rattle.internal_methods.specs.Methods.{Context}
 use Rattle.internal_methods.specs.Internal.{methods}
 use Rattle.record.specs.Sheet.{sheetOf}
 use Rattle.calls.specs.declared.Progress.{Progress}
-use Rattle.calls.specs.Told.{stateOf}
+use Rattle.calls.specs.Outs.{stateOf}
 use Rattle.steps.specs.declared.Report.{Report}
 use Rattle.steps.specs.Operation.{ownPropertyKeys}
 use Rattle.steps.specs.declared.Completion.the-variants.{Keys}

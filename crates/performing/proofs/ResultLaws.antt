@@ -28,30 +28,30 @@ use Rattle.calls.specs.declared.OwnPropertyOut.{OwnPropertyOut}
 use Rattle.calls.specs.declared.OwnPropertyOut.the-variants as own
 use Rattle.calls.specs.declared.WriteOut.{WriteOut}
 use Rattle.calls.specs.declared.WriteOut.the-variants as write
-use Rattle.calls.specs.Told.{toldValue, toldBoolean, toldOwnProperty, toldWrite, Fitting}
+use Rattle.calls.specs.Outs.{outValue, outBoolean, outOwnProperty, outWrite, Fitting}
 use Rattle.steps.specs.Perform.{reading, writing, ownResult}
 use Rattle.steps.specs.Perform as result
-use Rattle.reporting.specs.Performed.{Taken, toldPerformed}
+use Rattle.reporting.specs.Performed.{Taken, outPerformed}
 use Rattle.performing.specs.Results.{isReading, valueResult, booleanResult, ownPropertyResult, writeResult}
 
 module _ (sheet : List ℕ) (σ : Store) (s : State) where
-  pub value-told : (m : M Value) (out : ValueOut) → toldValue sheet out ≡ m .run s → toldPerformed sheet σ (valueResult out) ≡ reading σ result.value m .run s
+  pub value-told : (m : M Value) (out : ValueOut) → outValue sheet out ≡ m .run s → outPerformed sheet σ (valueResult out) ≡ reading σ result.value m .run s
   unfolding pure next _>>=_
   value-told m (value.Failed f t) e = rw (sym e)
   value-told m (value.Done v t) e = rw (sym e)
 
-  pub boolean-told : (m : M Bool) (out : BooleanOut) → toldBoolean sheet out ≡ m .run s → toldPerformed sheet σ (booleanResult out) ≡ reading σ result.boolean m .run s
+  pub boolean-told : (m : M Bool) (out : BooleanOut) → outBoolean sheet out ≡ m .run s → outPerformed sheet σ (booleanResult out) ≡ reading σ result.boolean m .run s
   unfolding pure next _>>=_
   boolean-told m (boolean.Failed f t) e = rw (sym e)
   boolean-told m (boolean.Done b t) e = rw (sym e)
 
-  pub own-told : (m : M OwnProperty) (out : OwnPropertyOut) → toldOwnProperty sheet out ≡ m .run s → toldPerformed sheet σ (ownPropertyResult out) ≡ reading σ ownResult m .run s
+  pub own-told : (m : M OwnProperty) (out : OwnPropertyOut) → outOwnProperty sheet out ≡ m .run s → outPerformed sheet σ (ownPropertyResult out) ≡ reading σ ownResult m .run s
   unfolding pure next _>>=_
   own-told m (own.Failed f t) e = rw (sym e)
   own-told m (own.Done Absent t) e = rw (sym e)
   own-told m (own.Done (Present p) t) e = rw (sym e)
 
-  pub write-told : (m : M (Bool × Store)) (out : WriteOut) → toldWrite sheet σ out ≡ m .run s → toldPerformed sheet σ (writeResult out) ≡ writing m .run s
+  pub write-told : (m : M (Bool × Store)) (out : WriteOut) → outWrite sheet σ out ≡ m .run s → outPerformed sheet σ (writeResult out) ≡ writing m .run s
   unfolding pure next _>>=_
   write-told m (write.Failed f t) e = rw (sym e)
   write-told m (write.Done b w t) e = rw (sym e)

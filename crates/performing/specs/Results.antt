@@ -20,7 +20,7 @@ use Rattle.calls.specs.declared.OwnPropertyOut.{OwnPropertyOut}
 use Rattle.calls.specs.declared.OwnPropertyOut.the-variants as own
 use Rattle.calls.specs.declared.WriteOut.{WriteOut}
 use Rattle.calls.specs.declared.WriteOut.the-variants as write
-use Rattle.calls.specs.Told.{Readable}
+use Rattle.calls.specs.Outs.{Readable}
 use Rattle.steps.specs.declared.Completion.{Completion}
 use Rattle.steps.specs.declared.Completion.the-variants as completion
 use Rattle.steps.specs.Operation.{keyOrFirst}

@@ -6,10 +6,10 @@ ghost use mathlib.Core.Path.{_≡_};
 ghost use mathlib.Core.Bool.{true};
 ghost use Prim.Native.Nat.{_≤_, _<_};
 ghost use Rattle.store.specs.Words.{storeOf};
-ghost use Rattle.calls.specs.Told.{context, stateOf};
+ghost use Rattle.calls.specs.Outs.{context, stateOf};
 ghost use Rattle.steps.specs.Operation.{operationOf};
 ghost use Rattle.steps.specs.Perform.{perform, maximumCalls};
-ghost use Rattle.reporting.specs.Performed.{Taken, toldPerformed};
+ghost use Rattle.reporting.specs.Performed.{Taken, outPerformed};
 ghost use Rattle.performing.specs.Results.{Performable};
 
 mod creation;
@@ -18,7 +18,7 @@ mod reads;
 mod writes;
 
 // Codes 1 to 3
-fn perform_making(
+fn perform_creation(
     words: &[u64],
     strings: &[u16],
     allowance: usize,
@@ -27,7 +27,7 @@ fn perform_making(
     s: Progress,
 ) -> Performed
     requires { ⌜ Performable (now words) (now strings) allowance step × ((1 ≤ step .code) × (step .code < 4)) ⌝ }
-    ensures { λ r. ⌜ toldPerformed (now (sheet .entry)) (storeOf (now (words .entry))) r ≡ perform maximumCalls (context (now (words .entry)) (now (strings .entry)) allowance) (operationOf step) .run (stateOf (now (sheet .entry)) s) ⌝ }
+    ensures { λ r. ⌜ outPerformed (now (sheet .entry)) (storeOf (now (words .entry))) r ≡ perform maximumCalls (context (now (words .entry)) (now (strings .entry)) allowance) (operationOf step) .run (stateOf (now (sheet .entry)) s) ⌝ }
     ensures { λ r. ⌜ Taken (now (words .entry)) r ⌝ }
 {
     let code = step.code;
@@ -50,14 +50,14 @@ pub fn perform(
     s: Progress,
 ) -> Performed
     requires { ⌜ Performable (now words) (now strings) allowance step × ((1 ≤ step .code) × (step .code < 14)) ⌝ }
-    ensures { λ r. ⌜ toldPerformed (now (sheet .entry)) (storeOf (now (words .entry))) r ≡ perform maximumCalls (context (now (words .entry)) (now (strings .entry)) allowance) (operationOf step) .run (stateOf (now (sheet .entry)) s) ⌝ }
+    ensures { λ r. ⌜ outPerformed (now (sheet .entry)) (storeOf (now (words .entry))) r ≡ perform maximumCalls (context (now (words .entry)) (now (strings .entry)) allowance) (operationOf step) .run (stateOf (now (sheet .entry)) s) ⌝ }
     ensures { λ r. ⌜ Taken (now (words .entry)) r ⌝ }
 {
     if reads::is_reading(step.code) {
         return reads::perform_reading(words, strings, allowance, sheet, step, s);
     }
     if step.code < 4 {
-        return perform_making(words, strings, allowance, sheet, step, s);
+        return perform_creation(words, strings, allowance, sheet, step, s);
     }
     writes::perform_writing(words, strings, allowance, sheet, step, s)
 }

@@ -15,7 +15,7 @@ ghost use Rattle.store.specs.Store.{maximumProperties};
 ghost use Rattle.store.specs.Words.{storeOf, worldOf};
 ghost use Rattle.internal_methods.specs.Monad.{done};
 ghost use Rattle.record.specs.Sheet.{sheetOf};
-ghost use Rattle.calls.specs.Told.{Readable, context, stateOf};
+ghost use Rattle.calls.specs.Outs.{Readable, context, stateOf};
 ghost use Rattle.own_keys.specs.Lists.{areListsFit};
 ghost use Rattle.own_keys.specs.Loading.{listedKeys, Loadable};
 ghost use Rattle.steps.specs.Operation.{ownPropertyKeys};

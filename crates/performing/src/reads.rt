@@ -17,10 +17,10 @@ ghost use mathlib.Core.Bool.{true, false};
 ghost use Prim.Native.Nat.{_≤_, _<_};
 ghost use Rattle.value.specs.PropertyKey.{keyOf};
 ghost use Rattle.store.specs.Words.{storeOf};
-ghost use Rattle.calls.specs.Told.{context, stateOf};
+ghost use Rattle.calls.specs.Outs.{context, stateOf};
 ghost use Rattle.steps.specs.Operation.{keyOrFirst, operationOf};
 ghost use Rattle.steps.specs.Perform.{perform, maximumCalls};
-ghost use Rattle.reporting.specs.Performed.{Taken, toldPerformed};
+ghost use Rattle.reporting.specs.Performed.{Taken, outPerformed};
 ghost use Rattle.performing.specs.Results.{Performable, isReading, valueResult, booleanResult, ownPropertyResult};
 
 const MAXIMUM_CALLS: usize = 2048;
@@ -93,7 +93,7 @@ pub fn perform_reading(
     s: Progress,
 ) -> Performed
     requires { ⌜ Performable (now words) (now strings) allowance step × (isReading (step .code) ≡ true) ⌝ }
-    ensures { λ r. ⌜ toldPerformed (now (sheet .entry)) (storeOf (now (words .entry))) r ≡ perform maximumCalls (context (now (words .entry)) (now (strings .entry)) allowance) (operationOf step) .run (stateOf (now (sheet .entry)) s) ⌝ }
+    ensures { λ r. ⌜ outPerformed (now (sheet .entry)) (storeOf (now (words .entry))) r ≡ perform maximumCalls (context (now (words .entry)) (now (strings .entry)) allowance) (operationOf step) .run (stateOf (now (sheet .entry)) s) ⌝ }
     ensures { λ r. ⌜ Taken (now (words .entry)) r ⌝ }
 {
     let code = step.code;

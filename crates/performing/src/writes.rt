@@ -11,10 +11,10 @@ ghost use mathlib.Core.Path.{_≡_};
 ghost use mathlib.Core.Bool.{true, false};
 ghost use Prim.Native.Nat.{_≤_, _<_};
 ghost use Rattle.store.specs.Words.{storeOf};
-ghost use Rattle.calls.specs.Told.{context, stateOf};
+ghost use Rattle.calls.specs.Outs.{context, stateOf};
 ghost use Rattle.steps.specs.Operation.{operationOf};
 ghost use Rattle.steps.specs.Perform.{perform, maximumCalls};
-ghost use Rattle.reporting.specs.Performed.{Taken, toldPerformed};
+ghost use Rattle.reporting.specs.Performed.{Taken, outPerformed};
 ghost use Rattle.performing.specs.Results.{Performable, isReading, writeResult};
 
 const MAXIMUM_CALLS: usize = 2048;
@@ -38,7 +38,7 @@ pub fn perform_writing(
     s: Progress,
 ) -> Performed
     requires { ⌜ Performable (now words) (now strings) allowance step × ((isReading (step .code) ≡ false) × ((4 ≤ step .code) × (step .code < 14))) ⌝ }
-    ensures { λ r. ⌜ toldPerformed (now (sheet .entry)) (storeOf (now (words .entry))) r ≡ perform maximumCalls (context (now (words .entry)) (now (strings .entry)) allowance) (operationOf step) .run (stateOf (now (sheet .entry)) s) ⌝ }
+    ensures { λ r. ⌜ outPerformed (now (sheet .entry)) (storeOf (now (words .entry))) r ≡ perform maximumCalls (context (now (words .entry)) (now (strings .entry)) allowance) (operationOf step) .run (stateOf (now (sheet .entry)) s) ⌝ }
     ensures { λ r. ⌜ Taken (now (words .entry)) r ⌝ }
 {
     let code = step.code;

@@ -13,7 +13,7 @@ ghost use mathlib.Core.Path.{_≡_};
 ghost use Rattle.internal_methods.specs.Ordinary.{ordinaryGetPrototypeOf};
 ghost use Rattle.internal_methods.specs.Proxy.{proxyGetPrototypeOf};
 ghost use Rattle.internal_methods.specs.Internal.{methods};
-ghost use Rattle.calls.specs.Told.{Readable, context, stateOf, toldValue};
+ghost use Rattle.calls.specs.Outs.{Readable, context, stateOf, outValue};
 
 mod chain;
 mod setting;
@@ -39,7 +39,7 @@ pub fn get_prototype_of(
     s: Progress,
 ) -> ValueOut
     requires { ⌜ Readable (now words) (now strings) ⌝ }
-    ensures { λ r. ⌜ toldValue (now (sheet .entry)) r ≡ methods depth (context (now (words .entry)) (now (strings .entry)) allowance) .getPrototypeOf o .run (stateOf (now (sheet .entry)) s) ⌝ }
+    ensures { λ r. ⌜ outValue (now (sheet .entry)) r ≡ methods depth (context (now (words .entry)) (now (strings .entry)) allowance) .getPrototypeOf o .run (stateOf (now (sheet .entry)) s) ⌝ }
 {
     match calls::enter(words, o, depth, s) {
         Entered::Failed(f, t) => ValueOut::Failed(f, t),
@@ -61,7 +61,7 @@ fn proxy_exotic_get_prototype_of(
     s: Progress,
 ) -> ValueOut
     requires { ⌜ Readable (now words) (now strings) ⌝ }
-    ensures { λ r. ⌜ toldValue (now (sheet .entry)) r ≡ proxyGetPrototypeOf (methods depth (context (now (words .entry)) (now (strings .entry)) allowance)) p .run (stateOf (now (sheet .entry)) s) ⌝ }
+    ensures { λ r. ⌜ outValue (now (sheet .entry)) r ≡ proxyGetPrototypeOf (methods depth (context (now (words .entry)) (now (strings .entry)) allowance)) p .run (stateOf (now (sheet .entry)) s) ⌝ }
 {
     let target = p.target;
     if calls::has_trap(p, 1) {

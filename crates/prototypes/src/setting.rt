@@ -21,7 +21,7 @@ ghost use Rattle.store.specs.Words.{storeOf, isStore};
 ghost use Rattle.internal_methods.specs.Ordinary as ordinary;
 ghost use Rattle.internal_methods.specs.Proxy.{proxySetPrototypeOf};
 ghost use Rattle.internal_methods.specs.Internal.{methods};
-ghost use Rattle.calls.specs.Told.{Readable, Fitting, Writes, context, stateOf, toldWrite};
+ghost use Rattle.calls.specs.Outs.{Readable, Fitting, Writes, context, stateOf, outWrite};
 
 // 10.1.2.1 OrdinarySetPrototypeOf ( O, V )
 fn ordinary_set_prototype_of(words: &[u64], o: u64, object: OrdinaryObject, v: Value) -> Written
@@ -70,7 +70,7 @@ pub fn set_prototype_of(
     s: Progress,
 ) -> WriteOut
     requires { ⌜ Readable (now words) (now strings) ⌝ }
-    ensures { λ r. ⌜ toldWrite (now (sheet .entry)) (storeOf (now (words .entry))) r ≡ methods depth (context (now (words .entry)) (now (strings .entry)) allowance) .setPrototypeOf o v .run (stateOf (now (sheet .entry)) s) ⌝ }
+    ensures { λ r. ⌜ outWrite (now (sheet .entry)) (storeOf (now (words .entry))) r ≡ methods depth (context (now (words .entry)) (now (strings .entry)) allowance) .setPrototypeOf o v .run (stateOf (now (sheet .entry)) s) ⌝ }
     ensures { λ r. ⌜ Fitting (now (words .entry)) r ⌝ }
 {
     match calls::enter(words, o, depth, s) {
@@ -98,7 +98,7 @@ fn proxy_exotic_set_prototype_of(
     s: Progress,
 ) -> WriteOut
     requires { ⌜ Readable (now words) (now strings) ⌝ }
-    ensures { λ r. ⌜ toldWrite (now (sheet .entry)) (storeOf (now (words .entry))) r ≡ proxySetPrototypeOf (context (now (words .entry)) (now (strings .entry)) allowance) (methods depth (context (now (words .entry)) (now (strings .entry)) allowance)) p v .run (stateOf (now (sheet .entry)) s) ⌝ }
+    ensures { λ r. ⌜ outWrite (now (sheet .entry)) (storeOf (now (words .entry))) r ≡ proxySetPrototypeOf (context (now (words .entry)) (now (strings .entry)) allowance) (methods depth (context (now (words .entry)) (now (strings .entry)) allowance)) p v .run (stateOf (now (sheet .entry)) s) ⌝ }
     ensures { λ r. ⌜ Fitting (now (words .entry)) r ⌝ }
 {
     let target = p.target;

@@ -17,7 +17,7 @@ ghost use Rattle.store.specs.Words.{storeOf};
 ghost use Rattle.internal_methods.specs.Ordinary as ordinary;
 ghost use Rattle.internal_methods.specs.Proxy.{hasTrap, proxySetPrototypeOf};
 ghost use Rattle.internal_methods.specs.Internal.{methods};
-ghost use Rattle.calls.specs.Told.{Readable, Fitting, context, stateOf, toldWrite};
+ghost use Rattle.calls.specs.Outs.{Readable, Fitting, context, stateOf, outWrite};
 
 // 10.5.2 from step 7 on, where the trap is there
 pub fn set_prototype_of_trap(
@@ -31,7 +31,7 @@ pub fn set_prototype_of_trap(
     s: Progress,
 ) -> WriteOut
     requires { ⌜ Readable (now words) (now strings) × (hasTrap p 1 ≡ true) ⌝ }
-    ensures { λ r. ⌜ toldWrite (now (sheet .entry)) (storeOf (now (words .entry))) r ≡ proxySetPrototypeOf (context (now (words .entry)) (now (strings .entry)) allowance) (methods depth (context (now (words .entry)) (now (strings .entry)) allowance)) p v .run (stateOf (now (sheet .entry)) s) ⌝ }
+    ensures { λ r. ⌜ outWrite (now (sheet .entry)) (storeOf (now (words .entry))) r ≡ proxySetPrototypeOf (context (now (words .entry)) (now (strings .entry)) allowance) (methods depth (context (now (words .entry)) (now (strings .entry)) allowance)) p v .run (stateOf (now (sheet .entry)) s) ⌝ }
     ensures { λ r. ⌜ Fitting (now (words .entry)) r ⌝ }
 {
     let target = p.target;

@@ -51,17 +51,17 @@ abbrev pub usesDescriptor : ℕ → Bool
 usesDescriptor code = eqb code 9
 
 -- a trap mask that is an Integer32 is 0 to 2047
-unfoldable pub isMask : Value → Bool
-isMask Undefined = true
-isMask Null = true
-isMask (Boolean b) = true
-isMask (Integer32 (pos n)) = leb n 2047
-isMask (Integer32 (negsuc n)) = false
-isMask (Float64 x) = true
-isMask (String s) = true
-isMask (Symbol s) = true
-isMask (Object o) = true
-isMask (Function f) = true
+unfoldable pub isMaskIfInteger32 : Value → Bool
+isMaskIfInteger32 Undefined = true
+isMaskIfInteger32 Null = true
+isMaskIfInteger32 (Boolean b) = true
+isMaskIfInteger32 (Integer32 (pos n)) = leb n 2047
+isMaskIfInteger32 (Integer32 (negsuc n)) = false
+isMaskIfInteger32 (Float64 x) = true
+isMaskIfInteger32 (String s) = true
+isMaskIfInteger32 (Symbol s) = true
+isMaskIfInteger32 (Object o) = true
+isMaskIfInteger32 (Function f) = true
 
 abbrev pub unless : Bool → Bool → Bool
 unless used test = not used || test
@@ -80,7 +80,7 @@ abbrev pub isDescriptorFormed : ℕ → List ℕ → Bool
 isDescriptorFormed code bytes = cond (usesDescriptor code) (isDescriptorAt bytes 29) (areZero bytes 29 descriptorSize)
 
 abbrev pub isMaskFormed : ℕ → List ℕ → Bool
-isMaskFormed code bytes = unless (usesMask code) (isMask (valueAt bytes 11))
+isMaskFormed code bytes = unless (usesMask code) (isMaskIfInteger32 (valueAt bytes 11))
 
 -- refusal 1 over the step
 unfoldable pub isStep : List ℕ → Bool

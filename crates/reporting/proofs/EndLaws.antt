@@ -13,7 +13,7 @@ use Rattle.internal_methods.specs.declared.Failure.the-variants.{Refused, TypeE
 use Rattle.internal_methods.specs.Monad.{Answer, State, failed, done}
 use Rattle.record.specs.Sheet.{sheetOf}
 use Rattle.calls.specs.declared.Progress.{Progress}
-use Rattle.calls.specs.Told.{stateOf}
+use Rattle.calls.specs.Outs.{stateOf}
 use Rattle.steps.specs.declared.Completion.{Completion}
 use Rattle.steps.specs.declared.Completion.the-variants as completion
 use Rattle.steps.specs.declared.Outcome.{Outcome}
@@ -24,13 +24,13 @@ use Rattle.steps.specs.Response.{Effect, reportOf, refusal}
 use Rattle.steps.specs.Step.{ended, refusing}
 use Rattle.reporting.specs.declared.Performed.{Performed}
 use Rattle.reporting.specs.declared.Performed.the-variants.{Failed, Done}
-use Rattle.reporting.specs.Performed.{Taken, toldPerformed, isPlain, resultOf}
+use Rattle.reporting.specs.Performed.{Taken, outPerformed, isPlain, resultOf}
 use Rattle.reporting.specs.Reports.{failureResponse, completionReport, performedReport, Finished}
 use Rattle.reporting.specs.Memory.{Shown, shown, shownBy, WordsAfter, Committed}
 
 module _ (words cells sheet output : List ℕ) where
   abbrev endedAs : Performed → Shown
-  endedAs p = shownBy (ended (worldOf words cells) (sheetOf sheet) output (toldPerformed sheet (storeOf words) p))
+  endedAs p = shownBy (ended (worldOf words cells) (sheetOf sheet) output (outPerformed sheet (storeOf words) p))
 
   pub failing : (f : Failure) (s : State) → shownBy (ended (worldOf words cells) (sheetOf sheet) output (failed f s))
       ≡ shown (reportOf (failureResponse (sheetOf sheet) f s)) words cells output

@@ -6,7 +6,7 @@ use mathlib.Core.List.{List, []}
 use Rattle.store.specs.Store.{Store}
 use Rattle.store_write.specs.Write.{applied, fitsIn}
 use Rattle.internal_methods.specs.Monad.{Out, failed, done}
-use Rattle.calls.specs.Told.{stateOf}
+use Rattle.calls.specs.Outs.{stateOf}
 use Rattle.steps.specs.declared.Completion.{Completion}
 use Rattle.steps.specs.declared.Completion.the-variants as completion
 use Rattle.steps.specs.Perform.{Result}
@@ -21,9 +21,9 @@ resultOf (completion.Descriptor p) = result.descriptor p
 resultOf completion.Absent = result.absent
 resultOf (completion.Keys n) = result.keys []
 
-abbrev pub toldPerformed : List ℕ → Store → Performed → Out (Result × Store)
-toldPerformed sheet σ (Failed f s) = failed f (stateOf sheet s)
-toldPerformed sheet σ (Done c w s) = done (resultOf c, applied w σ) (stateOf sheet s)
+abbrev pub outPerformed : List ℕ → Store → Performed → Out (Result × Store)
+outPerformed sheet σ (Failed f s) = failed f (stateOf sheet s)
+outPerformed sheet σ (Done c w s) = done (resultOf c, applied w σ) (stateOf sheet s)
 
 -- a completion that is no key list
 abbrev pub isPlain : Completion → Bool

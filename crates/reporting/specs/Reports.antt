@@ -12,7 +12,7 @@ use Rattle.record.specs.Bytes.{byteAt}
 use Rattle.record.specs.Sheet.{sheetOf}
 use Rattle.calls.specs.declared.Progress.{Progress}
 use Rattle.calls.specs.Entering.{progress}
-use Rattle.calls.specs.Told.{stateOf}
+use Rattle.calls.specs.Outs.{stateOf}
 use Rattle.steps.specs.declared.Completion.{Completion}
 use Rattle.steps.specs.declared.Outcome.the-variants as outcome
 use Rattle.steps.specs.declared.Report.{Report}

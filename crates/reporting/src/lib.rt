@@ -12,7 +12,7 @@ ghost use Prim.Native.Nat.{_<_, _-_};
 ghost use lib.ListN.{length};
 ghost use Rattle.store.specs.Words.{isStore};
 ghost use Rattle.record.specs.Sheet.{sheetOf, answersAt};
-ghost use Rattle.calls.specs.Told.{stateOf};
+ghost use Rattle.calls.specs.Outs.{stateOf};
 ghost use Rattle.steps.specs.Perform.{maximumCalls};
 ghost use Rattle.steps.specs.Response.{reportOf, refusal};
 ghost use Rattle.reporting.specs.Performed.{Taken};
@@ -51,8 +51,8 @@ fn answers_used(sheet: &[u8], s: Progress) -> u64
     requires { ⌜ 0 < length (now sheet) ⌝ }
     ensures { λ r. ⌜ r ≡ length (sheetOf (now (sheet .entry))) - length (answersAt (now (sheet .entry)) (s .at) (s .left)) ⌝ }
 {
-    let all = counting::unread(sheet, 1, wide(sheet[0]));
-    let rest = counting::unread(sheet, s.at, s.left);
+    let all = counting::answers_left(sheet, 1, wide(sheet[0]));
+    let rest = counting::answers_left(sheet, s.at, s.left);
     if rest < all {
         return (all - rest) as u64;
     }

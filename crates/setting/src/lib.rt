@@ -21,7 +21,7 @@ ghost use Rattle.store.specs.Words.{isStore, storeOf};
 ghost use Rattle.internal_methods.specs.Ordinary.{setData, ordinarySet};
 ghost use Rattle.internal_methods.specs.Proxy.{proxySet};
 ghost use Rattle.internal_methods.specs.Internal.{methods};
-ghost use Rattle.calls.specs.Told.{context, stateOf, toldWrite, Fitting};
+ghost use Rattle.calls.specs.Outs.{context, stateOf, outWrite, Fitting};
 ghost use Rattle.definition.specs.Define.{Definable};
 ghost use Rattle.setting.specs.Set.{setAccessor};
 
@@ -42,7 +42,7 @@ fn set_data(
     s: Progress,
 ) -> WriteOut
     requires { ⌜ Definable (now words) (now strings) allowance key ⌝ }
-    ensures { λ r. ⌜ toldWrite (now (sheet .entry)) (storeOf (now (words .entry))) r ≡ setData (context (now (words .entry)) (now (strings .entry)) allowance) (methods depth (context (now (words .entry)) (now (strings .entry)) allowance)) key v writable receiver .run (stateOf (now (sheet .entry)) s) ⌝ }
+    ensures { λ r. ⌜ outWrite (now (sheet .entry)) (storeOf (now (words .entry))) r ≡ setData (context (now (words .entry)) (now (strings .entry)) allowance) (methods depth (context (now (words .entry)) (now (strings .entry)) allowance)) key v writable receiver .run (stateOf (now (sheet .entry)) s) ⌝ }
     ensures { λ r. ⌜ Fitting (now (words .entry)) r ⌝ }
 {
     if writable {
@@ -59,7 +59,7 @@ fn set_data(
 
 // 10.1.9.2 steps 5 to 7
 fn set_accessor(sheet: &[u8], setter: Value, s: Progress) -> WriteOut
-    ensures { λ r. ⌜ ((σ : Store) → toldWrite (now (sheet .entry)) σ r ≡ setAccessor σ setter .run (stateOf (now (sheet .entry)) s)) ⌝ }
+    ensures { λ r. ⌜ ((σ : Store) → outWrite (now (sheet .entry)) σ r ≡ setAccessor σ setter .run (stateOf (now (sheet .entry)) s)) ⌝ }
     ensures { λ r. ⌜ ((words : List ℕ) → isStore words ≡ true → Fitting words r) ⌝ }
 {
     if value_operations::is_undefined(setter) {
@@ -86,7 +86,7 @@ pub fn set(
     s: Progress,
 ) -> WriteOut
     requires { ⌜ Definable (now words) (now strings) allowance key ⌝ }
-    ensures { λ r. ⌜ toldWrite (now (sheet .entry)) (storeOf (now (words .entry))) r ≡ methods depth (context (now (words .entry)) (now (strings .entry)) allowance) .set o key v receiver .run (stateOf (now (sheet .entry)) s) ⌝ }
+    ensures { λ r. ⌜ outWrite (now (sheet .entry)) (storeOf (now (words .entry))) r ≡ methods depth (context (now (words .entry)) (now (strings .entry)) allowance) .set o key v receiver .run (stateOf (now (sheet .entry)) s) ⌝ }
     ensures { λ r. ⌜ Fitting (now (words .entry)) r ⌝ }
 {
     match calls::enter(words, o, depth, s) {
@@ -136,7 +136,7 @@ fn ordinary_set(
     s: Progress,
 ) -> WriteOut
     requires { ⌜ Definable (now words) (now strings) allowance key ⌝ }
-    ensures { λ r. ⌜ toldWrite (now (sheet .entry)) (storeOf (now (words .entry))) r ≡ ordinarySet (context (now (words .entry)) (now (strings .entry)) allowance) (methods depth (context (now (words .entry)) (now (strings .entry)) allowance)) o key v receiver .run (stateOf (now (sheet .entry)) s) ⌝ }
+    ensures { λ r. ⌜ outWrite (now (sheet .entry)) (storeOf (now (words .entry))) r ≡ ordinarySet (context (now (words .entry)) (now (strings .entry)) allowance) (methods depth (context (now (words .entry)) (now (strings .entry)) allowance)) o key v receiver .run (stateOf (now (sheet .entry)) s) ⌝ }
     ensures { λ r. ⌜ Fitting (now (words .entry)) r ⌝ }
 {
     match own_property::get_own_property(words, strings, allowance, sheet, o, key, depth, s) {
@@ -212,7 +212,7 @@ fn proxy_exotic_set(
     s: Progress,
 ) -> WriteOut
     requires { ⌜ Definable (now words) (now strings) allowance key ⌝ }
-    ensures { λ r. ⌜ toldWrite (now (sheet .entry)) (storeOf (now (words .entry))) r ≡ proxySet (context (now (words .entry)) (now (strings .entry)) allowance) (methods depth (context (now (words .entry)) (now (strings .entry)) allowance)) p key v receiver .run (stateOf (now (sheet .entry)) s) ⌝ }
+    ensures { λ r. ⌜ outWrite (now (sheet .entry)) (storeOf (now (words .entry))) r ≡ proxySet (context (now (words .entry)) (now (strings .entry)) allowance) (methods depth (context (now (words .entry)) (now (strings .entry)) allowance)) p key v receiver .run (stateOf (now (sheet .entry)) s) ⌝ }
     ensures { λ r. ⌜ Fitting (now (words .entry)) r ⌝ }
 {
     let target = p.target;

@@ -17,7 +17,7 @@ ghost use mathlib.Core.Bool.{true};
 ghost use Rattle.store.specs.Words.{storeOf};
 ghost use Rattle.internal_methods.specs.Ordinary.{valueDescriptor, setOnReceiver};
 ghost use Rattle.internal_methods.specs.Internal.{methods};
-ghost use Rattle.calls.specs.Told.{context, stateOf, toldWrite, Fitting};
+ghost use Rattle.calls.specs.Outs.{context, stateOf, outWrite, Fitting};
 ghost use Rattle.definition.specs.Define.{Definable};
 
 // { [[Value]]: V }
@@ -44,7 +44,7 @@ pub fn set_on_receiver(
     s: Progress,
 ) -> WriteOut
     requires { ⌜ Definable (now words) (now strings) allowance key ⌝ }
-    ensures { λ r. ⌜ toldWrite (now (sheet .entry)) (storeOf (now (words .entry))) r ≡ setOnReceiver (context (now (words .entry)) (now (strings .entry)) allowance) (methods depth (context (now (words .entry)) (now (strings .entry)) allowance)) key v receiver .run (stateOf (now (sheet .entry)) s) ⌝ }
+    ensures { λ r. ⌜ outWrite (now (sheet .entry)) (storeOf (now (words .entry))) r ≡ setOnReceiver (context (now (words .entry)) (now (strings .entry)) allowance) (methods depth (context (now (words .entry)) (now (strings .entry)) allowance)) key v receiver .run (stateOf (now (sheet .entry)) s) ⌝ }
     ensures { λ r. ⌜ Fitting (now (words .entry)) r ⌝ }
 {
     match own_property::get_own_property(

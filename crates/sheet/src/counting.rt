@@ -4,7 +4,7 @@ ghost use mathlib.Core.Path.{_≡_};
 ghost use lib.ListN.{length};
 ghost use Rattle.record.specs.Sheet.{answersAt};
 
-pub fn unread(sheet: &[u8], at: usize, left: usize) -> usize
+pub fn answers_left(sheet: &[u8], at: usize, left: usize) -> usize
     ensures { λ r. ⌜ r ≡ length (answersAt (now (sheet .entry)) at left) ⌝ }
 {
     let mut place: usize = at;

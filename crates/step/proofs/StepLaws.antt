@@ -19,7 +19,7 @@ use Rattle.record.specs.Step.{stepOf}
 use Rattle.record.specs.Tests.{firstFailing}
 use Rattle.record.specs.Sheet.{sheetOf}
 use Rattle.calls.specs.declared.Progress.{Progress}
-use Rattle.calls.specs.Told.{Readable, context, stateOf}
+use Rattle.calls.specs.Outs.{Readable, context, stateOf}
 use Rattle.steps.specs.declared.Report.{Report}
 use Rattle.steps.specs.Operation.{Operation, ownPropertyKeys, operationOf, asked}
 use Rattle.steps.specs.Perform.{perform, maximumCalls}
@@ -27,7 +27,7 @@ use Rattle.steps.specs.Response.{reportOf, refusal}
 use Rattle.steps.specs.Step.{recordTests, ended, ran, step}
 use Rattle.steps.specs.StringEntry.{enterString, entered}
 use Rattle.reporting.specs.declared.Performed.{Performed}
-use Rattle.reporting.specs.Performed.{Taken, toldPerformed}
+use Rattle.reporting.specs.Performed.{Taken, outPerformed}
 use Rattle.reporting.specs.Reports.{start, performedReport, Finished}
 use Rattle.reporting.specs.Memory.{Shown, shown, shownBy, isMemory, stepOver, shownEntry, enterOver}
 use Rattle.reporting.proofs.EndLaws.{finished}
@@ -57,7 +57,7 @@ module _ (words cells bytes sheet output : List ℕ) where
   run-listed st x e q h = h ∙ ap (λ o. shownBy (ended (worldOf words cells) (sheetOf sheet) output o)) (asks st (ownPropertyKeys (st .object)) e (lists st q))
 
   pub run-performed : (st : Step) (s : Progress) (after : List ℕ) (p : Performed) (r : Report) → st ≡ stepOf bytes → s ≡ start sheet
-      → toldPerformed sheet (storeOf words) p ≡ perform maximumCalls (context words cells 256) (operationOf st) .run (stateOf sheet s)
+      → outPerformed sheet (storeOf words) p ≡ perform maximumCalls (context words cells 256) (operationOf st) .run (stateOf sheet s)
       → Taken words p → Finished words after p → r ≡ performedReport sheet p → shown r after cells output ≡ runs
   run-performed st s after p r e f h t g q =
       ap (λ (k : Report). shown k after cells output) q

@@ -17,7 +17,7 @@ ghost use Rattle.store.specs.Store.{Store};
 ghost use Rattle.store.specs.Words.{isStore, worldOf};
 ghost use Rattle.record.specs.Tests.{firstFailing};
 ghost use Rattle.record.specs.Sheet.{sheetOf};
-ghost use Rattle.calls.specs.Told.{Readable};
+ghost use Rattle.calls.specs.Outs.{Readable};
 ghost use Rattle.steps.specs.Step.{recordTests, ended, ran};
 ghost use Rattle.step.specs.Entry.{entryReport};
 ghost use Rattle.reporting.specs.Memory.{isMemory, shown, shownBy, stepOver, shownEntry, enterOver, WordsAfter};

@@ -9,17 +9,17 @@ use mir.Syntax.{w32}
 use mir.Val.{SFits, ofZ, toZ}
 use mir.ValLaws.{toZ-ofZ}
 use Rattle.value.specs.declared.Value.the-variants.{Integer32}
-use Rattle.record.specs.Step.{isMask}
+use Rattle.record.specs.Step.{isMaskIfInteger32}
 
-pub negative-mask : (z : ℤ) → SFits w32 z → ltZ (toZ w32 (ofZ w32 z)) (pos 0) ≡ true → false ≡ isMask (Integer32 z)
-unfolding isMask
+pub negative-mask : (z : ℤ) → SFits w32 z → ltZ (toZ w32 (ofZ w32 z)) (pos 0) ≡ true → false ≡ isMaskIfInteger32 (Integer32 z)
+unfolding isMaskIfInteger32
 negative-mask (pos n) s e =
     let z : ltZ (pos n) (pos 0) ≡ true = sym (ap (λ (v : ℤ). ltZ v (pos 0)) (toZ-ofZ w32 (pos n) s)) ∙ e in
     absurd (omega (arith, ltb-true n 0 z))
 negative-mask (negsuc k) s e = refl
 
-pub small-mask : (z : ℤ) → SFits w32 z → ltZ (toZ w32 (ofZ w32 z)) (pos 0) ≡ false → leZ (toZ w32 (ofZ w32 z)) (pos 2047) ≡ isMask (Integer32 z)
-unfolding isMask
+pub small-mask : (z : ℤ) → SFits w32 z → ltZ (toZ w32 (ofZ w32 z)) (pos 0) ≡ false → leZ (toZ w32 (ofZ w32 z)) (pos 2047) ≡ isMaskIfInteger32 (Integer32 z)
+unfolding isMaskIfInteger32
 small-mask (pos n) s e = ap (λ (v : ℤ). leZ v (pos 2047)) (toZ-ofZ w32 (pos n) s)
 small-mask (negsuc k) s e =
     let z : true ≡ false = sym (ap (λ (v : ℤ). ltZ v (pos 0)) (toZ-ofZ w32 (negsuc k) s)) ∙ e in cc

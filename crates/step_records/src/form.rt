@@ -8,7 +8,7 @@ ghost use mathlib.Core.Path.{_≡_};
 ghost use mathlib.Core.Bool.{true, false};
 ghost use Prim.Native.Nat.{_≤_};
 ghost use lib.ListN.{length};
-ghost use Rattle.record.specs.Step.{isMask, isCode, isObjectFormed, areValuesFormed, isDescriptorFormed, isMaskFormed, isStep};
+ghost use Rattle.record.specs.Step.{isMaskIfInteger32, isCode, isObjectFormed, areValuesFormed, isDescriptorFormed, isMaskFormed, isStep};
 
 fn is_code(code: u64) -> bool
     ensures { λ r. ⌜ r ≡ isCode code ⌝ }
@@ -52,7 +52,7 @@ fn is_descriptor_formed(code: u64, bytes: &[u8]) -> bool
 }
 
 fn is_small(n: i32) -> bool
-    ensures { λ r. ⌜ r ≡ isMask (Value.Integer32 n) ⌝ }
+    ensures { λ r. ⌜ r ≡ isMaskIfInteger32 (Value.Integer32 n) ⌝ }
 {
     if n < 0 {
         return false;
@@ -61,8 +61,8 @@ fn is_small(n: i32) -> bool
 }
 
 // A trap mask that is an Integer32 is 0 to 2047.
-fn is_mask(v: Value) -> bool
-    ensures { λ r. ⌜ r ≡ isMask v ⌝ }
+fn is_mask_if_integer32(v: Value) -> bool
+    ensures { λ r. ⌜ r ≡ isMaskIfInteger32 v ⌝ }
 {
     match v {
         Value::Undefined => true,
@@ -82,7 +82,7 @@ fn is_mask_formed(code: u64, bytes: &[u8]) -> bool
     ensures { λ r. ⌜ r ≡ isMaskFormed code (now (bytes .entry)) ⌝ }
 {
     if code == 2 {
-        return is_mask(value_record::value_at(bytes, 11));
+        return is_mask_if_integer32(value_record::value_at(bytes, 11));
     }
     true
 }

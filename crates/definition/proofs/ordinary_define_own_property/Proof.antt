@@ -3,7 +3,7 @@ use mathlib.Core.Path.{sym, ap, _∙_}
 use denote.Ref.{now}
 use Rattle.internal_methods.specs.Monad.{pure, fails, next, _>>=_}
 use Rattle.internal_methods.specs.Ordinary.{ordinaryDefineOwnProperty}
-use Rattle.calls.specs.Told.{context, toldOwnProperty}
+use Rattle.calls.specs.Outs.{context, outOwnProperty}
 use Rattle.definition.proofs.DefineLaws.{ordinary-below, ordinary-own, same-write}
 use borrow.Author.Needs.{needs}
 use Rattle.definition.proofs.ordinary_define_own_property.Statement.{statement}
@@ -22,7 +22,7 @@ returns-2 c = (rw (sym (c .before .before .before .before .before .before .befor
 
 returns-3 : tie.Need-returns-3
 unfolding pure fails next _>>=_ ordinaryDefineOwnProperty
-returns-3 c = (rw (sym (c .before .before .before .before .before .before .before .before .before .get-own-property .ensures), c .before .before .before .before .before .before .before .current .given .1, sym (c .before .before .before .before .before .is-extensible .ensures), c .before .before .before .extensible .given .1) (c .apply-validation .ensures .0 _ _ ∙ same-write _ _ _ _ _ _ _ _ (ordinary-own (context (now (c .before .before .before .before .before .before .before .before .before .before .before .before .before .args .words)) (now (c .before .before .before .before .before .before .before .before .before .before .before .before .before .args .strings)) (c .before .before .before .before .before .before .before .before .before .before .before .before .before .args .allowance)) (now (c .before .before .before .before .before .before .before .before .before .before .before .before .before .args .sheet)) (c .before .before .before .before .before .before .before .before .before .before .before .before .before .args .o) (c .before .before .before .before .before .before .before .before .before .before .before .before .before .args .key) _ _ (c .before .before .before .before .before .before .before .before .before .before .before .before .before .args .s) (c .before .before .before .before .before .before .before .before .before .before .before .before .before .args .depth) (c .before .before .before .before .before .before .before .before .before .before .before .before .before .pre .1) (sym (c .before .before .before .before .before .before .before .before .before .get-own-property .ensures) ∙ ap (toldOwnProperty (now (c .before .before .before .before .before .before .before .before .before .before .before .before .before .args .sheet))) (c .before .before .before .before .before .before .before .current .given .1))) (c .before .validate .ensures)), c .apply-validation .ensures .1)
+returns-3 c = (rw (sym (c .before .before .before .before .before .before .before .before .before .get-own-property .ensures), c .before .before .before .before .before .before .before .current .given .1, sym (c .before .before .before .before .before .is-extensible .ensures), c .before .before .before .extensible .given .1) (c .apply-validation .ensures .0 _ _ ∙ same-write _ _ _ _ _ _ _ _ (ordinary-own (context (now (c .before .before .before .before .before .before .before .before .before .before .before .before .before .args .words)) (now (c .before .before .before .before .before .before .before .before .before .before .before .before .before .args .strings)) (c .before .before .before .before .before .before .before .before .before .before .before .before .before .args .allowance)) (now (c .before .before .before .before .before .before .before .before .before .before .before .before .before .args .sheet)) (c .before .before .before .before .before .before .before .before .before .before .before .before .before .args .o) (c .before .before .before .before .before .before .before .before .before .before .before .before .before .args .key) _ _ (c .before .before .before .before .before .before .before .before .before .before .before .before .before .args .s) (c .before .before .before .before .before .before .before .before .before .before .before .before .before .args .depth) (c .before .before .before .before .before .before .before .before .before .before .before .before .before .pre .1) (sym (c .before .before .before .before .before .before .before .before .before .get-own-property .ensures) ∙ ap (outOwnProperty (now (c .before .before .before .before .before .before .before .before .before .before .before .before .before .args .sheet))) (c .before .before .before .before .before .before .before .current .given .1))) (c .before .validate .ensures)), c .apply-validation .ensures .1)
 
 pub ordinary-define-own-property-spec : {M : Type 1} → statement M
 ordinary-define-own-property-spec =

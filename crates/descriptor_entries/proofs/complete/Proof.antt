@@ -16,8 +16,8 @@ refused-requires c κs = search needs
 enum-known-held : tie.Need-enum-known-held
 enum-known-held c = search needs
 
-complete-alone-requires : tie.Need-complete-alone-requires
-complete-alone-requires c κs = search needs
+complete-record-requires : tie.Need-complete-record-requires
+complete-record-requires c κs = search needs
 
 answer-report-requires : tie.Need-answer-report-requires
 answer-report-requires c κs = search needs
@@ -28,7 +28,7 @@ returns c = rw (sym (c .before .before .before .counts-in .ensures), c .before .
 
 returns-2 : tie.Need-returns-2
 unfolding completeOver
-returns-2 c = rw (sym (c .before .before .before .before .before .counts-in .ensures), c .before .before .before .held .given .1) (c .answer-report .ensures ∙ ap answerReport (c .before .complete-alone .ensures))
+returns-2 c = rw (sym (c .before .before .before .before .before .counts-in .ensures), c .before .before .before .held .given .1) (c .answer-report .ensures ∙ ap answerReport (c .before .complete-record .ensures))
 
 pub complete-spec : {M : Type 1} → statement M
 complete-spec =
@@ -38,7 +38,7 @@ complete-spec =
     enum-told
     refused-requires
     enum-known-held
-    complete-alone-requires
+    complete-record-requires
     answer-report-requires
     returns
     returns-2)

@@ -16,8 +16,8 @@ refused-requires c κs = search needs
 enum-known-held : tie.Need-enum-known-held
 enum-known-held c = search needs
 
-merge-alone-requires : tie.Need-merge-alone-requires
-merge-alone-requires c κs = search needs
+merge-records-requires : tie.Need-merge-records-requires
+merge-records-requires c κs = search needs
 
 answer-report-requires : tie.Need-answer-report-requires
 answer-report-requires c κs = search needs
@@ -28,7 +28,7 @@ returns c = rw (sym (c .before .before .before .counts-in .ensures), c .before .
 
 returns-2 : tie.Need-returns-2
 unfolding mergeOver
-returns-2 c = rw (sym (c .before .before .before .before .before .counts-in .ensures), c .before .before .before .held .given .1) (c .answer-report .ensures ∙ ap answerReport (c .before .merge-alone .ensures))
+returns-2 c = rw (sym (c .before .before .before .before .before .counts-in .ensures), c .before .before .before .held .given .1) (c .answer-report .ensures ∙ ap answerReport (c .before .merge-records .ensures))
 
 pub merge-spec : {M : Type 1} → statement M
 merge-spec =
@@ -38,7 +38,7 @@ merge-spec =
     enum-told
     refused-requires
     enum-known-held
-    merge-alone-requires
+    merge-records-requires
     answer-report-requires
     returns
     returns-2)

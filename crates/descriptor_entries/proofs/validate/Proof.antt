@@ -13,8 +13,8 @@ enum-told c = search needs
 enum-known-held : tie.Need-enum-known-held
 enum-known-held c = search needs
 
-validate-alone-requires : tie.Need-validate-alone-requires
-validate-alone-requires c κs = search needs
+validate-records-requires : tie.Need-validate-records-requires
+validate-records-requires c κs = search needs
 
 returns : tie.Need-returns
 unfolding validateOver
@@ -22,7 +22,7 @@ returns c = rw (sym (c .before .before .counts-in .ensures), c .enum-told .given
 
 returns-2 : tie.Need-returns-2
 unfolding validateOver
-returns-2 c = rw (sym (c .before .before .before .before .counts-in .ensures), c .before .before .held .given .1) (c .validate-alone .ensures)
+returns-2 c = rw (sym (c .before .before .before .before .counts-in .ensures), c .before .before .held .given .1) (c .validate-records .ensures)
 
 pub validate-spec : {M : Type 1} → statement M
 validate-spec =
@@ -31,6 +31,6 @@ validate-spec =
     counts-in-requires
     enum-told
     enum-known-held
-    validate-alone-requires
+    validate-records-requires
     returns
     returns-2)

@@ -5,7 +5,7 @@ use Rattle.performing.proofs.perform.Statement.{statement}
 use Rattle.performing.proofs.perform.Tie as tie
 use Rattle.performing.proofs.perform.Reads as reads
 use Rattle.performing.proofs.perform.Lts as lts
-use Rattle.performing.proofs.perform_making.Reads as perform-making-reads
+use Rattle.performing.proofs.perform_creation.Reads as perform-creation-reads
 use Rattle.performing.proofs.reads.is_reading.Reads as is-reading-reads
 use Rattle.performing.proofs.reads.perform_reading.Reads as perform-reading-reads
 use Rattle.performing.proofs.writes.perform_writing.Reads as perform-writing-reads
@@ -23,12 +23,12 @@ returns : tie.Need-returns
 returns c = c .perform-reading .ensures
 
 -- src/lib.rt:55:9
-perform-making-requires : tie.Need-perform-making-requires
-perform-making-requires c κs = (c .before .before .before .before .before .before .before .pre .0, (c .before .before .before .before .before .before .before .pre .1 .0, c .if2 .taken))
+perform-creation-requires : tie.Need-perform-creation-requires
+perform-creation-requires c κs = (c .before .before .before .before .before .before .before .pre .0, (c .before .before .before .before .before .before .before .pre .1 .0, c .if2 .taken))
 
 -- src/lib.rt:55:9
 returns-2 : tie.Need-returns-2
-returns-2 c = c .perform-making .ensures
+returns-2 c = c .perform-creation .ensures
 
 -- src/lib.rt:57:5
 perform-writing-requires : tie.Need-perform-writing-requires
@@ -45,7 +45,7 @@ perform-spec =
     is-reading-requires
     perform-reading-requires
     returns
-    perform-making-requires
+    perform-creation-requires
     returns-2
     perform-writing-requires
     returns-3)

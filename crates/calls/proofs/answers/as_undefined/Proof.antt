@@ -1,4 +1,4 @@
-use Rattle.calls.specs.Told.{stateOf}
+use Rattle.calls.specs.Outs.{stateOf}
 use mathlib.Core.Path.{sym, _∙_}
 use Rattle.internal_methods.specs.Monad.{pure, fails}
 use Rattle.internal_methods.specs.Answers.{asPrototype}

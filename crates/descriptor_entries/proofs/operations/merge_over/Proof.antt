@@ -1,6 +1,6 @@
 use borrow.Author.Needs.{needs}
 use mathlib.Core.Path.{sym, _∙_}
-use Rattle.descriptor_entries.proofs.AloneLaws.{is-absent, is-present, filled, unfilled}
+use Rattle.descriptor_entries.proofs.OperationLaws.{is-absent, is-present, filled, unfilled}
 use Rattle.property.specs.Validate.{propertyOf}
 use Rattle.descriptor_entries.proofs.operations.merge_over.Statement.{statement}
 use Rattle.descriptor_entries.proofs.operations.merge_over.Tie as tie

@@ -1,5 +1,5 @@
 use borrow.Author.Needs.{needs}
-use Rattle.descriptor_entries.proofs.AloneLaws.{is-absent, is-present}
+use Rattle.descriptor_entries.proofs.OperationLaws.{is-absent, is-present}
 use Rattle.property.specs.Validate.{propertyOf}
 use Rattle.descriptor_entries.proofs.operations.validate_over.Statement.{statement}
 use Rattle.descriptor_entries.proofs.operations.validate_over.Tie as tie

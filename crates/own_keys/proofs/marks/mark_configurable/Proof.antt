@@ -8,7 +8,7 @@ use borrow.Author.Needs.{needs}
 use Rattle.store_read.specs.Answers.{keyFromWord}
 use Rattle.internal_methods.specs.Proxy.{sorted}
 use Rattle.internal_methods.specs.Internal.{methods}
-use Rattle.calls.specs.Told.{context, stateOf}
+use Rattle.calls.specs.Outs.{context, stateOf}
 use Rattle.own_keys.proofs.MarkLaws.{sortedOnto, sorted-start, sorted-failed, sorted-more, sorted-end}
 use Rattle.own_keys.proofs.marks.mark_configurable.Statement.{statement}
 use Rattle.own_keys.proofs.marks.mark_configurable.Tie as tie

@@ -3,7 +3,7 @@ use mathlib.Core.Path.{_∙_, _≡_, ap}
 use mir.Syntax.{w32}
 use mir.Val.{ofZ, toZ}
 use Rattle.steps.specs.Operation.{maskNumber}
-use Rattle.performing.proofs.MakingLaws.{no-mask}
+use Rattle.performing.proofs.CreationLaws.{no-mask}
 use borrow.Author.Needs.{needs}
 use Rattle.performing.proofs.creation.mask_of.Statement.{statement}
 use Rattle.performing.proofs.creation.mask_of.Tie as tie

@@ -1,4 +1,4 @@
-use Rattle.performing.proofs.MakingLaws.{revocation-fits}
+use Rattle.performing.proofs.CreationLaws.{revocation-fits}
 use denote.Ref.{now}
 use mathlib.Core.Path.{refl, sym, _∙_}
 use borrow.Author.Tests.{lt-ltb, le-ltb}

@@ -2,7 +2,7 @@ use denote.Ref.{now}
 use native.Mathlib.Omega.{arith}
 use Rattle.record.specs.Sheet.{sheetOf}
 use Rattle.store.specs.Store.{maximumProperties}
-use Rattle.calls.specs.Told.{context}
+use Rattle.calls.specs.Outs.{context}
 use Rattle.performing.proofs.ListingLaws.{listing-failed, listing-done}
 use borrow.Author.Needs.{needs}
 use Rattle.performing.proofs.listing.list.Statement.{statement}

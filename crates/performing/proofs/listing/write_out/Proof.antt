@@ -1,6 +1,6 @@
 use denote.Ref.{now}
 use Rattle.record.specs.Sheet.{sheetOf}
-use Rattle.calls.specs.Told.{stateOf}
+use Rattle.calls.specs.Outs.{stateOf}
 use Rattle.performing.proofs.ListingLaws.{written-out, not-written}
 use borrow.Author.Needs.{needs}
 use Rattle.performing.proofs.listing.write_out.Statement.{statement}

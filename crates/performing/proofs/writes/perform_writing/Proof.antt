@@ -2,7 +2,7 @@ use denote.Ref.{now}
 use mathlib.Core.Path.{sym, _∙_}
 use borrow.Author.Needs.{needs}
 use Rattle.store.specs.Words.{storeOf}
-use Rattle.calls.specs.Told.{stateOf}
+use Rattle.calls.specs.Outs.{stateOf}
 use Rattle.steps.specs.Operation.{operationOf}
 use Rattle.steps.specs.Perform.{perform}
 use Rattle.performing.proofs.ResultLaws.{write-told, write-taken}

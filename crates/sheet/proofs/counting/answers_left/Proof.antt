@@ -6,10 +6,10 @@ use borrow.Author.Needs.{needs}
 use lib.ListN.{length}
 use Rattle.record.specs.Sheet.{answersAt}
 use Rattle.sheet.proofs.CountLaws.{count-end, count-none, count-value, count-descriptor, count-keys, count-throw}
-use Rattle.sheet.proofs.counting.unread.Statement.{statement}
-use Rattle.sheet.proofs.counting.unread.Tie as tie
-use Rattle.sheet.proofs.counting.unread.Reads as reads
-use Rattle.sheet.proofs.counting.unread.Lts as lts
+use Rattle.sheet.proofs.counting.answers_left.Statement.{statement}
+use Rattle.sheet.proofs.counting.answers_left.Tie as tie
+use Rattle.sheet.proofs.counting.answers_left.Reads as reads
+use Rattle.sheet.proofs.counting.answers_left.Lts as lts
 use Rattle.sheet.proofs.next_answer.Reads as next-answer-reads
 
 abbrev Inv-loop : tie.InvT-loop
@@ -118,8 +118,8 @@ loop-again-4 c = (omega (arith, c .before .before .before .before .before .loop 
 returns-2 : tie.Need-returns-2 Inv-loop μ-loop
 returns-2 c = omega (arith, c .before .loop .inv .0, count-end (now (c .before .before .before .args .sheet)) (c .before .loop .place) (c .before .loop .rest) (c .loop-test .left))
 
-pub unread-spec : {M : Type 1} → statement M
-unread-spec =
+pub answers-left-spec : {M : Type 1} → statement M
+answers-left-spec =
     tie.close
     (tie.spec
     Inv-loop

@@ -24,7 +24,7 @@ use Rattle.store.specs.Store.{Store, lookup, add, maximumObjects}
 use Rattle.internal_methods.specs.Monad.{done, pure, fails, if_then_else_}
 use Rattle.internal_methods.specs.Methods.{Context}
 use Rattle.calls.specs.declared.Progress.{Progress}
-use Rattle.calls.specs.Told.{stateOf}
+use Rattle.calls.specs.Outs.{stateOf}
 use Rattle.steps.specs.Operation.{makeObject, makeProxy, revoke, maskNumber, maskOf}
 use Rattle.steps.specs.Perform.{make, perform, boolean, revoked}
 use Rattle.steps.specs.Perform as result
@@ -32,7 +32,7 @@ use Rattle.steps.specs.declared.Completion.the-variants as completion
 use Rattle.store_write.specs.declared.write.Write.the-variants as write
 use Rattle.internal_methods.specs.declared.Failure.the-variants.{Refused}
 use Rattle.reporting.specs.declared.Performed.the-variants.{Failed, Done}
-use Rattle.reporting.specs.Performed.{toldPerformed}
+use Rattle.reporting.specs.Performed.{outPerformed}
 use Rattle.performing.specs.Creation.{makeOut, makeObjectOut, makeProxyOut, revokeOut, revocation}
 use Rattle.store.specs.Words.{storeOf, isStore}
 use Rattle.store_write.specs.Write.{fitsIn}
@@ -40,31 +40,31 @@ use Rattle.store_read.proofs.ReadLaws.{lookup-below}
 
 module _ (sheet : List ℕ) (s : Progress) where
   making : (σ : Store) (x : Object) (b : Bool)
-      → toldPerformed sheet σ (cond b (Done (completion.Value (value.Object (length (σ .objects)))) (write.NewObject x) s) (Failed (Refused 7) s))
+      → outPerformed sheet σ (cond b (Done (completion.Value (value.Object (length (σ .objects)))) (write.NewObject x) s) (Failed (Refused 7) s))
       ≡ (if b then pure (result.value (value.Object (length (σ .objects))), add σ x) else fails (Refused 7)) .run (stateOf sheet s)
   unfolding pure fails if_then_else_
   making σ x true = refl
   making σ x false = refl
 
-  made : (σ : Store) (x : Object) → toldPerformed sheet σ (makeOut σ x s) ≡ make σ x .run (stateOf sheet s)
+  made : (σ : Store) (x : Object) → outPerformed sheet σ (makeOut σ x s) ≡ make σ x .run (stateOf sheet s)
   unfolding makeOut make
   made σ x = making σ x (ltb (length (σ .objects)) maximumObjects)
 
   module _ (depth : ℕ) (c : Context) where
-    pub object-made : (v : Value) → toldPerformed sheet (c .store) (makeObjectOut (c .store) v s) ≡ perform depth c (makeObject v) .run (stateOf sheet s)
+    pub object-made : (v : Value) → outPerformed sheet (c .store) (makeObjectOut (c .store) v s) ≡ perform depth c (makeObject v) .run (stateOf sheet s)
     unfolding perform
     object-made v = made (c .store) _
 
-    pub proxy-made : (o : ℕ) (mask : Value) → toldPerformed sheet (c .store) (makeProxyOut (c .store) o mask s) ≡ perform depth c (makeProxy o (maskOf mask)) .run (stateOf sheet s)
+    pub proxy-made : (o : ℕ) (mask : Value) → outPerformed sheet (c .store) (makeProxyOut (c .store) o mask s) ≡ perform depth c (makeProxy o (maskOf mask)) .run (stateOf sheet s)
     unfolding perform
     proxy-made o mask = made (c .store) _
 
-    revoking : (o : ℕ) (x : Option Object) → toldPerformed sheet (c .store) (revokeOut o x s) ≡ done (boolean true, revoked (c .store) o x) (stateOf sheet s)
+    revoking : (o : ℕ) (x : Option Object) → outPerformed sheet (c .store) (revokeOut o x s) ≡ done (boolean true, revoked (c .store) o x) (stateOf sheet s)
     revoking o none = refl
     revoking o (some (Ordinary r)) = refl
     revoking o (some (Proxy p)) = refl
 
-    pub proxy-revoked : (o : ℕ) → toldPerformed sheet (c .store) (revokeOut o (lookup (c .store) o) s) ≡ perform depth c (revoke o) .run (stateOf sheet s)
+    pub proxy-revoked : (o : ℕ) → outPerformed sheet (c .store) (revokeOut o (lookup (c .store) o) s) ≡ perform depth c (revoke o) .run (stateOf sheet s)
     unfolding perform pure
     proxy-revoked o = revoking o (lookup (c .store) o)
 

@@ -1,8 +1,8 @@
 use borrow.Author.Needs.{needs}
 use mathlib.Core.Path.{sym, _∙_}
-use Rattle.descriptor_entries.proofs.AloneLaws.{validate-malformed, validate-absent, validate-unlike, validate-recorded}
-use Rattle.descriptor_entries.proofs.operations.validate_alone.Statement.{statement}
-use Rattle.descriptor_entries.proofs.operations.validate_alone.Tie as tie
+use Rattle.descriptor_entries.proofs.OperationLaws.{validate-malformed, validate-absent, validate-unlike, validate-recorded}
+use Rattle.descriptor_entries.proofs.operations.validate_records.Statement.{statement}
+use Rattle.descriptor_entries.proofs.operations.validate_records.Tie as tie
 
 returns : tie.Need-returns
 returns c = c .validate-absent .ensures ∙ validate-absent _ _ _ _ _ (c .before .if1 .taken) (sym (c .before .before .before .before .before .read .ensures) ∙ c .before .before .before .reading .given .1)
@@ -16,8 +16,8 @@ returns-3 c = validate-unlike _ _ _ _ _ (c .before .before .before .if1 .left) (
 returns-4 : tie.Need-returns-4
 returns-4 c = c .validate-read .ensures ∙ validate-recorded _ _ _ _ _ _ (c .before .before .before .before .before .if1 .left) (sym (c .before .before .before .before .before .before .before .before .before .read .ensures) ∙ c .before .before .before .before .before .before .before .reading .given .1) (sym (c .before .before .before .before .read2 .ensures) ∙ c .before .before .other .given .1)
 
-pub validate-alone-spec : {M : Type 1} → statement M
-validate-alone-spec =
+pub validate-records-spec : {M : Type 1} → statement M
+validate-records-spec =
     tie.close
     (tie.spec
     (λ c κs. search needs)

@@ -25,7 +25,7 @@ use Rattle.descriptor_entries.specs.declared.operations.Verdict.{Verdict
 use Rattle.descriptor_entries.specs.declared.operations.Verdict.the-variants as verdict
 use Rattle.descriptor_entries.specs.declared.records.Reading.{Reading}
 use Rattle.descriptor_entries.specs.declared.records.Reading.the-variants.{Malformed, Record}
-use Rattle.descriptor_entries.specs.Alone.{completed, validated, validatedAbsent, merged, mergedWith, completeAlone, validateAlone, mergeAlone}
+use Rattle.descriptor_entries.specs.Operations.{completed, validated, validatedAbsent, merged, mergedWith, completeRecord, validateRecords, mergeRecords}
 use Rattle.descriptor_entries.specs.Records.{isRecord, readOf, later, laterOne, laterTwo}
 
 pub is-absent : (o : Option Property) (r : OwnProperty) → r ≡ ownProperty o → r ≡ Absent → o ≡ none
@@ -82,33 +82,33 @@ abbrev Merged : Counts → DescriptorObject → DescriptorObject → Bool → De
 Merged n c d b = merged (toPropertyDescriptor d) (propertyOf (toPropertyDescriptor c)) (failing b 1 (laterTwo n c d))
 
 -- the three by what is read
-complete-is : (n : Counts) (bytes : List ℕ) → completeAlone n bytes ≡ Completed n (descriptorAt bytes 0) (isRecord bytes)
-unfolding completeAlone laterOne later firstFailing
+complete-is : (n : Counts) (bytes : List ℕ) → completeRecord n bytes ≡ Completed n (descriptorAt bytes 0) (isRecord bytes)
+unfolding completeRecord laterOne later firstFailing
 complete-is n bytes = refl
 
-absent-is : (n : Counts) (x : Bool) (bytes current : List ℕ) → length current ≡ 0 → validateAlone n x bytes current ≡ ValidatedAbsent n x (descriptorAt bytes 0) (isRecord bytes)
-unfolding validateAlone laterOne later firstFailing
+absent-is : (n : Counts) (x : Bool) (bytes current : List ℕ) → length current ≡ 0 → validateRecords n x bytes current ≡ ValidatedAbsent n x (descriptorAt bytes 0) (isRecord bytes)
+unfolding validateRecords laterOne later firstFailing
 absent-is n x bytes [] h = refl
 absent-is n x bytes (b ∷ current) h = absurd (omega arith)
 
-present-is : (n : Counts) (x : Bool) (bytes current : List ℕ) → (length current ≡ 0 → ⊥) → validateAlone n x bytes current ≡ Validated n x (descriptorAt bytes 0) (descriptorAt current 0) (isRecord bytes && isRecord current)
-unfolding validateAlone laterTwo later firstFailing
+present-is : (n : Counts) (x : Bool) (bytes current : List ℕ) → (length current ≡ 0 → ⊥) → validateRecords n x bytes current ≡ Validated n x (descriptorAt bytes 0) (descriptorAt current 0) (isRecord bytes && isRecord current)
+unfolding validateRecords laterTwo later firstFailing
 present-is n x bytes [] h = absurd (h refl)
 present-is n x bytes (b ∷ current) h = refl
 
-merge-is : (n : Counts) (current bytes : List ℕ) → mergeAlone n current bytes ≡ Merged n (descriptorAt current 0) (descriptorAt bytes 0) (isRecord current && isRecord bytes)
-unfolding mergeAlone laterTwo later firstFailing
+merge-is : (n : Counts) (current bytes : List ℕ) → mergeRecords n current bytes ≡ Merged n (descriptorAt current 0) (descriptorAt bytes 0) (isRecord current && isRecord bytes)
+unfolding mergeRecords laterTwo later firstFailing
 merge-is n current bytes = refl
 
-pub complete-malformed : (n : Counts) (bytes : List ℕ) → readOf bytes ≡ Malformed → answer.Refused 1 ≡ completeAlone n bytes
+pub complete-malformed : (n : Counts) (bytes : List ℕ) → readOf bytes ≡ Malformed → answer.Refused 1 ≡ completeRecord n bytes
 complete-malformed n bytes e = sym (complete-is n bytes ∙ ap (Completed n (descriptorAt bytes 0)) (malformed bytes e))
 
-pub complete-recorded : (n : Counts) (bytes : List ℕ) (d : DescriptorObject) → readOf bytes ≡ Record d → completed (toPropertyDescriptor d) (laterOne n d) ≡ completeAlone n bytes
+pub complete-recorded : (n : Counts) (bytes : List ℕ) (d : DescriptorObject) → readOf bytes ≡ Record d → completed (toPropertyDescriptor d) (laterOne n d) ≡ completeRecord n bytes
 complete-recorded n bytes d e =
     ap (λ (y : DescriptorObject). completed (toPropertyDescriptor y) (laterOne n y)) (recorded bytes d e .1)
     ∙ sym (complete-is n bytes ∙ ap (Completed n (descriptorAt bytes 0)) (recorded bytes d e .0))
 
-pub validate-malformed : (n : Counts) (x : Bool) (bytes current : List ℕ) → readOf bytes ≡ Malformed → verdict.Refused 1 ≡ validateAlone n x bytes current
+pub validate-malformed : (n : Counts) (x : Bool) (bytes current : List ℕ) → readOf bytes ≡ Malformed → verdict.Refused 1 ≡ validateRecords n x bytes current
 validate-malformed n x bytes [] e =
     sym (absent-is n x bytes [] refl ∙ ap (ValidatedAbsent n x (descriptorAt bytes 0)) (malformed bytes e))
 validate-malformed n x bytes (b ∷ current) e =
@@ -116,19 +116,19 @@ validate-malformed n x bytes (b ∷ current) e =
     (present-is n x bytes (b ∷ current) (λ h. omega arith)
     ∙ ap (λ (y : Bool). Validated n x (descriptorAt bytes 0) (descriptorAt (b ∷ current) 0) (y && isRecord (b ∷ current))) (malformed bytes e))
 
-pub validate-absent : (n : Counts) (x : Bool) (bytes current : List ℕ) (d : DescriptorObject) → length current ≡ 0 → readOf bytes ≡ Record d → validatedAbsent x (toPropertyDescriptor d) (laterOne n d) ≡ validateAlone n x bytes current
+pub validate-absent : (n : Counts) (x : Bool) (bytes current : List ℕ) (d : DescriptorObject) → length current ≡ 0 → readOf bytes ≡ Record d → validatedAbsent x (toPropertyDescriptor d) (laterOne n d) ≡ validateRecords n x bytes current
 validate-absent n x bytes current d h e =
     ap (λ (y : DescriptorObject). validatedAbsent x (toPropertyDescriptor y) (laterOne n y)) (recorded bytes d e .1)
     ∙ sym (absent-is n x bytes current h ∙ ap (ValidatedAbsent n x (descriptorAt bytes 0)) (recorded bytes d e .0))
 
-pub validate-unlike : (n : Counts) (x : Bool) (bytes current : List ℕ) (d : DescriptorObject) → (length current ≡ 0 → ⊥) → readOf bytes ≡ Record d → readOf current ≡ Malformed → verdict.Refused 1 ≡ validateAlone n x bytes current
+pub validate-unlike : (n : Counts) (x : Bool) (bytes current : List ℕ) (d : DescriptorObject) → (length current ≡ 0 → ⊥) → readOf bytes ≡ Record d → readOf current ≡ Malformed → verdict.Refused 1 ≡ validateRecords n x bytes current
 validate-unlike n x bytes current d h e f =
     sym
     (present-is n x bytes current h
     ∙ ap (λ (y : Bool). Validated n x (descriptorAt bytes 0) (descriptorAt current 0) (y && isRecord current)) (recorded bytes d e .0)
     ∙ ap (Validated n x (descriptorAt bytes 0) (descriptorAt current 0)) (malformed current f))
 
-pub validate-recorded : (n : Counts) (x : Bool) (bytes current : List ℕ) (d e : DescriptorObject) → (length current ≡ 0 → ⊥) → readOf bytes ≡ Record d → readOf current ≡ Record e → validated x (toPropertyDescriptor d) (propertyOf (toPropertyDescriptor e)) (laterTwo n d e) ≡ validateAlone n x bytes current
+pub validate-recorded : (n : Counts) (x : Bool) (bytes current : List ℕ) (d e : DescriptorObject) → (length current ≡ 0 → ⊥) → readOf bytes ≡ Record d → readOf current ≡ Record e → validated x (toPropertyDescriptor d) (propertyOf (toPropertyDescriptor e)) (laterTwo n d e) ≡ validateRecords n x bytes current
 validate-recorded n x bytes current d e h f g =
     ap (λ (y : DescriptorObject). validated x (toPropertyDescriptor y) (propertyOf (toPropertyDescriptor e)) (laterTwo n y e)) (recorded bytes d f .1)
     ∙ ap (λ (y : DescriptorObject). validated x (toPropertyDescriptor (descriptorAt bytes 0)) (propertyOf (toPropertyDescriptor y)) (laterTwo n (descriptorAt bytes 0) y)) (recorded current e g .1)
@@ -137,20 +137,20 @@ validate-recorded n x bytes current d e h f g =
     ∙ ap (λ (y : Bool). Validated n x (descriptorAt bytes 0) (descriptorAt current 0) (y && isRecord current)) (recorded bytes d f .0)
     ∙ ap (Validated n x (descriptorAt bytes 0) (descriptorAt current 0)) (recorded current e g .0))
 
-pub merge-malformed : (n : Counts) (current bytes : List ℕ) → readOf current ≡ Malformed → answer.Refused 1 ≡ mergeAlone n current bytes
+pub merge-malformed : (n : Counts) (current bytes : List ℕ) → readOf current ≡ Malformed → answer.Refused 1 ≡ mergeRecords n current bytes
 merge-malformed n current bytes e =
     sym
     (merge-is n current bytes
     ∙ ap (λ (y : Bool). Merged n (descriptorAt current 0) (descriptorAt bytes 0) (y && isRecord bytes)) (malformed current e))
 
-pub merge-unlike : (n : Counts) (current bytes : List ℕ) (c : DescriptorObject) → readOf current ≡ Record c → readOf bytes ≡ Malformed → answer.Refused 1 ≡ mergeAlone n current bytes
+pub merge-unlike : (n : Counts) (current bytes : List ℕ) (c : DescriptorObject) → readOf current ≡ Record c → readOf bytes ≡ Malformed → answer.Refused 1 ≡ mergeRecords n current bytes
 merge-unlike n current bytes c e f =
     sym
     (merge-is n current bytes
     ∙ ap (λ (y : Bool). Merged n (descriptorAt current 0) (descriptorAt bytes 0) (y && isRecord bytes)) (recorded current c e .0)
     ∙ ap (Merged n (descriptorAt current 0) (descriptorAt bytes 0)) (malformed bytes f))
 
-pub merge-recorded : (n : Counts) (current bytes : List ℕ) (c d : DescriptorObject) → readOf current ≡ Record c → readOf bytes ≡ Record d → merged (toPropertyDescriptor d) (propertyOf (toPropertyDescriptor c)) (laterTwo n c d) ≡ mergeAlone n current bytes
+pub merge-recorded : (n : Counts) (current bytes : List ℕ) (c d : DescriptorObject) → readOf current ≡ Record c → readOf bytes ≡ Record d → merged (toPropertyDescriptor d) (propertyOf (toPropertyDescriptor c)) (laterTwo n c d) ≡ mergeRecords n current bytes
 merge-recorded n current bytes c d e f =
     ap (λ (y : DescriptorObject). merged (toPropertyDescriptor d) (propertyOf (toPropertyDescriptor y)) (laterTwo n y d)) (recorded current c e .1)
     ∙ ap (λ (y : DescriptorObject). merged (toPropertyDescriptor y) (propertyOf (toPropertyDescriptor (descriptorAt current 0))) (laterTwo n (descriptorAt current 0) y)) (recorded bytes d f .1)

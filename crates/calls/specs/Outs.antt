@@ -54,27 +54,27 @@ textLength strings (value.Symbol s) = 0
 textLength strings (value.Object o) = 0
 textLength strings (value.Function f) = 0
 
-abbrev pub toldBoolean : List ℕ → BooleanOut → Out Bool
-toldBoolean sheet (boolean.Failed f s) = failed f (stateOf sheet s)
-toldBoolean sheet (boolean.Done b s) = done b (stateOf sheet s)
+abbrev pub outBoolean : List ℕ → BooleanOut → Out Bool
+outBoolean sheet (boolean.Failed f s) = failed f (stateOf sheet s)
+outBoolean sheet (boolean.Done b s) = done b (stateOf sheet s)
 
-abbrev pub toldValue : List ℕ → ValueOut → Out Value
-toldValue sheet (language.Failed f s) = failed f (stateOf sheet s)
-toldValue sheet (language.Done v s) = done v (stateOf sheet s)
+abbrev pub outValue : List ℕ → ValueOut → Out Value
+outValue sheet (language.Failed f s) = failed f (stateOf sheet s)
+outValue sheet (language.Done v s) = done v (stateOf sheet s)
 
-abbrev pub toldOwnProperty : List ℕ → OwnPropertyOut → Out OwnProperty
-toldOwnProperty sheet (own.Failed f s) = failed f (stateOf sheet s)
-toldOwnProperty sheet (own.Done p s) = done p (stateOf sheet s)
+abbrev pub outOwnProperty : List ℕ → OwnPropertyOut → Out OwnProperty
+outOwnProperty sheet (own.Failed f s) = failed f (stateOf sheet s)
+outOwnProperty sheet (own.Done p s) = done p (stateOf sheet s)
 
-abbrev pub toldDescriptor : List ℕ → DescriptorOut → Out (Option DescriptorObject)
-toldDescriptor sheet (descriptor.Failed f s) = failed f (stateOf sheet s)
-toldDescriptor sheet (descriptor.Undefined s) = done none (stateOf sheet s)
-toldDescriptor sheet (descriptor.Done d s) = done (some d) (stateOf sheet s)
+abbrev pub outDescriptor : List ℕ → DescriptorOut → Out (Option DescriptorObject)
+outDescriptor sheet (descriptor.Failed f s) = failed f (stateOf sheet s)
+outDescriptor sheet (descriptor.Undefined s) = done none (stateOf sheet s)
+outDescriptor sheet (descriptor.Done d s) = done (some d) (stateOf sheet s)
 
 -- a write stands for the store after it
-abbrev pub toldWrite : List ℕ → Store → WriteOut → Out (Bool × Store)
-toldWrite sheet σ (write.Failed f s) = failed f (stateOf sheet s)
-toldWrite sheet σ (write.Done b w s) = done (b, applied w σ) (stateOf sheet s)
+abbrev pub outWrite : List ℕ → Store → WriteOut → Out (Bool × Store)
+outWrite sheet σ (write.Failed f s) = failed f (stateOf sheet s)
+outWrite sheet σ (write.Done b w s) = done (b, applied w σ) (stateOf sheet s)
 
 -- what every method asks of the store's words and the string table's cells
 pub record Readable (words cells : List ℕ) : Type 0 where

@@ -2,15 +2,15 @@ use denote.Ref.{now}
 use native.Mathlib.Omega.{arith}
 use mathlib.Core.Path.{_≡_, sym, _∙_}
 use borrow.Author.Needs.{needs}
-use Rattle.calls.specs.Told.{context}
+use Rattle.calls.specs.Outs.{context}
 use Rattle.steps.specs.Operation.{operationOf}
 use Rattle.steps.specs.Perform.{maximumCalls}
-use Rattle.performing.proofs.MakingLaws.{object-made, proxy-made, proxy-revoked}
+use Rattle.performing.proofs.CreationLaws.{object-made, proxy-made, proxy-revoked}
 use borrow.Author.Needs.{needs}
-use Rattle.performing.proofs.perform_making.Statement.{statement}
-use Rattle.performing.proofs.perform_making.Tie as tie
-use Rattle.performing.proofs.perform_making.Reads as reads
-use Rattle.performing.proofs.perform_making.Lts as lts
+use Rattle.performing.proofs.perform_creation.Statement.{statement}
+use Rattle.performing.proofs.perform_creation.Tie as tie
+use Rattle.performing.proofs.perform_creation.Reads as reads
+use Rattle.performing.proofs.perform_creation.Lts as lts
 use Rattle.performing.proofs.creation.make_object.Reads as make-object-reads
 use Rattle.performing.proofs.creation.make_proxy.Reads as make-proxy-reads
 use Rattle.performing.proofs.creation.revoke.Reads as revoke-reads
@@ -42,7 +42,7 @@ returns-3 : tie.Need-returns-3
 unfolding operationOf
 returns-3 c = let e : c .before .before .before .before .before .args .step .code ≡ 3 = omega (arith, c .before .before .before .before .before .pre .1 .0, c .before .before .before .before .before .pre .1 .1, c .before .match .rest .0 .1, c .before .match .rest .1) in (rw (c .revoke .ensures .0, e) (proxy-revoked (now (c .before .before .before .before .before .args .sheet)) (c .before .before .before .before .before .args .s) maximumCalls (context (now (c .before .before .before .before .before .args .words)) (now (c .before .before .before .before .before .args .strings)) (c .before .before .before .before .before .args .allowance)) (c .before .before .before .before .before .args .step .object)), c .revoke .ensures .1)
 
-pub perform-making-spec : {M : Type 1} → statement M
-perform-making-spec =
+pub perform-creation-spec : {M : Type 1} → statement M
+perform-creation-spec =
     tie.close
     (tie.spec make-object-requires make-proxy-requires revoke-requires returns returns-2 returns-3)

@@ -22,8 +22,8 @@ completed d (some i) = answer.Refused i
 completed d none = answer.Property (complete d)
 
 -- completing by itself
-unfoldable pub completeAlone : Counts → List ℕ → DescriptorAnswer
-completeAlone n bytes = completed (descriptorOf bytes) (oneRefusal n bytes)
+unfoldable pub completeRecord : Counts → List ℕ → DescriptorAnswer
+completeRecord n bytes = completed (descriptorOf bytes) (oneRefusal n bytes)
 
 -- yes or no, and the property after it
 abbrev pub judged : OwnProperty → Validation → Verdict
@@ -43,9 +43,9 @@ validatedAbsent extensible d (some i) = verdict.Refused i
 validatedAbsent extensible d none = judged Absent (validate extensible d Absent)
 
 -- validating by itself; no current record stands for an absent property
-unfoldable pub validateAlone : Counts → Bool → List ℕ → List ℕ → Verdict
-validateAlone n extensible bytes [] = validatedAbsent extensible (descriptorOf bytes) (oneRefusal n bytes)
-validateAlone n extensible bytes (b ∷ current) =
+unfoldable pub validateRecords : Counts → Bool → List ℕ → List ℕ → Verdict
+validateRecords n extensible bytes [] = validatedAbsent extensible (descriptorOf bytes) (oneRefusal n bytes)
+validateRecords n extensible bytes (b ∷ current) =
     validated extensible (descriptorOf bytes) (propertyOf (descriptorOf (b ∷ current))) (twoRefusal n bytes (b ∷ current))
 
 -- refusal 6: one is data and the other an accessor
@@ -62,5 +62,5 @@ merged d current (some i) = answer.Refused i
 merged d current none = mergedOver d current
 
 -- merging by itself: boa's current.fill_with(desc)
-unfoldable pub mergeAlone : Counts → List ℕ → List ℕ → DescriptorAnswer
-mergeAlone n current bytes = merged (descriptorOf bytes) (propertyOf (descriptorOf current)) (twoRefusal n current bytes)
+unfoldable pub mergeRecords : Counts → List ℕ → List ℕ → DescriptorAnswer
+mergeRecords n current bytes = merged (descriptorOf bytes) (propertyOf (descriptorOf current)) (twoRefusal n current bytes)
