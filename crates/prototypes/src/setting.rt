@@ -5,7 +5,6 @@ use calls::Entered;
 use calls::Progress;
 use calls::WriteOut;
 use calls::Written;
-use setting::trap;
 use store::Object;
 use store::OrdinaryObject;
 use store::ProxyObject;
@@ -103,7 +102,7 @@ fn proxy_exotic_set_prototype_of(
 {
     let target = p.target;
     if calls::has_trap(p, 2) {
-        trap::set_prototype_of_trap(words, strings, allowance, sheet, p, v, depth, s)
+        setting_trap::set_prototype_of_trap(words, strings, allowance, sheet, p, v, depth, s)
     } else {
         set_prototype_of(words, strings, allowance, sheet, target, v, depth, s) // 6
     }

@@ -7,24 +7,6 @@ use borrow.Author.Needs.{needs}
 use Rattle.deletion.proofs.ordinary_delete.Statement.{statement}
 use Rattle.deletion.proofs.ordinary_delete.Tie as tie
 
-get-own-property-requires : tie.Need-get-own-property-requires
-get-own-property-requires c κs = search needs
-
-enum-known-f : tie.Need-enum-known-f
-enum-known-f c = search needs
-
-enum-known-desc : tie.Need-enum-known-desc
-enum-known-desc c = search needs
-
-enum-told : tie.Need-enum-told
-enum-told c = search needs
-
-enum-known-desc-2 : tie.Need-enum-known-desc-2
-enum-known-desc-2 c = search needs
-
-is-configurable-requires : tie.Need-is-configurable-requires
-is-configurable-requires c κs = search needs
-
 returns : tie.Need-returns
 unfolding pure fails next _>>=_ if_then_else_ ordinaryDelete
 returns c = (rw (sym (c .before .before .before .get-own-property .ensures), c .before .f .given .1), tt)
@@ -45,12 +27,12 @@ pub ordinary-delete-spec : {M : Type 1} → statement M
 ordinary-delete-spec =
     tie.close
     (tie.spec
-    get-own-property-requires
-    enum-known-f
-    enum-known-desc
-    enum-told
-    enum-known-desc-2
-    is-configurable-requires
+    (λ c κs. search needs)
+    (λ c. search needs)
+    (λ c. search needs)
+    (λ c. search needs)
+    (λ c. search needs)
+    (λ c κs. search needs)
     returns
     returns-2
     returns-3

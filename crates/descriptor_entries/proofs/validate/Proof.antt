@@ -4,18 +4,6 @@ use borrow.Author.Needs.{needs}
 use Rattle.descriptor_entries.proofs.validate.Statement.{statement}
 use Rattle.descriptor_entries.proofs.validate.Tie as tie
 
-counts-in-requires : tie.Need-counts-in-requires
-counts-in-requires c κs = search needs
-
-enum-told : tie.Need-enum-told
-enum-told c = search needs
-
-enum-known-held : tie.Need-enum-known-held
-enum-known-held c = search needs
-
-validate-records-requires : tie.Need-validate-records-requires
-validate-records-requires c κs = search needs
-
 returns : tie.Need-returns
 unfolding validateOver
 returns c = rw (sym (c .before .before .counts-in .ensures), c .enum-told .given .1)
@@ -28,9 +16,9 @@ pub validate-spec : {M : Type 1} → statement M
 validate-spec =
     tie.close
     (tie.spec
-    counts-in-requires
-    enum-told
-    enum-known-held
-    validate-records-requires
+    (λ c κs. search needs)
+    (λ c. search needs)
+    (λ c. search needs)
+    (λ c κs. search needs)
     returns
     returns-2)

@@ -56,7 +56,6 @@ proxy-exotic-is-extensible-below t =
     (falls 3 proxy-exotic-is-extensible-kinds.ps _<_ μ-proxy-exotic-is-extensible t)
     proxy-exotic-is-extensible.Pre
 
--- src/lib.rt:41:11
 is-extensible-enter-requires : (t : ℕ) → is-extensible-lts.Need-enter-requires (
   enter-reads.Asked,
   enter-reads.Learnt,
@@ -67,7 +66,6 @@ is-extensible-enter-requires : (t : ℕ) → is-extensible-lts.Need-enter-requir
 ) (is-extensible-at t) is-extensible.Post
 is-extensible-enter-requires t c κs = c .before .before .before .pre .1 .store
 
--- src/lib.rt:42:25
 is-extensible-enum-known-f : (t : ℕ) → is-extensible-lts.Need-enum-known-f (
   enter-reads.Asked,
   enter-reads.Learnt,
@@ -78,7 +76,6 @@ is-extensible-enum-known-f : (t : ℕ) → is-extensible-lts.Need-enum-known-f (
 ) (is-extensible-at t) is-extensible.Post
 is-extensible-enum-known-f t c = search needs
 
--- src/lib.rt:43:27
 is-extensible-enum-known-object : (t : ℕ) → is-extensible-lts.Need-enum-known-object (
   enter-reads.Asked,
   enter-reads.Learnt,
@@ -89,7 +86,6 @@ is-extensible-enum-known-object : (t : ℕ) → is-extensible-lts.Need-enum-know
 ) (is-extensible-at t) is-extensible.Post
 is-extensible-enum-known-object t c = search needs
 
--- src/lib.rt:43:58
 is-extensible-ordinary-is-extensible-requires :
     (t : ℕ) → is-extensible-lts.Need-ordinary-is-extensible-requires (
       enter-reads.Asked,
@@ -101,7 +97,6 @@ is-extensible-ordinary-is-extensible-requires :
     ) (is-extensible-at t) is-extensible.Post
 is-extensible-ordinary-is-extensible-requires t c κs = search needs
 
--- src/lib.rt:44:24
 is-extensible-enum-known-p : (t : ℕ) → is-extensible-lts.Need-enum-known-p (
   enter-reads.Asked,
   enter-reads.Learnt,
@@ -112,7 +107,6 @@ is-extensible-enum-known-p : (t : ℕ) → is-extensible-lts.Need-enum-known-p (
 ) (is-extensible-at t) is-extensible.Post
 is-extensible-enum-known-p t c = search needs
 
--- src/lib.rt:45:77
 is-extensible-sub-proxy-exotic-is-extensible :
     (t : ℕ) → is-extensible-lts.Need-sub-proxy-exotic-is-extensible (
       enter-reads.Asked,
@@ -124,7 +118,6 @@ is-extensible-sub-proxy-exotic-is-extensible :
     ) (is-extensible-at t) is-extensible.Post
 is-extensible-sub-proxy-exotic-is-extensible t c = omega (arith, proxy-deep _ _ _ _ _ (sym (c .before .before .before .enter .ensures) ∙ c .before .p .given .1))
 
--- src/lib.rt:45:13
 is-extensible-proxy-exotic-is-extensible-requires :
     (t : ℕ) → is-extensible-lts.Need-proxy-exotic-is-extensible-requires (
       enter-reads.Asked,
@@ -136,7 +129,6 @@ is-extensible-proxy-exotic-is-extensible-requires :
     ) (is-extensible-at t) is-extensible.Post
 is-extensible-proxy-exotic-is-extensible-requires t c κs = (omega (arith, c .before .before .before .before .before .before .before .pre .0, proxy-deep _ _ _ _ _ (sym (c .before .before .before .enter .ensures) ∙ c .before .p .given .1)), c .before .before .before .before .before .before .before .pre .1)
 
--- src/lib.rt:29:1
 is-extensible-returns : (t : ℕ) → is-extensible-lts.Need-returns (
   enter-reads.Asked,
   enter-reads.Learnt,
@@ -148,7 +140,6 @@ is-extensible-returns : (t : ℕ) → is-extensible-lts.Need-returns (
 unfolding pure fails next _>>=_ throwIf if_then_else_ hasTrap proxyIsExtensible
 is-extensible-returns t c = rw (is-extensible-goes-on _ _ _ _ _, sym (c .before .before .before .enter .ensures) ∙ c .before .f .given .1)
 
--- src/lib.rt:29:1
 is-extensible-returns-2 : (t : ℕ) → is-extensible-lts.Need-returns-2 (
   enter-reads.Asked,
   enter-reads.Learnt,
@@ -160,7 +151,6 @@ is-extensible-returns-2 : (t : ℕ) → is-extensible-lts.Need-returns-2 (
 unfolding pure fails next _>>=_ throwIf if_then_else_ hasTrap proxyIsExtensible
 is-extensible-returns-2 t c = rw (is-extensible-goes-on _ _ _ _ _, sym (c .before .before .before .before .enter .ensures) ∙ c .before .before .object .given .1, c .ordinary-is-extensible .ensures)
 
--- src/lib.rt:29:1
 is-extensible-returns-3 : (t : ℕ) → is-extensible-lts.Need-returns-3 (
   enter-reads.Asked,
   enter-reads.Learnt,
@@ -172,7 +162,6 @@ is-extensible-returns-3 : (t : ℕ) → is-extensible-lts.Need-returns-3 (
 unfolding pure fails next _>>=_ throwIf if_then_else_ hasTrap proxyIsExtensible
 is-extensible-returns-3 t c = rw (is-extensible-goes-on _ _ _ _ _, sym (c .before .before .before .before .enter .ensures) ∙ c .before .before .p .given .1) (c .proxy-exotic-is-extensible .ensures)
 
--- src/lib.rt:64:8
 proxy-exotic-is-extensible-has-trap-requires :
     (t : ℕ) → proxy-exotic-is-extensible-lts.Need-has-trap-requires (
       has-trap-reads.Asked,
@@ -186,7 +175,6 @@ proxy-exotic-is-extensible-has-trap-requires :
     ) (proxy-exotic-is-extensible-at t) proxy-exotic-is-extensible.Post
 proxy-exotic-is-extensible-has-trap-requires t c κs = search needs
 
--- src/lib.rt:65:15
 proxy-exotic-is-extensible-next-boolean-requires :
     (t : ℕ) → proxy-exotic-is-extensible-lts.Need-next-boolean-requires (
       has-trap-reads.Asked,
@@ -200,7 +188,6 @@ proxy-exotic-is-extensible-next-boolean-requires :
     ) (proxy-exotic-is-extensible-at t) proxy-exotic-is-extensible.Post
 proxy-exotic-is-extensible-next-boolean-requires t c κs = c .before .before .before .before .before .pre .1 .table
 
--- src/lib.rt:66:32
 proxy-exotic-is-extensible-enum-known-f :
     (t : ℕ) → proxy-exotic-is-extensible-lts.Need-enum-known-f (
       has-trap-reads.Asked,
@@ -214,7 +201,6 @@ proxy-exotic-is-extensible-enum-known-f :
     ) (proxy-exotic-is-extensible-at t) proxy-exotic-is-extensible.Post
 proxy-exotic-is-extensible-enum-known-f t c = search needs
 
--- src/lib.rt:67:30
 proxy-exotic-is-extensible-enum-known-answer :
     (t : ℕ) → proxy-exotic-is-extensible-lts.Need-enum-known-answer (
       has-trap-reads.Asked,
@@ -228,7 +214,6 @@ proxy-exotic-is-extensible-enum-known-answer :
     ) (proxy-exotic-is-extensible-at t) proxy-exotic-is-extensible.Post
 proxy-exotic-is-extensible-enum-known-answer t c = search needs
 
--- src/lib.rt:68:23
 proxy-exotic-is-extensible-is-extensible-requires :
     (t : ℕ) → proxy-exotic-is-extensible-lts.Need-is-extensible-requires (
       has-trap-reads.Asked,
@@ -242,7 +227,6 @@ proxy-exotic-is-extensible-is-extensible-requires :
     ) (proxy-exotic-is-extensible-at t) proxy-exotic-is-extensible.Post
 proxy-exotic-is-extensible-is-extensible-requires t c κs = (omega (arith, c .before .before .before .before .before .before .before .before .before .pre .0), c .before .before .before .before .before .before .before .before .before .pre .1)
 
--- src/lib.rt:69:40
 proxy-exotic-is-extensible-enum-known-f-2 :
     (t : ℕ) → proxy-exotic-is-extensible-lts.Need-enum-known-f-2 (
       has-trap-reads.Asked,
@@ -256,7 +240,6 @@ proxy-exotic-is-extensible-enum-known-f-2 :
     ) (proxy-exotic-is-extensible-at t) proxy-exotic-is-extensible.Post
 proxy-exotic-is-extensible-enum-known-f-2 t c = search needs
 
--- src/lib.rt:70:38
 proxy-exotic-is-extensible-enum-known-extensible :
     (t : ℕ) → proxy-exotic-is-extensible-lts.Need-enum-known-extensible (
       has-trap-reads.Asked,
@@ -270,7 +253,6 @@ proxy-exotic-is-extensible-enum-known-extensible :
     ) (proxy-exotic-is-extensible-at t) proxy-exotic-is-extensible.Post
 proxy-exotic-is-extensible-enum-known-extensible t c = search needs
 
--- src/lib.rt:71:28
 proxy-exotic-is-extensible-same-boolean-requires :
     (t : ℕ) → proxy-exotic-is-extensible-lts.Need-same-boolean-requires (
       has-trap-reads.Asked,
@@ -284,7 +266,6 @@ proxy-exotic-is-extensible-same-boolean-requires :
     ) (proxy-exotic-is-extensible-at t) proxy-exotic-is-extensible.Post
 proxy-exotic-is-extensible-same-boolean-requires t c κs = search needs
 
--- src/lib.rt:81:9
 proxy-exotic-is-extensible-is-extensible-requires-2 :
     (t : ℕ) → proxy-exotic-is-extensible-lts.Need-is-extensible-requires-2 (
       has-trap-reads.Asked,
@@ -298,7 +279,6 @@ proxy-exotic-is-extensible-is-extensible-requires-2 :
     ) (proxy-exotic-is-extensible-at t) proxy-exotic-is-extensible.Post
 proxy-exotic-is-extensible-is-extensible-requires-2 t c κs = (omega (arith, c .before .before .before .before .before .pre .0), c .before .before .before .before .before .pre .1)
 
--- src/lib.rt:51:1
 proxy-exotic-is-extensible-returns : (t : ℕ) → proxy-exotic-is-extensible-lts.Need-returns (
   has-trap-reads.Asked,
   has-trap-reads.Learnt,
@@ -312,7 +292,6 @@ proxy-exotic-is-extensible-returns : (t : ℕ) → proxy-exotic-is-extensible-lt
 unfolding pure fails next _>>=_ throwIf if_then_else_ hasTrap proxyIsExtensible
 proxy-exotic-is-extensible-returns t c = rw (sym (c .before .before .before .before .before .has-trap .ensures) ∙ c .before .before .before .before .if1 .taken, sym (c .before .before .before .next-boolean .ensures), c .before .f .given .1)
 
--- src/lib.rt:51:1
 proxy-exotic-is-extensible-returns-2 : (t : ℕ) → proxy-exotic-is-extensible-lts.Need-returns-2 (
   has-trap-reads.Asked,
   has-trap-reads.Learnt,
@@ -326,7 +305,6 @@ proxy-exotic-is-extensible-returns-2 : (t : ℕ) → proxy-exotic-is-extensible-
 unfolding pure fails next _>>=_ throwIf if_then_else_ hasTrap proxyIsExtensible
 proxy-exotic-is-extensible-returns-2 t c = rw (sym (c .before .before .before .before .before .before .before .before .before .has-trap .ensures) ∙ c .before .before .before .before .before .before .before .before .if1 .taken, sym (c .before .before .before .before .before .before .before .next-boolean .ensures), c .before .before .before .before .before .answer .given .1, sym (c .before .before .before .is-extensible .ensures), c .before .f2 .given .1)
 
--- src/lib.rt:51:1
 proxy-exotic-is-extensible-returns-3 : (t : ℕ) → proxy-exotic-is-extensible-lts.Need-returns-3 (
   has-trap-reads.Asked,
   has-trap-reads.Learnt,
@@ -340,7 +318,6 @@ proxy-exotic-is-extensible-returns-3 : (t : ℕ) → proxy-exotic-is-extensible-
 unfolding pure fails next _>>=_ throwIf if_then_else_ hasTrap proxyIsExtensible
 proxy-exotic-is-extensible-returns-3 t c = rw (sym (c .before .before .before .before .before .before .before .before .before .before .before .has-trap .ensures) ∙ c .before .before .before .before .before .before .before .before .before .before .if1 .taken, sym (c .before .before .before .before .before .before .before .before .before .next-boolean .ensures), c .before .before .before .before .before .before .before .answer .given .1, sym (c .before .before .before .before .before .is-extensible .ensures), c .before .before .before .extensible .given .1, sym (c .before .same-boolean .ensures) ∙ c .if2 .taken)
 
--- src/lib.rt:51:1
 proxy-exotic-is-extensible-returns-4 : (t : ℕ) → proxy-exotic-is-extensible-lts.Need-returns-4 (
   has-trap-reads.Asked,
   has-trap-reads.Learnt,
@@ -354,7 +331,6 @@ proxy-exotic-is-extensible-returns-4 : (t : ℕ) → proxy-exotic-is-extensible-
 unfolding pure fails next _>>=_ throwIf if_then_else_ hasTrap proxyIsExtensible
 proxy-exotic-is-extensible-returns-4 t c = rw (sym (c .before .before .before .before .before .before .before .before .before .before .before .has-trap .ensures) ∙ c .before .before .before .before .before .before .before .before .before .before .if1 .taken, sym (c .before .before .before .before .before .before .before .before .before .next-boolean .ensures), c .before .before .before .before .before .before .before .answer .given .1, sym (c .before .before .before .before .before .is-extensible .ensures), c .before .before .before .extensible .given .1, sym (c .before .same-boolean .ensures) ∙ c .if2 .left)
 
--- src/lib.rt:51:1
 proxy-exotic-is-extensible-returns-5 : (t : ℕ) → proxy-exotic-is-extensible-lts.Need-returns-5 (
   has-trap-reads.Asked,
   has-trap-reads.Learnt,

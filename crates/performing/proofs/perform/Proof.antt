@@ -10,31 +10,21 @@ use Rattle.performing.proofs.reads.is_reading.Reads as is-reading-reads
 use Rattle.performing.proofs.reads.perform_reading.Reads as perform-reading-reads
 use Rattle.performing.proofs.writes.perform_writing.Reads as perform-writing-reads
 
--- src/lib.rt:51:8
-is-reading-requires : tie.Need-is-reading-requires
-is-reading-requires c κs = search needs
-
--- src/lib.rt:52:9
 perform-reading-requires : tie.Need-perform-reading-requires
 perform-reading-requires c κs = (c .before .before .before .before .before .pre .0, sym (c .before .is-reading .ensures) ∙ c .if1 .taken)
 
--- src/lib.rt:52:9
 returns : tie.Need-returns
 returns c = c .perform-reading .ensures
 
--- src/lib.rt:55:9
 perform-creation-requires : tie.Need-perform-creation-requires
 perform-creation-requires c κs = (c .before .before .before .before .before .before .before .pre .0, (c .before .before .before .before .before .before .before .pre .1 .0, c .if2 .taken))
 
--- src/lib.rt:55:9
 returns-2 : tie.Need-returns-2
 returns-2 c = c .perform-creation .ensures
 
--- src/lib.rt:57:5
 perform-writing-requires : tie.Need-perform-writing-requires
 perform-writing-requires c κs = (c .before .before .before .before .before .before .before .pre .0, (sym (c .before .before .before .is-reading .ensures) ∙ c .before .before .if1 .left, (c .if2 .left, c .before .before .before .before .before .before .before .pre .1 .1)))
 
--- src/lib.rt:39:1
 returns-3 : tie.Need-returns-3
 returns-3 c = c .perform-writing .ensures
 
@@ -42,7 +32,7 @@ pub perform-spec : {M : Type 1} → statement M
 perform-spec =
     tie.close
     (tie.spec
-    is-reading-requires
+    (λ c κs. search needs)
     perform-reading-requires
     returns
     perform-creation-requires

@@ -15,29 +15,23 @@ use Rattle.performing.proofs.creation.make_object.Reads as make-object-
 use Rattle.performing.proofs.creation.make_proxy.Reads as make-proxy-reads
 use Rattle.performing.proofs.creation.revoke.Reads as revoke-reads
 
--- src/lib.rt:32:14
 make-object-requires : tie.Need-make-object-requires
 make-object-requires c κs = c .before .before .before .before .pre .0 .readable .store
 
--- src/lib.rt:33:14
 make-proxy-requires : tie.Need-make-proxy-requires
 make-proxy-requires c κs = c .before .before .before .before .pre .0 .readable .store
 
--- src/lib.rt:34:14
 revoke-requires : tie.Need-revoke-requires
 revoke-requires c κs = c .before .before .before .before .pre .0 .readable .store
 
--- src/lib.rt:16:1
 returns : tie.Need-returns
 unfolding operationOf
 returns c = (rw (c .make-object .ensures .0, c .before .match .keys1) (object-made (now (c .before .before .before .before .before .args .sheet)) (c .before .before .before .before .before .args .s) maximumCalls (context (now (c .before .before .before .before .before .args .words)) (now (c .before .before .before .before .before .args .strings)) (c .before .before .before .before .before .args .allowance)) (c .before .before .before .before .before .args .step .value)), c .make-object .ensures .1)
 
--- src/lib.rt:16:1
 returns-2 : tie.Need-returns-2
 unfolding operationOf
 returns-2 c = (rw (c .make-proxy .ensures .0, c .before .match .keys2) (proxy-made (now (c .before .before .before .before .before .args .sheet)) (c .before .before .before .before .before .args .s) maximumCalls (context (now (c .before .before .before .before .before .args .words)) (now (c .before .before .before .before .before .args .strings)) (c .before .before .before .before .before .args .allowance)) (c .before .before .before .before .before .args .step .object) (c .before .before .before .before .before .args .step .value)), c .make-proxy .ensures .1)
 
--- src/lib.rt:16:1
 returns-3 : tie.Need-returns-3
 unfolding operationOf
 returns-3 c = let e : c .before .before .before .before .before .args .step .code ≡ 3 = omega (arith, c .before .before .before .before .before .pre .1 .0, c .before .before .before .before .before .pre .1 .1, c .before .match .rest .0 .1, c .before .match .rest .1) in (rw (c .revoke .ensures .0, e) (proxy-revoked (now (c .before .before .before .before .before .args .sheet)) (c .before .before .before .before .before .args .s) maximumCalls (context (now (c .before .before .before .before .before .args .words)) (now (c .before .before .before .before .before .args .strings)) (c .before .before .before .before .before .args .allowance)) (c .before .before .before .before .before .args .step .object)), c .revoke .ensures .1)

@@ -6,15 +6,12 @@ use Rattle.reporting.proofs.completed.Lts as lts
 use Rattle.reporting.proofs.answers_used.Reads as answers-used-reads
 use Rattle.reporting.proofs.calls_made.Reads as calls-made-reads
 
--- src/lib.rt:99:18
 answers-used-requires : tie.Need-answers-used-requires
 answers-used-requires c κs = search needs
 
--- src/lib.rt:100:16
 calls-made-requires : tie.Need-calls-made-requires
 calls-made-requires c κs = search needs
 
--- src/lib.rt:93:1
 returns : tie.Need-returns
 returns c = rw (c .before .answers-used .ensures, c .calls-made .ensures)
 

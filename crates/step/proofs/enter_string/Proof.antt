@@ -8,19 +8,15 @@ use Rattle.step.proofs.enter_string.Lts as lts
 use Rattle.step.proofs.entered.Reads as entered-reads
 use Rattle.text.proofs.entry.enter.Reads as enter-reads
 
--- src/lib.rt:87:13
 enter-requires : tie.Need-enter-requires
 enter-requires c κs = search needs
 
--- src/lib.rt:87:5
 entered-requires : tie.Need-entered-requires
 entered-requires c κs = search needs
 
--- src/lib.rt:83:1
 same-length : tie.Need-same-length
 same-length c = search needs
 
--- src/lib.rt:83:1
 returns : tie.Need-returns
 returns c = ((λ σ. entry-shown σ (now (c .before .before .before .before .before .before .before .args .strings)) (now (c .before .before .before .before .before .before .before .args .units)) _ (c .before .before .before .enter .result) _ (c .before .before .before .enter .ensures .0) (c .before .before .before .enter .ensures .1 .0) (c .entered .ensures)), (c .before .before .before .enter .ensures .1 .0, c .before .before .before .enter .ensures .1 .1))
 

@@ -5,23 +5,18 @@ use Rattle.step.proofs.entered.Reads as reads
 use Rattle.step.proofs.entered.Lts as lts
 use Rattle.reporting.proofs.refused.Reads as refused-reads
 
--- src/lib.rt:73:30
 enum-known-answer : tie.Need-enum-known-answer
 enum-known-answer c = search needs
 
--- src/lib.rt:73:36
 refused-requires : tie.Need-refused-requires
 refused-requires c κs = search needs
 
--- src/lib.rt:74:30
 enum-known-answer-2 : tie.Need-enum-known-answer-2
 enum-known-answer-2 c = search needs
 
--- src/lib.rt:69:1
 returns : tie.Need-returns
 returns c = rw (c .before .before .answer .given .1) (c .refused .ensures)
 
--- src/lib.rt:69:1
 returns-2 : tie.Need-returns-2
 returns-2 c = rw (c .before .answer2 .given .1)
 

@@ -8,20 +8,16 @@ use Rattle.step.proofs.is_memory.Lts as lts
 use Rattle.store_read.proofs.is_store.Reads as is-store-reads
 use Rattle.text.proofs.is_table.Reads as is-table-reads
 
--- src/lib.rt:26:8
 is-store-requires : tie.Need-is-store-requires
 is-store-requires c κs = search needs
 
--- src/lib.rt:27:9
 is-table-requires : tie.Need-is-table-requires
 is-table-requires c κs = search needs
 
--- src/lib.rt:27:9
 returns : tie.Need-returns
 unfolding isMemory
 returns c = rw (sym (c .before .before .is-store .ensures) ∙ c .before .if1 .taken) (c .is-table .ensures)
 
--- src/lib.rt:23:1
 returns-2 : tie.Need-returns-2
 unfolding isMemory
 returns-2 c = rw (sym (c .before .is-store .ensures) ∙ c .if1 .left)

@@ -19,43 +19,24 @@ use Rattle.reporting.proofs.finish.Reads as finish-reads
 use Rattle.reporting.proofs.start.Reads as start-reads
 use Rattle.step_records.proofs.reading.step_of.Reads as step-of-reads
 
--- src/lib.rt:38:9
 step-of-requires : tie.Need-step-of-requires
 step-of-requires c κs = omega (arith, step-length (worldOf (now (c .before .before .before .before .before .args .words)) (now (c .before .before .before .before .before .args .strings))) (now (c .before .before .before .before .before .args .bytes)) (now (c .before .before .before .before .before .args .sheet)) (c .before .before .before .before .before .pre .1))
 
--- src/lib.rt:40:9
 list-requires : tie.Need-list-requires
 list-requires c κs = (c .before .before .before .before .before .before .before .before .before .before .pre .0, (sheet-there (worldOf (now (c .before .before .before .before .before .before .before .before .before .before .args .words)) (now (c .before .before .before .before .before .before .before .before .before .before .args .strings))) (now (c .before .before .before .before .before .before .before .before .before .before .args .bytes)) (now (c .before .before .before .before .before .before .before .before .before .before .args .sheet)) (c .before .before .before .before .before .before .before .before .before .before .pre .1), sheet-fits (countsOf (worldOf (now (c .before .before .before .before .before .before .before .before .before .before .args .words)) (now (c .before .before .before .before .before .before .before .before .before .before .args .strings)))) (few-strings (now (c .before .before .before .before .before .before .before .before .before .before .args .strings)) (c .before .before .before .before .before .before .before .before .before .before .pre .0 .table)) (now (c .before .before .before .before .before .before .before .before .before .before .args .sheet)) (sheet-formed (worldOf (now (c .before .before .before .before .before .before .before .before .before .before .args .words)) (now (c .before .before .before .before .before .before .before .before .before .before .args .strings))) (now (c .before .before .before .before .before .before .before .before .before .before .args .bytes)) (now (c .before .before .before .before .before .before .before .before .before .before .args .sheet)) (c .before .before .before .before .before .before .before .before .before .before .pre .1)) (sheet-known (worldOf (now (c .before .before .before .before .before .before .before .before .before .before .args .words)) (now (c .before .before .before .before .before .before .before .before .before .before .args .strings))) (now (c .before .before .before .before .before .before .before .before .before .before .args .bytes)) (now (c .before .before .before .before .before .before .before .before .before .before .args .sheet)) (c .before .before .before .before .before .before .before .before .before .before .pre .1))))
 
--- src/lib.rt:40:9
-same-length : tie.Need-same-length
-same-length c = search needs
-
--- src/lib.rt:40:9
-same-length-2 : tie.Need-same-length-2
-same-length-2 c = search needs
-
--- src/lib.rt:40:9
 returns : tie.Need-returns
 returns c = (run-listed (now (c .before .before .before .before .before .before .before .before .before .before .before .before .before .args .words)) (now (c .before .before .before .before .before .before .before .before .before .before .before .before .before .args .strings)) (now (c .before .before .before .before .before .before .before .before .before .before .before .before .before .args .bytes)) (now (c .before .before .before .before .before .before .before .before .before .before .before .before .before .args .sheet)) (now (c .before .before .before .before .before .before .before .before .before .before .before .before .before .args .output)) (c .before .before .before .before .before .before .before .step-of .result) _ (c .before .before .before .before .before .before .before .step-of .ensures) (c .before .before .before .before .before .if1 .taken) (c .before .before .list .ensures), kept-words (now (c .before .before .before .before .before .before .before .before .before .before .before .before .before .args .words)) (c .before .before .list .result .outcome) (c .before .before .before .before .before .before .before .before .before .before .before .before .before .pre .0 .store))
 
--- src/lib.rt:42:9
 start-requires : tie.Need-start-requires
 start-requires c κs = sheet-there (worldOf (now (c .before .before .before .before .before .before .before .before .args .words)) (now (c .before .before .before .before .before .before .before .before .args .strings))) (now (c .before .before .before .before .before .before .before .before .args .bytes)) (now (c .before .before .before .before .before .before .before .before .args .sheet)) (c .before .before .before .before .before .before .before .before .pre .1)
 
--- src/lib.rt:43:9
 perform-requires : tie.Need-perform-requires
 perform-requires c κs = (record { readable = c .before .before .before .before .before .before .before .before .before .before .pre .0; allowed = omega arith; key = rw (c .before .before .before .before .step-of .ensures) (key-fits (worldOf (now (c .before .before .before .before .before .before .before .before .before .before .args .words)) (now (c .before .before .before .before .before .before .before .before .before .before .args .strings))) (now (c .before .before .before .before .before .before .before .before .before .before .args .bytes)) (now (c .before .before .before .before .before .before .before .before .before .before .args .sheet)) (c .before .before .before .before .before .before .before .before .before .before .pre .1) (few-strings (now (c .before .before .before .before .before .before .before .before .before .before .args .strings)) (c .before .before .before .before .before .before .before .before .before .before .pre .0 .table))) }, (rw (c .before .before .before .before .step-of .ensures) (code-low (worldOf (now (c .before .before .before .before .before .before .before .before .before .before .args .words)) (now (c .before .before .before .before .before .before .before .before .before .before .args .strings))) (now (c .before .before .before .before .before .before .before .before .before .before .args .bytes)) (now (c .before .before .before .before .before .before .before .before .before .before .args .sheet)) (c .before .before .before .before .before .before .before .before .before .before .pre .1)), below _ (rw (c .before .before .before .before .step-of .ensures) (code-high (worldOf (now (c .before .before .before .before .before .before .before .before .before .before .args .words)) (now (c .before .before .before .before .before .before .before .before .before .before .args .strings))) (now (c .before .before .before .before .before .before .before .before .before .before .args .bytes)) (now (c .before .before .before .before .before .before .before .before .before .before .args .sheet)) (c .before .before .before .before .before .before .before .before .before .before .pre .1))) (c .before .before .if1 .left)))
 
--- src/lib.rt:44:5
 finish-requires : tie.Need-finish-requires
 finish-requires c κs = (sheet-there (worldOf (now (c .before .before .before .before .before .before .before .before .before .before .before .before .args .words)) (now (c .before .before .before .before .before .before .before .before .before .before .before .before .args .strings))) (now (c .before .before .before .before .before .before .before .before .before .before .before .before .args .bytes)) (now (c .before .before .before .before .before .before .before .before .before .before .before .before .args .sheet)) (c .before .before .before .before .before .before .before .before .before .before .before .before .pre .1), (c .before .before .before .before .before .before .before .before .before .before .before .before .pre .0 .store, c .before .perform .ensures .1))
 
--- src/lib.rt:33:1
-same-length-3 : tie.Need-same-length-3
-same-length-3 c = search needs
-
--- src/lib.rt:33:1
 returns-2 : tie.Need-returns-2
 returns-2 c = (run-performed (now (c .before .before .before .before .before .before .before .before .before .before .before .before .before .before .before .args .words)) (now (c .before .before .before .before .before .before .before .before .before .before .before .before .before .before .before .args .strings)) (now (c .before .before .before .before .before .before .before .before .before .before .before .before .before .before .before .args .bytes)) (now (c .before .before .before .before .before .before .before .before .before .before .before .before .before .before .before .args .sheet)) (now (c .before .before .before .before .before .before .before .before .before .before .before .before .before .before .before .args .output)) (c .before .before .before .before .before .before .before .before .before .step-of .result) (c .before .before .before .before .before .before .start .result) _ (c .before .before .before .before .perform .result) _ (c .before .before .before .before .before .before .before .before .before .step-of .ensures) (c .before .before .before .before .before .before .start .ensures) (c .before .before .before .before .perform .ensures .0) (c .before .before .before .before .perform .ensures .1) (c .before .before .finish .ensures .1) (c .before .before .finish .ensures .0), rw (c .before .before .finish .ensures .0) (finished-words (now (c .before .before .before .before .before .before .before .before .before .before .before .before .before .before .before .args .words)) (now (c .before .before .before .before .before .before .before .before .before .before .before .before .before .before .before .args .sheet)) _ (c .before .before .before .before .perform .result) (c .before .before .finish .ensures .1)))
 
@@ -65,11 +46,11 @@ run-spec =
     (tie.spec
     step-of-requires
     list-requires
-    same-length
-    same-length-2
+    (λ c. search needs)
+    (λ c. search needs)
     returns
     start-requires
     perform-requires
     finish-requires
-    same-length-3
+    (λ c. search needs)
     returns-2)

@@ -15,59 +15,18 @@ use Rattle.reporting.proofs.refused.Reads as refused-reads
 use Rattle.step.proofs.is_memory.Reads as is-memory-reads
 use Rattle.step.proofs.run.Reads as run-reads
 
--- src/lib.rt:58:8
-is-memory-requires : tie.Need-is-memory-requires
-is-memory-requires c κs = search needs
-
--- src/lib.rt:59:15
 record-refusal-requires : tie.Need-record-refusal-requires
 record-refusal-requires c κs = ((memory-readable (now (c .before .before .before .before .before .before .before .before .before .args .words)) (now (c .before .before .before .before .before .before .before .before .before .args .strings)) (sym (c .before .before .is-memory .ensures) ∙ c .before .if1 .taken)) .store, (memory-readable (now (c .before .before .before .before .before .before .before .before .before .args .words)) (now (c .before .before .before .before .before .before .before .before .before .args .strings)) (sym (c .before .before .is-memory .ensures) ∙ c .before .if1 .taken)) .table)
 
--- src/lib.rt:60:29
-enum-known-n : tie.Need-enum-known-n
-enum-known-n c = search needs
-
--- src/lib.rt:60:35
-refused-requires : tie.Need-refused-requires
-refused-requires c κs = search needs
-
--- src/lib.rt:61:36
-enum-told : tie.Need-enum-told
-enum-told c = search needs
-
--- src/lib.rt:61:32
 run-requires : tie.Need-run-requires
 run-requires c κs = ((memory-readable (now (c .before .before .before .before .before .before .before .before .before .before .before .before .before .before .args .words)) (now (c .before .before .before .before .before .before .before .before .before .before .before .before .before .before .args .strings)) (sym (c .before .before .before .before .before .before .before .is-memory .ensures) ∙ c .before .before .before .before .before .before .if1 .taken)), is-passed (firstFailing (recordTests (worldOf (now (c .before .before .before .before .before .before .before .before .before .before .before .before .before .before .args .words)) (now (c .before .before .before .before .before .before .before .before .before .before .before .before .before .before .args .strings))) (now (c .before .before .before .before .before .before .before .before .before .before .before .before .before .before .args .bytes)) (now (c .before .before .before .before .before .before .before .before .before .before .before .before .before .before .args .sheet)))) _ (c .before .before .before .before .record-refusal .ensures) (c .before .before .enum-told .given .1))
 
--- src/lib.rt:64:9
-refused-requires-2 : tie.Need-refused-requires-2
-refused-requires-2 c κs = search needs
-
--- src/lib.rt:48:1
-same-length : tie.Need-same-length
-same-length c = search needs
-
--- src/lib.rt:48:1
 returns : tie.Need-returns
 returns c = (step-refused (now (c .before .before .before .before .before .before .before .before .before .before .before .before .before .before .args .words)) (now (c .before .before .before .before .before .before .before .before .before .before .before .before .before .before .args .strings)) (now (c .before .before .before .before .before .before .before .before .before .before .before .before .before .before .args .bytes)) (now (c .before .before .before .before .before .before .before .before .before .before .before .before .before .before .args .sheet)) (now (c .before .before .before .before .before .before .before .before .before .before .before .before .before .before .args .output)) _ _ (sym (c .before .before .before .before .before .before .before .is-memory .ensures) ∙ c .before .before .before .before .before .before .if1 .taken) (is-failed (firstFailing (recordTests (worldOf (now (c .before .before .before .before .before .before .before .before .before .before .before .before .before .before .args .words)) (now (c .before .before .before .before .before .before .before .before .before .before .before .before .before .before .args .strings))) (now (c .before .before .before .before .before .before .before .before .before .before .before .before .before .before .args .bytes)) (now (c .before .before .before .before .before .before .before .before .before .before .before .before .before .before .args .sheet)))) _ _ (c .before .before .before .before .record-refusal .ensures) (c .before .before .n .given .1)) (c .refused .ensures), rw (c .refused .ensures) refl)
 
--- src/lib.rt:48:1
-same-length-2 : tie.Need-same-length-2
-same-length-2 c = search needs
-
--- src/lib.rt:48:1
-same-length-3 : tie.Need-same-length-3
-same-length-3 c = search needs
-
--- src/lib.rt:48:1
 returns-2 : tie.Need-returns-2
 returns-2 c = (step-ran (now (c .before .before .before .before .before .before .before .before .before .before .before .before .before .before .before .before .before .before .before .args .words)) (now (c .before .before .before .before .before .before .before .before .before .before .before .before .before .before .before .before .before .before .before .args .strings)) (now (c .before .before .before .before .before .before .before .before .before .before .before .before .before .before .before .before .before .before .before .args .bytes)) (now (c .before .before .before .before .before .before .before .before .before .before .before .before .before .before .before .before .before .before .before .args .sheet)) (now (c .before .before .before .before .before .before .before .before .before .before .before .before .before .before .before .before .before .before .before .args .output)) _ (sym (c .before .before .before .before .before .before .before .before .before .before .before .before .is-memory .ensures) ∙ c .before .before .before .before .before .before .before .before .before .before .before .if1 .taken) (is-passed (firstFailing (recordTests (worldOf (now (c .before .before .before .before .before .before .before .before .before .before .before .before .before .before .before .before .before .before .before .args .words)) (now (c .before .before .before .before .before .before .before .before .before .before .before .before .before .before .before .before .before .before .before .args .strings))) (now (c .before .before .before .before .before .before .before .before .before .before .before .before .before .before .before .before .before .before .before .args .bytes)) (now (c .before .before .before .before .before .before .before .before .before .before .before .before .before .before .before .before .before .before .before .args .sheet)))) _ (c .before .before .before .before .before .before .before .before .before .record-refusal .ensures) (c .before .before .before .before .before .before .before .enum-told .given .1)) (c .before .before .before .before .run .ensures .0), c .before .before .before .before .run .ensures .1)
 
--- src/lib.rt:48:1
-same-length-4 : tie.Need-same-length-4
-same-length-4 c = search needs
-
--- src/lib.rt:48:1
 returns-3 : tie.Need-returns-3
 returns-3 c = (step-unread (now (c .before .before .before .before .before .before .before .before .before .args .words)) (now (c .before .before .before .before .before .before .before .before .before .args .strings)) (now (c .before .before .before .before .before .before .before .before .before .args .bytes)) (now (c .before .before .before .before .before .before .before .before .before .args .sheet)) (now (c .before .before .before .before .before .before .before .before .before .args .output)) _ (sym (c .before .before .is-memory .ensures) ∙ c .before .if1 .left) (c .refused2 .ensures), rw (c .refused2 .ensures) refl)
 
@@ -75,17 +34,17 @@ pub step-spec : {M : Type 1} → statement M
 step-spec =
     tie.close
     (tie.spec
-    is-memory-requires
+    (λ c κs. search needs)
     record-refusal-requires
-    enum-known-n
-    refused-requires
-    enum-told
+    (λ c. search needs)
+    (λ c κs. search needs)
+    (λ c. search needs)
     run-requires
-    refused-requires-2
-    same-length
+    (λ c κs. search needs)
+    (λ c. search needs)
     returns
-    same-length-2
-    same-length-3
+    (λ c. search needs)
+    (λ c. search needs)
     returns-2
-    same-length-4
+    (λ c. search needs)
     returns-3)

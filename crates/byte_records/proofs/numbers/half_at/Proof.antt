@@ -7,27 +7,21 @@ use Rattle.byte_records.proofs.numbers.half_at.Reads as reads
 use Rattle.byte_records.proofs.numbers.half_at.Lts as lts
 use Rattle.byte_records.proofs.numbers.short_at.Reads as short-at-reads
 
--- src/bytes.rt:28:5
 short-at-requires : tie.Need-short-at-requires
 short-at-requires c κs = search needs
 
--- src/bytes.rt:28:51
 add-short-at : tie.Need-add-short-at
 add-short-at c = search needs
 
--- src/bytes.rt:28:35
 short-at-requires-2 : tie.Need-short-at-requires-2
 short-at-requires-2 c κs = search needs
 
--- src/bytes.rt:28:27
 mul-result : tie.Need-mul-result
 mul-result c = search needs
 
--- src/bytes.rt:28:5
 add-result : tie.Need-add-result
 add-result c = search needs
 
--- src/bytes.rt:24:1
 returns : tie.Need-returns
 returns c = rw (half-of _ _) (omega arith, omega arith)
 

@@ -7,27 +7,21 @@ use Rattle.byte_records.proofs.numbers.word_at.Reads as reads
 use Rattle.byte_records.proofs.numbers.word_at.Lts as lts
 use Rattle.byte_records.proofs.numbers.half_at.Reads as half-at-reads
 
--- src/bytes.rt:36:5
 half-at-requires : tie.Need-half-at-requires
 half-at-requires c κs = search needs
 
--- src/bytes.rt:36:54
 add-half-at : tie.Need-add-half-at
 add-half-at c = search needs
 
--- src/bytes.rt:36:39
 half-at-requires-2 : tie.Need-half-at-requires-2
 half-at-requires-2 c κs = search needs
 
--- src/bytes.rt:36:26
 mul-result : tie.Need-mul-result
 mul-result c = search needs
 
--- src/bytes.rt:36:5
 add-result : tie.Need-add-result
 add-result c = search needs
 
--- src/bytes.rt:32:1
 returns : tie.Need-returns
 returns c = rw (word-of _ _) (omega arith)
 

@@ -13,21 +13,6 @@ use Rattle.calls.proofs.answers.next_value.Reads as next-value-reads
 use Rattle.calls.proofs.answers.text_length.Reads as text-length-reads
 use Rattle.value_operations.proofs.to_boolean.Reads as to-boolean-reads
 
-next-value-requires : tie.Need-next-value-requires
-next-value-requires c κs = search needs
-
-enum-known-f : tie.Need-enum-known-f
-enum-known-f c = search needs
-
-enum-known-v : tie.Need-enum-known-v
-enum-known-v c = search needs
-
-text-length-requires : tie.Need-text-length-requires
-text-length-requires c κs = search needs
-
-to-boolean-requires : tie.Need-to-boolean-requires
-to-boolean-requires c κs = search needs
-
 returns : tie.Need-returns
 unfolding pure fails next _>>=_ askBoolean askPrototype
 returns c = rw (sym (c .before .before .before .next-value .ensures), c .before .f .given .1)
@@ -40,10 +25,10 @@ pub next-boolean-spec : {M : Type 1} → statement M
 next-boolean-spec =
     tie.close
     (tie.spec
-    next-value-requires
-    enum-known-f
-    enum-known-v
-    text-length-requires
-    to-boolean-requires
+    (λ c κs. search needs)
+    (λ c. search needs)
+    (λ c. search needs)
+    (λ c κs. search needs)
+    (λ c κs. search needs)
     returns
     returns-2)

@@ -12,35 +12,14 @@ use Rattle.calls.proofs.answers.as_undefined.Reads as as-undefined-read
 use Rattle.calls.proofs.answers.past.Reads as past-reads
 use Rattle.sheet.proofs.next_answer.Reads as next-answer-reads
 
-next-answer-requires : tie.Need-next-answer-requires
-next-answer-requires c κs = search needs
-
-enum-told : tie.Need-enum-told
-enum-told c = search needs
-
-enum-known-v : tie.Need-enum-known-v
-enum-known-v c = search needs
-
 past-requires : tie.Need-past-requires
 past-requires c κs = left-value (now (c .before .before .before .before .before .args .sheet)) (c .before .before .before .before .before .args .s) _ (c .before .before .before .next-answer .ensures) _ _ (c .before .v .given .1)
-
-as-undefined-requires : tie.Need-as-undefined-requires
-as-undefined-requires c κs = search needs
-
-enum-known-d : tie.Need-enum-known-d
-enum-known-d c = search needs
 
 past-requires-2 : tie.Need-past-requires-2
 past-requires-2 c κs = left-descriptor (now (c .before .before .before .before .before .args .sheet)) (c .before .before .before .before .before .args .s) _ (c .before .before .before .next-answer .ensures) _ _ (c .before .d .given .1)
 
-enum-known-end : tie.Need-enum-known-end
-enum-known-end c = search needs
-
 past-requires-3 : tie.Need-past-requires-3
 past-requires-3 c κs = left-keys (now (c .before .before .before .before .before .args .sheet)) (c .before .before .before .before .before .args .s) _ (c .before .before .before .next-answer .ensures) _ _ _ (c .before .end .given .1)
-
-enum-known-v-2 : tie.Need-enum-known-v-2
-enum-known-v-2 c = search needs
 
 past-requires-4 : tie.Need-past-requires-4
 past-requires-4 c κs = left-throw (now (c .before .before .before .before .before .args .sheet)) (c .before .before .before .before .before .args .s) _ (c .before .before .before .next-answer .ensures) _ _ (c .before .v2 .given .1)
@@ -69,16 +48,16 @@ pub next-descriptor-spec : {M : Type 1} → statement M
 next-descriptor-spec =
     tie.close
     (tie.spec
-    next-answer-requires
-    enum-told
-    enum-known-v
+    (λ c κs. search needs)
+    (λ c. search needs)
+    (λ c. search needs)
     past-requires
-    as-undefined-requires
-    enum-known-d
+    (λ c κs. search needs)
+    (λ c. search needs)
     past-requires-2
-    enum-known-end
+    (λ c. search needs)
     past-requires-3
-    enum-known-v-2
+    (λ c. search needs)
     past-requires-4
     returns
     returns-2

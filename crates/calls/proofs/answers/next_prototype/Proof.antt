@@ -10,18 +10,6 @@ use Rattle.calls.proofs.answers.next_prototype.Lts as lts
 use Rattle.calls.proofs.answers.as_prototype.Reads as as-prototype-reads
 use Rattle.calls.proofs.answers.next_value.Reads as next-value-reads
 
-next-value-requires : tie.Need-next-value-requires
-next-value-requires c κs = search needs
-
-enum-known-f : tie.Need-enum-known-f
-enum-known-f c = search needs
-
-enum-known-v : tie.Need-enum-known-v
-enum-known-v c = search needs
-
-as-prototype-requires : tie.Need-as-prototype-requires
-as-prototype-requires c κs = search needs
-
 returns : tie.Need-returns
 unfolding pure fails next _>>=_ askBoolean askPrototype
 returns c = rw (sym (c .before .before .before .next-value .ensures), c .before .f .given .1)
@@ -34,9 +22,9 @@ pub next-prototype-spec : {M : Type 1} → statement M
 next-prototype-spec =
     tie.close
     (tie.spec
-    next-value-requires
-    enum-known-f
-    enum-known-v
-    as-prototype-requires
+    (λ c κs. search needs)
+    (λ c. search needs)
+    (λ c. search needs)
+    (λ c κs. search needs)
     returns
     returns-2)

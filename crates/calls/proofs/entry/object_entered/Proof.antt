@@ -4,23 +4,18 @@ use Rattle.calls.proofs.entry.object_entered.Tie as tie
 use Rattle.calls.proofs.entry.object_entered.Reads as reads
 use Rattle.calls.proofs.entry.object_entered.Lts as lts
 
--- src/entry.rt:28:26
 enum-known-x : tie.Need-enum-known-x
 enum-known-x c = search needs
 
--- src/entry.rt:29:23
 enum-known-x-2 : tie.Need-enum-known-x-2
 enum-known-x-2 c = search needs
 
--- src/entry.rt:31:17
 returns : tie.Need-returns
 returns c = rw (c .before .before .x2 .given .1, c .if1 .taken)
 
--- src/entry.rt:24:1
 returns-2 : tie.Need-returns-2
 returns-2 c = rw (c .before .x .given .1)
 
--- src/entry.rt:24:1
 returns-3 : tie.Need-returns-3
 returns-3 c = rw (c .before .before .x2 .given .1, c .if1 .left)
 

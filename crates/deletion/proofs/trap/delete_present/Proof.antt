@@ -7,18 +7,6 @@ use borrow.Author.Needs.{needs}
 use Rattle.deletion.proofs.trap.delete_present.Statement.{statement}
 use Rattle.deletion.proofs.trap.delete_present.Tie as tie
 
-is-configurable-requires : tie.Need-is-configurable-requires
-is-configurable-requires c κs = search needs
-
-is-extensible-requires : tie.Need-is-extensible-requires
-is-extensible-requires c κs = search needs
-
-enum-known-f : tie.Need-enum-known-f
-enum-known-f c = search needs
-
-enum-known-extensible : tie.Need-enum-known-extensible
-enum-known-extensible c = search needs
-
 returns : tie.Need-returns
 unfolding pure fails next _>>=_ throwIf deletePresent
 returns c = (rw (sym (c .before .before .before .before .before .is-configurable .ensures) ∙ c .before .before .before .before .if1 .taken, sym (c .before .before .before .is-extensible .ensures), c .before .f .given .1), tt)
@@ -39,10 +27,10 @@ pub delete-present-spec : {M : Type 1} → statement M
 delete-present-spec =
     tie.close
     (tie.spec
-    is-configurable-requires
-    is-extensible-requires
-    enum-known-f
-    enum-known-extensible
+    (λ c κs. search needs)
+    (λ c κs. search needs)
+    (λ c. search needs)
+    (λ c. search needs)
     returns
     returns-2
     returns-3

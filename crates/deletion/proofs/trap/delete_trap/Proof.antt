@@ -8,33 +8,6 @@ use borrow.Author.Needs.{needs}
 use Rattle.deletion.proofs.trap.delete_trap.Statement.{statement}
 use Rattle.deletion.proofs.trap.delete_trap.Tie as tie
 
-next-boolean-requires : tie.Need-next-boolean-requires
-next-boolean-requires c κs = search needs
-
-enum-known-f : tie.Need-enum-known-f
-enum-known-f c = search needs
-
-enum-known-answer : tie.Need-enum-known-answer
-enum-known-answer c = search needs
-
-get-own-property-requires : tie.Need-get-own-property-requires
-get-own-property-requires c κs = search needs
-
-enum-known-f-2 : tie.Need-enum-known-f-2
-enum-known-f-2 c = search needs
-
-enum-known-desc : tie.Need-enum-known-desc
-enum-known-desc c = search needs
-
-enum-told : tie.Need-enum-told
-enum-told c = search needs
-
-enum-known-desc-2 : tie.Need-enum-known-desc-2
-enum-known-desc-2 c = search needs
-
-delete-present-requires : tie.Need-delete-present-requires
-delete-present-requires c κs = search needs
-
 returns : tie.Need-returns
 unfolding pure fails next _>>=_ throwIf if_then_else_ proxyDelete
 returns c = (rw (c .before .before .before .before .before .before .before .pre .1, sym (c .before .before .before .next-boolean .ensures), c .before .f .given .1), tt)
@@ -59,15 +32,15 @@ pub delete-trap-spec : {M : Type 1} → statement M
 delete-trap-spec =
     tie.close
     (tie.spec
-    next-boolean-requires
-    enum-known-f
-    enum-known-answer
-    get-own-property-requires
-    enum-known-f-2
-    enum-known-desc
-    enum-told
-    enum-known-desc-2
-    delete-present-requires
+    (λ c κs. search needs)
+    (λ c. search needs)
+    (λ c. search needs)
+    (λ c κs. search needs)
+    (λ c. search needs)
+    (λ c. search needs)
+    (λ c. search needs)
+    (λ c. search needs)
+    (λ c κs. search needs)
     returns
     returns-2
     returns-3

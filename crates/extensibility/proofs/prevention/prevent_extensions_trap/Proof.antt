@@ -7,24 +7,6 @@ use borrow.Author.Needs.{needs}
 use Rattle.extensibility.proofs.prevention.prevent_extensions_trap.Statement.{statement}
 use Rattle.extensibility.proofs.prevention.prevent_extensions_trap.Tie as tie
 
-next-boolean-requires : tie.Need-next-boolean-requires
-next-boolean-requires c κs = search needs
-
-enum-known-f : tie.Need-enum-known-f
-enum-known-f c = search needs
-
-enum-known-answer : tie.Need-enum-known-answer
-enum-known-answer c = search needs
-
-is-extensible-requires : tie.Need-is-extensible-requires
-is-extensible-requires c κs = search needs
-
-enum-known-f-2 : tie.Need-enum-known-f-2
-enum-known-f-2 c = search needs
-
-enum-known-extensible : tie.Need-enum-known-extensible
-enum-known-extensible c = search needs
-
 returns : tie.Need-returns
 unfolding pure fails next _>>=_ throwIf if_then_else_ proxyPreventExtensions
 returns c = (rw (c .before .before .before .before .before .before .before .pre .1, sym (c .before .before .before .next-boolean .ensures), c .before .f .given .1), tt)
@@ -49,12 +31,12 @@ pub prevent-extensions-trap-spec : {M : Type 1} → statement M
 prevent-extensions-trap-spec =
     tie.close
     (tie.spec
-    next-boolean-requires
-    enum-known-f
-    enum-known-answer
-    is-extensible-requires
-    enum-known-f-2
-    enum-known-extensible
+    (λ c κs. search needs)
+    (λ c. search needs)
+    (λ c. search needs)
+    (λ c κs. search needs)
+    (λ c. search needs)
+    (λ c. search needs)
     returns
     returns-2
     returns-3

@@ -19,18 +19,6 @@ abbrev μ-loop : tie.MeasureT-loop
 loop-holds : tie.Need-loop-holds Inv-loop μ-loop
 loop-holds c = (omega arith, refl, refl)
 
-message-byte-requires : tie.Need-message-byte-requires Inv-loop μ-loop
-message-byte-requires c κs = search needs
-
-slice-write-text : tie.Need-slice-write-text Inv-loop μ-loop
-slice-write-text c = omega arith
-
-add-i : tie.Need-add-i Inv-loop μ-loop
-add-i c = omega arith
-
-loop-less : tie.Need-loop-less Inv-loop μ-loop
-loop-less c = omega arith
-
 loop-again : tie.Need-loop-again Inv-loop μ-loop
 loop-again c = (omega arith, simp length-set (c .before .before .loop .inv .1), rw (c .message-byte .ensures) (c .before .before .loop .inv .2 ∙ overwrite-next (c .before .before .loop .text) (messageText (c .before .before .before .before .args .n)) (c .before .before .loop .i) (omega arith)))
 
@@ -47,10 +35,10 @@ write-spec =
     Inv-loop
     μ-loop
     loop-holds
-    message-byte-requires
-    slice-write-text
-    add-i
-    loop-less
+    (λ c κs. search needs)
+    (λ c. omega arith)
+    (λ c. omega arith)
+    (λ c. omega arith)
     loop-again
     same-length
     returns)

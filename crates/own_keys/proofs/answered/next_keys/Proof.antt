@@ -16,29 +16,11 @@ use Rattle.calls.proofs.answers.past.Reads as past-reads
 use Rattle.own_keys.proofs.answered.unlisted_failure.Reads as unlisted-failure-reads
 use Rattle.sheet.proofs.next_answer.Reads as next-answer-reads
 
-next-answer-requires : tie.Need-next-answer-requires
-next-answer-requires c κs = search needs
-
-enum-told : tie.Need-enum-told
-enum-told c = search needs
-
-enum-known-v : tie.Need-enum-known-v
-enum-known-v c = search needs
-
-unlisted-failure-requires : tie.Need-unlisted-failure-requires
-unlisted-failure-requires c κs = search needs
-
 past-requires : tie.Need-past-requires
 past-requires c κs = left-value (now (c .before .before .before .before .before .before .args .sheet)) (c .before .before .before .before .before .before .args .s) _ (c .before .before .before .before .next-answer .ensures) _ _ (c .before .before .v .given .1)
 
-enum-known-end : tie.Need-enum-known-end
-enum-known-end c = search needs
-
 past-requires-2 : tie.Need-past-requires-2
 past-requires-2 c κs = left-descriptor (now (c .before .before .before .before .before .args .sheet)) (c .before .before .before .before .before .args .s) _ (c .before .before .before .next-answer .ensures) _ _ (c .before .end .given .1)
-
-enum-known-first : tie.Need-enum-known-first
-enum-known-first c = search needs
 
 are-keys-requires : tie.Need-are-keys-requires
 are-keys-requires c κs = keys-within (now (c .before .before .before .before .before .args .sheet)) (c .before .before .before .before .before .args .s .at) (c .before .before .before .before .before .args .s .left) _ (c .before .before .before .next-answer .ensures) _ _ _ (c .before .first .given .1)
@@ -48,9 +30,6 @@ past-requires-3 c κs = left-keys (now (c .before .before .before .before .befor
 
 past-requires-4 : tie.Need-past-requires-4
 past-requires-4 c κs = left-keys (now (c .before .before .before .before .before .before .before .args .sheet)) (c .before .before .before .before .before .before .before .args .s) _ (c .before .before .before .before .before .next-answer .ensures) _ _ _ (c .before .before .before .first .given .1)
-
-enum-known-v-2 : tie.Need-enum-known-v-2
-enum-known-v-2 c = search needs
 
 past-requires-5 : tie.Need-past-requires-5
 past-requires-5 c κs = left-throw (now (c .before .before .before .before .before .args .sheet)) (c .before .before .before .before .before .args .s) _ (c .before .before .before .next-answer .ensures) _ _ (c .before .v2 .given .1)
@@ -83,18 +62,18 @@ pub next-keys-spec : {M : Type 1} → statement M
 next-keys-spec =
     tie.close
     (tie.spec
-    next-answer-requires
-    enum-told
-    enum-known-v
-    unlisted-failure-requires
+    (λ c κs. search needs)
+    (λ c. search needs)
+    (λ c. search needs)
+    (λ c κs. search needs)
     past-requires
-    enum-known-end
+    (λ c. search needs)
     past-requires-2
-    enum-known-first
+    (λ c. search needs)
     are-keys-requires
     past-requires-3
     past-requires-4
-    enum-known-v-2
+    (λ c. search needs)
     past-requires-5
     returns
     returns-2

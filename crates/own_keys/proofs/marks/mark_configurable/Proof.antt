@@ -28,20 +28,8 @@ abbrev μ-loop : tie.MeasureT-loop
 loop-holds : tie.Need-loop-holds Inv-loop μ-loop
 loop-holds c = (omega arith, (refl, sorted-start (methods (c .before .before .before .before .before .args .depth) (context (now (c .before .before .before .before .before .args .words)) (now (c .before .before .before .before .before .args .strings)) (c .before .before .before .before .before .args .allowance)) .getOwnProperty (c .before .before .before .before .before .args .target)) (now (c .before .before .before .before .before .args .keys)) (c .before .before .before .before .before .args .m) (now (c .before .before .before .before .before .args .marks)) (c .before .before .before .before .before .pre .1 .0) _))
 
-mul-key-from-word : tie.Need-mul-key-from-word Inv-loop μ-loop
-mul-key-from-word c = omega arith
-
-shared-slice-read-key-from-word : tie.Need-shared-slice-read-key-from-word Inv-loop μ-loop
-shared-slice-read-key-from-word c = omega arith
-
-key-from-word-requires : tie.Need-key-from-word-requires Inv-loop μ-loop
-key-from-word-requires c κs = search needs
-
 get-own-property-requires : tie.Need-get-own-property-requires Inv-loop μ-loop
 get-own-property-requires c κs = c .before .before .before .before .before .before .before .before .before .pre .0
-
-enum-known-f : tie.Need-enum-known-f Inv-loop μ-loop
-enum-known-f c = search needs
 
 same-length : tie.Need-same-length Inv-loop μ-loop
 same-length c = c .before .before .before .before .before .before .before .loop .inv .1 .0
@@ -49,23 +37,11 @@ same-length c = c .before .before .before .before .before .before .before .loop 
 returns : tie.Need-returns Inv-loop μ-loop
 returns c = sym (c .before .before .before .before .before .before .before .loop .inv .1 .1 ∙ sorted-failed (methods (c .before .before .before .before .before .before .before .before .before .before .before .before .before .args .depth) (context (now (c .before .before .before .before .before .before .before .before .before .before .before .before .before .args .words)) (now (c .before .before .before .before .before .before .before .before .before .before .before .before .before .args .strings)) (c .before .before .before .before .before .before .before .before .before .before .before .before .before .args .allowance)) .getOwnProperty (c .before .before .before .before .before .before .before .before .before .before .before .before .before .args .target)) (now (c .before .before .before .before .before .before .before .before .before .before .before .before .before .args .keys)) (c .before .before .before .before .before .before .before .before .before .before .before .before .before .args .m) (c .before .before .before .before .before .before .before .loop .marks) (c .before .before .before .before .before .before .before .before .before .before .before .before .before .pre .1 .0) (c .before .before .before .before .before .before .before .loop .i) (c .before .before .before .before .before .before .loop-test .taken) (omega (arith, c .before .before .before .before .before .before .before .loop .inv .1 .0, c .before .before .before .before .before .before .before .before .before .before .before .before .before .pre .1 .1)) (stateOf (now (c .before .before .before .before .before .before .before .before .before .before .before .before .before .args .sheet)) (c .before .before .before .before .before .before .before .loop .t)) _ _ (sym (rw (c .before .f .given .1, c .before .before .before .before .key-from-word .ensures) at (c .before .before .before .get-own-property .ensures))))
 
-enum-known-desc : tie.Need-enum-known-desc Inv-loop μ-loop
-enum-known-desc c = search needs
-
-mark-of-requires : tie.Need-mark-of-requires Inv-loop μ-loop
-mark-of-requires c κs = search needs
-
 mul-marks : tie.Need-mul-marks Inv-loop μ-loop
 mul-marks c = omega (arith, c .before .before .before .before .before .before .before .before .loop .inv .1 .0)
 
 slice-write-marks : tie.Need-slice-write-marks Inv-loop μ-loop
 slice-write-marks c = omega (arith, c .before .before .before .before .before .before .before .before .loop .inv .1 .0)
-
-add-i : tie.Need-add-i Inv-loop μ-loop
-add-i c = omega arith
-
-loop-less : tie.Need-loop-less Inv-loop μ-loop
-loop-less c = omega arith
 
 loop-again : tie.Need-loop-again Inv-loop μ-loop
 loop-again c = (omega arith, (rw length-set (c .before .before .before .before .before .before .before .before .loop .inv .1 .0), c .before .before .before .before .before .before .before .before .loop .inv .1 .1 ∙ sorted-more (methods (c .before .before .before .before .before .before .before .before .before .before .before .before .before .before .args .depth) (context (now (c .before .before .before .before .before .before .before .before .before .before .before .before .before .before .args .words)) (now (c .before .before .before .before .before .before .before .before .before .before .before .before .before .before .args .strings)) (c .before .before .before .before .before .before .before .before .before .before .before .before .before .before .args .allowance)) .getOwnProperty (c .before .before .before .before .before .before .before .before .before .before .before .before .before .before .args .target)) (now (c .before .before .before .before .before .before .before .before .before .before .before .before .before .before .args .keys)) (c .before .before .before .before .before .before .before .before .before .before .before .before .before .before .args .m) (c .before .before .before .before .before .before .before .before .loop .marks) (c .before .before .before .before .before .before .before .before .before .before .before .before .before .before .pre .1 .0) (c .before .before .before .before .before .before .before .before .loop .i) (c .before .before .before .before .before .before .before .loop-test .taken) (omega (arith, c .before .before .before .before .before .before .before .before .loop .inv .1 .0, c .before .before .before .before .before .before .before .before .before .before .before .before .before .before .pre .1 .1)) (stateOf (now (c .before .before .before .before .before .before .before .before .before .before .before .before .before .before .args .sheet)) (c .before .before .before .before .before .before .before .before .loop .t)) _ _ (sym (rw (c .before .before .desc .given .1, c .before .before .before .before .before .key-from-word .ensures) at (c .before .before .before .before .get-own-property .ensures))) _ (c .mark-of .ensures)))
@@ -83,19 +59,19 @@ mark-configurable-spec =
     Inv-loop
     μ-loop
     loop-holds
-    mul-key-from-word
-    shared-slice-read-key-from-word
-    key-from-word-requires
+    (λ c. omega arith)
+    (λ c. omega arith)
+    (λ c κs. search needs)
     get-own-property-requires
-    enum-known-f
+    (λ c. search needs)
     same-length
     returns
-    enum-known-desc
-    mark-of-requires
+    (λ c. search needs)
+    (λ c κs. search needs)
     mul-marks
     slice-write-marks
-    add-i
-    loop-less
+    (λ c. omega arith)
+    (λ c. omega arith)
     loop-again
     same-length-2
     returns-2)

@@ -14,16 +14,13 @@ use Rattle.performing.proofs.creation.make.Reads as reads
 use Rattle.performing.proofs.creation.make.Lts as lts
 use Rattle.store_read.proofs.object_count.Reads as object-count-reads
 
--- src/lib.rt:30:9
 object-count-requires : tie.Need-object-count-requires
 object-count-requires c κs = search needs
 
--- src/lib.rt:33:9
 returns : tie.Need-returns
 unfolding makeOut
 returns c = (rw (sym (c .before .object-count .ensures .0), lt-ltb _ _ (c .if1 .taken)), (record { store = c .before .before .before .pre; bounds = omega (arith, object-length (now (c .before .before .before .args .words)), c .before .object-count .ensures .0, c .if1 .taken) }, refl))
 
--- src/lib.rt:25:1
 returns-2 : tie.Need-returns-2
 unfolding makeOut
 returns-2 c = (rw (sym (c .before .object-count .ensures .0), le-ltb _ _ (c .if1 .left)), tt)

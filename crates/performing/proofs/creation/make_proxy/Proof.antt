@@ -13,15 +13,12 @@ use Rattle.performing.proofs.creation.make_proxy.Lts as lts
 use Rattle.performing.proofs.creation.make.Reads as make-reads
 use Rattle.performing.proofs.creation.mask_of.Reads as mask-of-reads
 
--- src/lib.rt:78:16
 mask-of-requires : tie.Need-mask-of-requires
 mask-of-requires c κs = search needs
 
--- src/lib.rt:81:5
 make-requires : tie.Need-make-requires
 make-requires c κs = search needs
 
--- src/lib.rt:71:1
 returns : tie.Need-returns
 returns c = rw (sym (c .before .mask-of .ensures)) (c .make .ensures)
 

@@ -7,15 +7,12 @@ use Rattle.performing.proofs.creation.mask_number.Tie as tie
 use Rattle.performing.proofs.creation.mask_number.Reads as reads
 use Rattle.performing.proofs.creation.mask_number.Lts as lts
 
--- src/lib.rt:61:9
 returns : tie.Need-returns
 returns c = negative-mask (c .before .args .n) (search needs) (c .if1 .taken)
 
--- src/lib.rt:63:5
 cast-result : tie.Need-cast-result
 cast-result c = mask-fits (c .before .args .n) (search needs) (c .if1 .left)
 
--- src/lib.rt:57:1
 returns-2 : tie.Need-returns-2
 returns-2 c = natural-mask (c .before .args .n) (search needs) (c .if1 .left)
 

@@ -11,19 +11,15 @@ use Rattle.performing.proofs.creation.mask_of.Reads as reads
 use Rattle.performing.proofs.creation.mask_of.Lts as lts
 use Rattle.performing.proofs.creation.mask_number.Reads as mask-number-reads
 
--- src/lib.rt:71:26
 enum-known-v : tie.Need-enum-known-v
 enum-known-v c = search needs
 
--- src/lib.rt:71:32
 mask-number-requires : tie.Need-mask-number-requires
 mask-number-requires c κs = search needs
 
--- src/lib.rt:67:1
 returns : tie.Need-returns
 returns c = let e : toZ w32 (ofZ w32 (c .before .before .v .given .0 .0)) ≡ c .before .before .v .given .0 .0 = search needs in rw (c .before .before .v .given .1) (c .mask-number .ensures ∙ ap (λ (z : ℤ). maskNumber z) e)
 
--- src/lib.rt:67:1
 returns-2 : tie.Need-returns-2
 returns-2 c = no-mask (c .before .args .v) (c .match .keys2)
 

@@ -4,19 +4,15 @@ use Rattle.performing.proofs.creation.revocation.Tie as tie
 use Rattle.performing.proofs.creation.revocation.Reads as reads
 use Rattle.performing.proofs.creation.revocation.Lts as lts
 
--- src/lib.rt:89:32
 enum-told : tie.Need-enum-told
 enum-told c = search needs
 
--- src/lib.rt:90:23
 enum-known-x : tie.Need-enum-known-x
 enum-known-x c = search needs
 
--- src/lib.rt:85:1
 returns : tie.Need-returns
 returns c = search needs
 
--- src/lib.rt:85:1
 returns-2 : tie.Need-returns-2
 returns-2 c = rw (c .before .x .given .1)
 

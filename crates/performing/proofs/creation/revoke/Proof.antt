@@ -14,27 +14,21 @@ use Rattle.performing.proofs.creation.revoke.Lts as lts
 use Rattle.performing.proofs.creation.revocation.Reads as revocation-reads
 use Rattle.store_read.proofs.object_at.Reads as object-at-reads
 
--- src/lib.rt:107:11
 object-at-requires : tie.Need-object-at-requires
 object-at-requires c κs = search needs
 
--- src/lib.rt:109:47
 enum-told : tie.Need-enum-told
 enum-told c = search needs
 
--- src/lib.rt:111:27
 enum-known-x : tie.Need-enum-known-x
 enum-known-x c = search needs
 
--- src/lib.rt:113:13
 revocation-requires : tie.Need-revocation-requires
 revocation-requires c κs = search needs
 
--- src/lib.rt:102:1
 returns : tie.Need-returns
 returns c = (rw (objectless (lookup (storeOf (now (c .before .before .before .before .args .words))) (c .before .before .before .before .args .o)) (sym (c .before .before .object-at .ensures) ∙ c .enum-told .given .1)), (record { store = c .before .before .before .before .pre; bounds = tt }, refl))
 
--- src/lib.rt:102:1
 returns-2 : tie.Need-returns-2
 returns-2 c = let found = objectful (lookup (storeOf (now (c .before .before .before .before .before .before .args .words))) (c .before .before .before .before .before .before .args .o)) _ (sym (c .before .before .before .before .object-at .ensures) ∙ c .before .before .x .given .1) in (rw (found, c .revocation .ensures), (rw (c .revocation .ensures) (revocation-fits (now (c .before .before .before .before .before .before .args .words)) (c .before .before .before .before .before .before .args .o) _ (c .before .before .before .before .before .before .pre) found), refl))
 

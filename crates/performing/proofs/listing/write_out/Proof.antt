@@ -12,43 +12,9 @@ use Rattle.own_keys.proofs.loading.load_list.Reads as load-list-reads
 use Rattle.reporting.proofs.completed.Reads as completed-reads
 use Rattle.reporting.proofs.refused.Reads as refused-reads
 
--- src/lib.rt:42:9
-load-list-requires : tie.Need-load-list-requires
-load-list-requires c κs = search needs
-
--- src/lib.rt:43:8
-mul-if1 : tie.Need-mul-if1
-mul-if1 c = search needs
-
--- src/lib.rt:44:9
-write-keys-requires : tie.Need-write-keys-requires
-write-keys-requires c κs = search needs
-
--- src/lib.rt:45:9
-completed-requires : tie.Need-completed-requires
-completed-requires c κs = search needs
-
--- src/lib.rt:45:9
-same-length : tie.Need-same-length
-same-length c = search needs
-
--- src/lib.rt:45:9
-same-length-2 : tie.Need-same-length-2
-same-length-2 c = search needs
-
--- src/lib.rt:45:9
 returns : tie.Need-returns
 returns c = written-out (now (c .before .before .before .before .before .before .before .before .before .before .before .before .before .before .before .before .args .words)) (now (c .before .before .before .before .before .before .before .before .before .before .before .before .before .before .before .before .args .strings)) (now (c .before .before .before .before .before .before .before .before .before .before .before .before .before .before .before .before .args .output)) _ _ (sheetOf (now (c .before .before .before .before .before .before .before .before .before .before .before .before .before .before .before .before .args .sheet))) (stateOf (now (c .before .before .before .before .before .before .before .before .before .before .before .before .before .before .before .before .args .sheet)) (c .before .before .before .before .before .before .before .before .before .before .before .before .before .before .before .before .args .s)) _ _ (c .before .before .before .before .before .before .before .before .before .load-list .ensures .0) _ _ (c .before .before .before .write-keys .ensures) (c .before .before .before .before .before .before .if1 .taken) (c .completed .ensures)
 
--- src/lib.rt:47:5
-refused-requires : tie.Need-refused-requires
-refused-requires c κs = search needs
-
--- src/lib.rt:30:1
-same-length-3 : tie.Need-same-length-3
-same-length-3 c = search needs
-
--- src/lib.rt:30:1
 returns-2 : tie.Need-returns-2
 returns-2 c = not-written (now (c .before .before .before .before .before .before .before .before .before .before .before .args .words)) (now (c .before .before .before .before .before .before .before .before .before .before .before .args .strings)) (now (c .before .before .before .before .before .before .before .before .before .before .before .args .output)) _ _ (sheetOf (now (c .before .before .before .before .before .before .before .before .before .before .before .args .sheet))) (stateOf (now (c .before .before .before .before .before .before .before .before .before .before .before .args .sheet)) (c .before .before .before .before .before .before .before .before .before .before .before .args .s)) _ _ (c .before .before .before .before .load-list .ensures .0) _ (c .before .if1 .left) (c .refused .ensures)
 
@@ -56,13 +22,13 @@ pub write-out-spec : {M : Type 1} → statement M
 write-out-spec =
     tie.close
     (tie.spec
-    load-list-requires
-    mul-if1
-    write-keys-requires
-    completed-requires
-    same-length
-    same-length-2
+    (λ c κs. search needs)
+    (λ c. search needs)
+    (λ c κs. search needs)
+    (λ c κs. search needs)
+    (λ c. search needs)
+    (λ c. search needs)
     returns
-    refused-requires
-    same-length-3
+    (λ c κs. search needs)
+    (λ c. search needs)
     returns-2)

@@ -5,32 +5,26 @@ use Rattle.performing.proofs.reads.is_reading.Tie as tie
 use Rattle.performing.proofs.reads.is_reading.Reads as reads
 use Rattle.performing.proofs.reads.is_reading.Lts as lts
 
--- src/lib.rt:72:1
 returns : tie.Need-returns
 unfolding isReading
 returns c = rw (c .match .keys1)
 
--- src/lib.rt:72:1
 returns-2 : tie.Need-returns-2
 unfolding isReading
 returns-2 c = rw (c .match .keys2)
 
--- src/lib.rt:72:1
 returns-3 : tie.Need-returns-3
 unfolding isReading
 returns-3 c = rw (c .match .keys3)
 
--- src/lib.rt:72:1
 returns-4 : tie.Need-returns-4
 unfolding isReading
 returns-4 c = rw (c .match .keys4)
 
--- src/lib.rt:72:1
 returns-5 : tie.Need-returns-5
 unfolding isReading
 returns-5 c = rw (c .match .keys5)
 
--- src/lib.rt:72:1
 returns-6 : tie.Need-returns-6
 unfolding isReading
 returns-6 c = simp (ne-eqb _ _ (c .match .rest .0 .0 .0 .0 .1), ne-eqb _ _ (c .match .rest .0 .0 .0 .1), ne-eqb _ _ (c .match .rest .0 .0 .1), ne-eqb _ _ (c .match .rest .0 .1), ne-eqb _ _ (c .match .rest .1))

@@ -7,23 +7,18 @@ use Rattle.performing.proofs.reads.key_or_first.Reads as reads
 use Rattle.performing.proofs.reads.key_or_first.Lts as lts
 use Rattle.value_operations.proofs.keys.key_of.Reads as key-of-reads
 
--- src/lib.rt:65:11
 key-of-requires : tie.Need-key-of-requires
 key-of-requires c κs = search needs
 
--- src/lib.rt:66:24
 enum-known-k : tie.Need-enum-known-k
 enum-known-k c = search needs
 
--- src/lib.rt:67:30
 enum-told : tie.Need-enum-told
 enum-told c = search needs
 
--- src/lib.rt:62:1
 returns : tie.Need-returns
 returns c = key-there (keyOf (c .before .before .before .before .args .v)) _ _ (c .before .before .before .key-of .ensures) (c .before .k .given .1)
 
--- src/lib.rt:62:1
 returns-2 : tie.Need-returns-2
 returns-2 c = key-missing (keyOf (c .before .before .before .args .v)) _ (c .before .before .key-of .ensures) (c .enum-told .given .1)
 

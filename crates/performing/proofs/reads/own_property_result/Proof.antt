@@ -4,31 +4,24 @@ use Rattle.performing.proofs.reads.own_property_result.Tie as tie
 use Rattle.performing.proofs.reads.own_property_result.Reads as reads
 use Rattle.performing.proofs.reads.own_property_result.Lts as lts
 
--- src/lib.rt:51:32
 enum-known-out : tie.Need-enum-known-out
 enum-known-out c = search needs
 
--- src/lib.rt:52:30
 enum-known-out-2 : tie.Need-enum-known-out-2
 enum-known-out-2 c = search needs
 
--- src/lib.rt:53:52
 enum-told : tie.Need-enum-told
 enum-told c = search needs
 
--- src/lib.rt:54:34
 enum-known-p : tie.Need-enum-known-p
 enum-known-p c = search needs
 
--- src/lib.rt:47:1
 returns : tie.Need-returns
 returns c = rw (c .before .out .given .1)
 
--- src/lib.rt:47:1
 returns-2 : tie.Need-returns-2
 returns-2 c = rw (c .before .before .before .out2 .given .1, c .enum-told .given .1)
 
--- src/lib.rt:47:1
 returns-3 : tie.Need-returns-3
 returns-3 c = rw (c .before .before .before .before .out2 .given .1, c .before .p .given .1)
 

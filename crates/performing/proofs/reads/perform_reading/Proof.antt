@@ -20,71 +20,37 @@ use Rattle.performing.proofs.reads.own_property_result.Reads as own-pro
 use Rattle.performing.proofs.reads.value_result.Reads as value-result-reads
 use Rattle.prototypes.proofs.get_prototype_of.Reads as get-prototype-of-reads
 
--- src/lib.rt:101:9
-key-or-first-requires : tie.Need-key-or-first-requires
-key-or-first-requires c κs = search needs
-
--- src/lib.rt:105:17
 get-prototype-of-requires : tie.Need-get-prototype-of-requires
 get-prototype-of-requires c κs = c .before .before .before .before .before .pre .0 .readable
 
--- src/lib.rt:114:13
-value-result-requires : tie.Need-value-result-requires
-value-result-requires c κs = search needs
-
--- src/lib.rt:117:17
 is-extensible-requires : tie.Need-is-extensible-requires
 is-extensible-requires c κs = c .before .before .before .before .before .pre .0 .readable
 
--- src/lib.rt:126:13
-boolean-result-requires : tie.Need-boolean-result-requires
-boolean-result-requires c κs = search needs
-
--- src/lib.rt:129:17
 get-own-property-requires : tie.Need-get-own-property-requires
 get-own-property-requires c κs = c .before .before .before .before .before .pre .0 .readable
 
--- src/lib.rt:139:13
-own-property-result-requires : tie.Need-own-property-result-requires
-own-property-result-requires c κs = search needs
-
--- src/lib.rt:142:17
 has-property-requires : tie.Need-has-property-requires
 has-property-requires c κs = c .before .before .before .before .before .pre .0 .readable
 
--- src/lib.rt:152:13
-boolean-result-requires-2 : tie.Need-boolean-result-requires-2
-boolean-result-requires-2 c κs = search needs
-
--- src/lib.rt:155:17
 get-requires : tie.Need-get-requires
 get-requires c κs = c .before .before .before .before .before .pre .0 .readable
 
--- src/lib.rt:166:13
-value-result-requires-2 : tie.Need-value-result-requires-2
-value-result-requires-2 c κs = search needs
-
--- src/lib.rt:86:1
 returns : tie.Need-returns
 unfolding operationOf perform
 returns c = (rw (c .value-result .ensures, c .before .before .match .keys1) (value-told (now (c .before .before .before .before .before .before .before .args .sheet)) (storeOf (now (c .before .before .before .before .before .before .before .args .words))) (stateOf (now (c .before .before .before .before .before .before .before .args .sheet)) (c .before .before .before .before .before .before .before .args .s)) _ (c .before .get-prototype-of .result) (c .before .get-prototype-of .ensures)), rw (c .value-result .ensures) (value-taken (now (c .before .before .before .before .before .before .before .args .words)) (c .before .before .before .before .before .before .before .pre .0 .readable .store) (c .before .get-prototype-of .result)))
 
--- src/lib.rt:86:1
 returns-2 : tie.Need-returns-2
 unfolding operationOf perform
 returns-2 c = (rw (c .boolean-result .ensures, c .before .before .match .keys2) (boolean-told (now (c .before .before .before .before .before .before .before .args .sheet)) (storeOf (now (c .before .before .before .before .before .before .before .args .words))) (stateOf (now (c .before .before .before .before .before .before .before .args .sheet)) (c .before .before .before .before .before .before .before .args .s)) _ (c .before .is-extensible .result) (c .before .is-extensible .ensures)), rw (c .boolean-result .ensures) (boolean-taken (now (c .before .before .before .before .before .before .before .args .words)) (c .before .before .before .before .before .before .before .pre .0 .readable .store) (c .before .is-extensible .result)))
 
--- src/lib.rt:86:1
 returns-3 : tie.Need-returns-3
 unfolding operationOf perform
 returns-3 c = (rw (c .own-property-result .ensures, c .before .before .match .keys3, sym (c .before .before .before .key-or-first .ensures)) (own-told (now (c .before .before .before .before .before .before .before .args .sheet)) (storeOf (now (c .before .before .before .before .before .before .before .args .words))) (stateOf (now (c .before .before .before .before .before .before .before .args .sheet)) (c .before .before .before .before .before .before .before .args .s)) _ (c .before .get-own-property .result) (c .before .get-own-property .ensures)), rw (c .own-property-result .ensures) (own-taken (now (c .before .before .before .before .before .before .before .args .words)) (c .before .before .before .before .before .before .before .pre .0 .readable .store) (c .before .get-own-property .result)))
 
--- src/lib.rt:86:1
 returns-4 : tie.Need-returns-4
 unfolding operationOf perform
 returns-4 c = (rw (c .boolean-result2 .ensures, c .before .before .match .keys4, sym (c .before .before .before .key-or-first .ensures)) (boolean-told (now (c .before .before .before .before .before .before .before .args .sheet)) (storeOf (now (c .before .before .before .before .before .before .before .args .words))) (stateOf (now (c .before .before .before .before .before .before .before .args .sheet)) (c .before .before .before .before .before .before .before .args .s)) _ (c .before .has-property .result) (c .before .has-property .ensures)), rw (c .boolean-result2 .ensures) (boolean-taken (now (c .before .before .before .before .before .before .before .args .words)) (c .before .before .before .before .before .before .before .pre .0 .readable .store) (c .before .has-property .result)))
 
--- src/lib.rt:86:1
 returns-5 : tie.Need-returns-5
 unfolding operationOf perform
 returns-5 c = (rw (c .value-result2 .ensures, last-reading _ (c .before .before .before .before .before .before .before .pre .1) (c .before .before .match .rest .0 .0 .0 .1) (c .before .before .match .rest .0 .0 .1) (c .before .before .match .rest .0 .1) (c .before .before .match .rest .1), sym (c .before .before .before .key-or-first .ensures)) (value-told (now (c .before .before .before .before .before .before .before .args .sheet)) (storeOf (now (c .before .before .before .before .before .before .before .args .words))) (stateOf (now (c .before .before .before .before .before .before .before .args .sheet)) (c .before .before .before .before .before .before .before .args .s)) _ (c .before .get .result) (c .before .get .ensures)), rw (c .value-result2 .ensures) (value-taken (now (c .before .before .before .before .before .before .before .args .words)) (c .before .before .before .before .before .before .before .pre .0 .readable .store) (c .before .get .result)))
@@ -93,17 +59,17 @@ pub perform-reading-spec : {M : Type 1} → statement M
 perform-reading-spec =
     tie.close
     (tie.spec
-    key-or-first-requires
+    (λ c κs. search needs)
     get-prototype-of-requires
-    value-result-requires
+    (λ c κs. search needs)
     is-extensible-requires
-    boolean-result-requires
+    (λ c κs. search needs)
     get-own-property-requires
-    own-property-result-requires
+    (λ c κs. search needs)
     has-property-requires
-    boolean-result-requires-2
+    (λ c κs. search needs)
     get-requires
-    value-result-requires-2
+    (λ c κs. search needs)
     returns
     returns-2
     returns-3

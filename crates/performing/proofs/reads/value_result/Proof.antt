@@ -4,19 +4,15 @@ use Rattle.performing.proofs.reads.value_result.Tie as tie
 use Rattle.performing.proofs.reads.value_result.Reads as reads
 use Rattle.performing.proofs.reads.value_result.Lts as lts
 
--- src/lib.rt:31:26
 enum-known-out : tie.Need-enum-known-out
 enum-known-out c = search needs
 
--- src/lib.rt:32:24
 enum-known-out-2 : tie.Need-enum-known-out-2
 enum-known-out-2 c = search needs
 
--- src/lib.rt:27:1
 returns : tie.Need-returns
 returns c = rw (c .before .out .given .1)
 
--- src/lib.rt:27:1
 returns-2 : tie.Need-returns-2
 returns-2 c = rw (c .before .out2 .given .1)
 

@@ -21,75 +21,37 @@ use Rattle.descriptors.proofs.to_property_descriptor.Reads as to-property-descr
 use Rattle.prototypes.proofs.setting.set_prototype_of.Reads as set-prototype-of-reads
 use Rattle.setting.proofs.set.Reads as set-reads
 
--- src/lib.rt:45:9
-key-or-first-requires : tie.Need-key-or-first-requires
-key-or-first-requires c κs = search needs
-
--- src/lib.rt:51:17
 set-prototype-of-requires : tie.Need-set-prototype-of-requires
 set-prototype-of-requires c κs = c .before .before .before .before .before .before .pre .0 .readable
 
--- src/lib.rt:61:13
-write-result-requires : tie.Need-write-result-requires
-write-result-requires c κs = search needs
-
--- src/lib.rt:64:17
 prevent-extensions-requires : tie.Need-prevent-extensions-requires
 prevent-extensions-requires c κs = c .before .before .before .before .before .before .pre .0 .readable
 
--- src/lib.rt:73:13
-write-result-requires-2 : tie.Need-write-result-requires-2
-write-result-requires-2 c κs = search needs
-
--- src/lib.rt:76:17
-to-property-descriptor-requires : tie.Need-to-property-descriptor-requires
-to-property-descriptor-requires c κs = search needs
-
--- src/lib.rt:77:17
 define-own-property-requires : tie.Need-define-own-property-requires
 define-own-property-requires c κs = record { readable = c .before .before .before .before .before .before .before .pre .0 .readable; number = rw (c .before .before .before .key-or-first .ensures) (c .before .before .before .before .before .before .before .pre .0 .key); limit = c .before .before .before .before .before .before .before .pre .0 .allowed }
 
--- src/lib.rt:88:13
-write-result-requires-3 : tie.Need-write-result-requires-3
-write-result-requires-3 c κs = search needs
-
--- src/lib.rt:91:17
 set-requires : tie.Need-set-requires
 set-requires c κs = record { readable = c .before .before .before .before .before .before .pre .0 .readable; number = rw (c .before .before .key-or-first .ensures) (c .before .before .before .before .before .before .pre .0 .key); limit = c .before .before .before .before .before .before .pre .0 .allowed }
 
--- src/lib.rt:103:13
-write-result-requires-4 : tie.Need-write-result-requires-4
-write-result-requires-4 c κs = search needs
-
--- src/lib.rt:106:17
 delete-requires : tie.Need-delete-requires
 delete-requires c κs = (c .before .before .before .before .before .before .pre .0 .readable, rw (c .before .before .key-or-first .ensures) (c .before .before .before .before .before .before .pre .0 .key))
 
--- src/lib.rt:107:13
-write-result-requires-5 : tie.Need-write-result-requires-5
-write-result-requires-5 c κs = search needs
-
--- src/lib.rt:30:1
 returns : tie.Need-returns
 unfolding operationOf perform
 returns c = (rw (c .write-result .ensures, c .before .before .match .keys1) (write-told (now (c .before .before .before .before .before .before .before .before .args .sheet)) (storeOf (now (c .before .before .before .before .before .before .before .before .args .words))) (stateOf (now (c .before .before .before .before .before .before .before .before .args .sheet)) (c .before .before .before .before .before .before .before .before .args .s)) _ (c .before .set-prototype-of .result) (c .before .set-prototype-of .ensures .0)), rw (c .write-result .ensures) (write-taken (now (c .before .before .before .before .before .before .before .before .args .words)) (c .before .set-prototype-of .result) (c .before .set-prototype-of .ensures .1)))
 
--- src/lib.rt:30:1
 returns-2 : tie.Need-returns-2
 unfolding operationOf perform
 returns-2 c = (rw (c .write-result2 .ensures, c .before .before .match .keys2) (write-told (now (c .before .before .before .before .before .before .before .before .args .sheet)) (storeOf (now (c .before .before .before .before .before .before .before .before .args .words))) (stateOf (now (c .before .before .before .before .before .before .before .before .args .sheet)) (c .before .before .before .before .before .before .before .before .args .s)) _ (c .before .prevent-extensions .result) (c .before .prevent-extensions .ensures .0)), rw (c .write-result2 .ensures) (write-taken (now (c .before .before .before .before .before .before .before .before .args .words)) (c .before .prevent-extensions .result) (c .before .prevent-extensions .ensures .1)))
 
--- src/lib.rt:30:1
 returns-3 : tie.Need-returns-3
 unfolding operationOf perform
 returns-3 c = (rw (c .write-result3 .ensures, c .before .before .before .match .keys3, sym (c .before .before .before .before .before .key-or-first .ensures), sym (c .before .before .to-property-descriptor .ensures)) (write-told (now (c .before .before .before .before .before .before .before .before .before .args .sheet)) (storeOf (now (c .before .before .before .before .before .before .before .before .before .args .words))) (stateOf (now (c .before .before .before .before .before .before .before .before .before .args .sheet)) (c .before .before .before .before .before .before .before .before .before .args .s)) _ (c .before .define-own-property .result) (c .before .define-own-property .ensures .0)), rw (c .write-result3 .ensures) (write-taken (now (c .before .before .before .before .before .before .before .before .before .args .words)) (c .before .define-own-property .result) (c .before .define-own-property .ensures .1)))
 
--- src/lib.rt:30:1
 returns-4 : tie.Need-returns-4
 unfolding operationOf perform
 returns-4 c = (rw (c .write-result4 .ensures, c .before .before .match .keys4, sym (c .before .before .before .before .key-or-first .ensures)) (write-told (now (c .before .before .before .before .before .before .before .before .args .sheet)) (storeOf (now (c .before .before .before .before .before .before .before .before .args .words))) (stateOf (now (c .before .before .before .before .before .before .before .before .args .sheet)) (c .before .before .before .before .before .before .before .before .args .s)) _ (c .before .set .result) (c .before .set .ensures .0)), rw (c .write-result4 .ensures) (write-taken (now (c .before .before .before .before .before .before .before .before .args .words)) (c .before .set .result) (c .before .set .ensures .1)))
 
--- src/lib.rt:30:1
 returns-5 : tie.Need-returns-5
 unfolding operationOf perform
 returns-5 c = (rw (c .write-result5 .ensures, last-writing _ (c .before .before .before .before .before .before .before .before .pre .1 .0) (c .before .before .before .before .before .before .before .before .pre .1 .1 .0) (c .before .before .before .before .before .before .before .before .pre .1 .1 .1) (c .before .before .match .rest .0 .0 .0 .1) (c .before .before .match .rest .0 .0 .1) (c .before .before .match .rest .0 .1) (c .before .before .match .rest .1), sym (c .before .before .before .before .key-or-first .ensures)) (write-told (now (c .before .before .before .before .before .before .before .before .args .sheet)) (storeOf (now (c .before .before .before .before .before .before .before .before .args .words))) (stateOf (now (c .before .before .before .before .before .before .before .before .args .sheet)) (c .before .before .before .before .before .before .before .before .args .s)) _ (c .before .delete .result) (c .before .delete .ensures .0)), rw (c .write-result5 .ensures) (write-taken (now (c .before .before .before .before .before .before .before .before .args .words)) (c .before .delete .result) (c .before .delete .ensures .1)))
@@ -98,18 +60,18 @@ pub perform-writing-spec : {M : Type 1} → statement M
 perform-writing-spec =
     tie.close
     (tie.spec
-    key-or-first-requires
+    (λ c κs. search needs)
     set-prototype-of-requires
-    write-result-requires
+    (λ c κs. search needs)
     prevent-extensions-requires
-    write-result-requires-2
-    to-property-descriptor-requires
+    (λ c κs. search needs)
+    (λ c κs. search needs)
     define-own-property-requires
-    write-result-requires-3
+    (λ c κs. search needs)
     set-requires
-    write-result-requires-4
+    (λ c κs. search needs)
     delete-requires
-    write-result-requires-5
+    (λ c κs. search needs)
     returns
     returns-2
     returns-3

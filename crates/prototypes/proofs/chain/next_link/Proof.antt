@@ -12,33 +12,9 @@ use borrow.Author.Needs.{needs}
 use Rattle.prototypes.proofs.chain.next_link.Statement.{statement}
 use Rattle.prototypes.proofs.chain.next_link.Tie as tie
 
-object-of-requires : tie.Need-object-of-requires
-object-of-requires c κs = search needs
-
-enum-told : tie.Need-enum-told
-enum-told c = search needs
-
-enum-known-p : tie.Need-enum-known-p
-enum-known-p c = search needs
-
 returns : tie.Need-returns
 unfolding reaches
 returns c = λ n. rw (is-object (objectOf (c .before .before .before .before .before .before .args .v)) _ (sym (c .before .before .before .before .object-of .ensures) ∙ c .before .before .p .given .1), eq-eqb _ _ (c .if1 .taken))
-
-object-at-requires : tie.Need-object-at-requires
-object-at-requires c κs = search needs
-
-enum-told-2 : tie.Need-enum-told-2
-enum-told-2 c = search needs
-
-enum-known-x : tie.Need-enum-known-x
-enum-known-x c = search needs
-
-enum-told-3 : tie.Need-enum-told-3
-enum-told-3 c = search needs
-
-enum-known-x-2 : tie.Need-enum-known-x-2
-enum-known-x-2 c = search needs
 
 returns-2 : tie.Need-returns-2
 unfolding reaches
@@ -60,15 +36,15 @@ pub next-link-spec : {M : Type 1} → statement M
 next-link-spec =
     tie.close
     (tie.spec
-    object-of-requires
-    enum-told
-    enum-known-p
+    (λ c κs. search needs)
+    (λ c. search needs)
+    (λ c. search needs)
     returns
-    object-at-requires
-    enum-told-2
-    enum-known-x
-    enum-told-3
-    enum-known-x-2
+    (λ c κs. search needs)
+    (λ c. search needs)
+    (λ c. search needs)
+    (λ c. search needs)
+    (λ c. search needs)
     returns-2
     returns-3
     returns-4

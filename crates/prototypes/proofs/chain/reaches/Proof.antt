@@ -14,35 +14,14 @@ Inv-loop words o left₀ p₀ left p = reaches left (storeOf words) o p ≡ reac
 abbrev μ-loop : tie.MeasureT-loop
 μ-loop words o left₀ p₀ left p = left
 
-object-count-requires : tie.Need-object-count-requires Inv-loop μ-loop
-object-count-requires c κs = search needs
-
 loop-holds : tie.Need-loop-holds Inv-loop μ-loop
 loop-holds c = refl
-
-next-link-requires : tie.Need-next-link-requires Inv-loop μ-loop
-next-link-requires c κs = search needs
-
-enum-told : tie.Need-enum-told Inv-loop μ-loop
-enum-told c = search needs
 
 returns : tie.Need-returns Inv-loop μ-loop
 returns c = rw (sym (c .before .before .before .before .before .object-count .ensures .0), follow _ _ _ (c .before .before .next-link .result) (c .before .before .next-link .ensures) _ _ _ (c .before .before .before .loop-test .taken) (c .before .before .before .before .loop .inv), c .enum-told .given .1)
 
-enum-told-2 : tie.Need-enum-told-2 Inv-loop μ-loop
-enum-told-2 c = search needs
-
 returns-2 : tie.Need-returns-2 Inv-loop μ-loop
 returns-2 c = rw (sym (c .before .before .before .before .before .object-count .ensures .0), follow _ _ _ (c .before .before .next-link .result) (c .before .before .next-link .ensures) _ _ _ (c .before .before .before .loop-test .taken) (c .before .before .before .before .loop .inv), c .enum-told2 .given .1)
-
-enum-known-parent : tie.Need-enum-known-parent Inv-loop μ-loop
-enum-known-parent c = search needs
-
-sub-left : tie.Need-sub-left Inv-loop μ-loop
-sub-left c = search needs
-
-loop-less : tie.Need-loop-less Inv-loop μ-loop
-loop-less c = search needs
 
 loop-again : tie.Need-loop-again Inv-loop μ-loop
 loop-again c = rw (follow _ _ _ (c .before .before .before .next-link .result) (c .before .before .before .next-link .ensures) _ _ _ (c .before .before .before .before .loop-test .taken) (c .before .before .before .before .before .loop .inv), c .before .parent .given .1)
@@ -57,15 +36,15 @@ reaches-spec =
     (tie.spec
     Inv-loop
     μ-loop
-    object-count-requires
+    (λ c κs. search needs)
     loop-holds
-    next-link-requires
-    enum-told
+    (λ c κs. search needs)
+    (λ c. search needs)
     returns
-    enum-told-2
+    (λ c. search needs)
     returns-2
-    enum-known-parent
-    sub-left
-    loop-less
+    (λ c. search needs)
+    (λ c. search needs)
+    (λ c. search needs)
     loop-again
     returns-3)

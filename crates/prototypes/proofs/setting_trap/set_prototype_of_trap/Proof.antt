@@ -7,39 +7,9 @@ use borrow.Author.Needs.{needs}
 use Rattle.prototypes.proofs.setting_trap.set_prototype_of_trap.Statement.{statement}
 use Rattle.prototypes.proofs.setting_trap.set_prototype_of_trap.Tie as tie
 
-next-boolean-requires : tie.Need-next-boolean-requires
-next-boolean-requires c κs = search needs
-
-enum-known-f : tie.Need-enum-known-f
-enum-known-f c = search needs
-
-enum-known-answer : tie.Need-enum-known-answer
-enum-known-answer c = search needs
-
-is-extensible-requires : tie.Need-is-extensible-requires
-is-extensible-requires c κs = search needs
-
-enum-known-f-2 : tie.Need-enum-known-f-2
-enum-known-f-2 c = search needs
-
-enum-known-extensible : tie.Need-enum-known-extensible
-enum-known-extensible c = search needs
-
 returns : tie.Need-returns
 unfolding pure fails next _>>=_ throwIf if_then_else_ proxySetPrototypeOf
 returns c = (rw (c .before .before .before .before .before .before .before .before .before .before .before .before .before .pre .1, sym (c .before .before .before .before .before .before .before .before .before .next-boolean .ensures), c .before .before .before .before .before .before .before .answer .given .1, c .before .before .before .before .before .if1 .taken, sym (c .before .before .before .before .is-extensible .ensures), c .before .before .extensible .given .1, c .if2 .taken), nothing-fits _ (c .before .before .before .before .before .before .before .before .before .before .before .before .before .pre .0 .store))
-
-get-prototype-of-requires : tie.Need-get-prototype-of-requires
-get-prototype-of-requires c κs = search needs
-
-enum-known-f-3 : tie.Need-enum-known-f-3
-enum-known-f-3 c = search needs
-
-enum-known-prototype : tie.Need-enum-known-prototype
-enum-known-prototype c = search needs
-
-same-value-requires : tie.Need-same-value-requires
-same-value-requires c κs = search needs
 
 returns-2 : tie.Need-returns-2
 unfolding pure fails next _>>=_ throwIf if_then_else_ proxySetPrototypeOf
@@ -69,17 +39,17 @@ pub set-prototype-of-trap-spec : {M : Type 1} → statement M
 set-prototype-of-trap-spec =
     tie.close
     (tie.spec
-    next-boolean-requires
-    enum-known-f
-    enum-known-answer
-    is-extensible-requires
-    enum-known-f-2
-    enum-known-extensible
+    (λ c κs. search needs)
+    (λ c. search needs)
+    (λ c. search needs)
+    (λ c κs. search needs)
+    (λ c. search needs)
+    (λ c. search needs)
     returns
-    get-prototype-of-requires
-    enum-known-f-3
-    enum-known-prototype
-    same-value-requires
+    (λ c κs. search needs)
+    (λ c. search needs)
+    (λ c. search needs)
+    (λ c κs. search needs)
     returns-2
     returns-3
     returns-4

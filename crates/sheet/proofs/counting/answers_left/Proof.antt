@@ -18,103 +18,48 @@ Inv-loop sheet at left place₀ rest₀ count₀ place rest count = (count + len
 abbrev μ-loop : tie.MeasureT-loop
 μ-loop sheet at left place₀ rest₀ count₀ place rest count = rest
 
--- src/lib.rt:13:5
 loop-holds : tie.Need-loop-holds Inv-loop μ-loop
 loop-holds c = (omega arith, omega arith)
 
--- src/lib.rt:14:15
-next-answer-requires : tie.Need-next-answer-requires Inv-loop μ-loop
-next-answer-requires c κs = search needs
-
--- src/lib.rt:16:17
-enum-told : tie.Need-enum-told Inv-loop μ-loop
-enum-told c = search needs
-
--- src/lib.rt:16:17
 returns : tie.Need-returns Inv-loop μ-loop
 returns c = omega (arith, c .before .before .before .before .loop .inv .0, count-none _ _ _ _ (c .before .before .next-answer .ensures) (c .enum-told .given .1))
 
--- src/lib.rt:18:34
-enum-known-end : tie.Need-enum-known-end Inv-loop μ-loop
-enum-known-end c = search needs
-
--- src/lib.rt:20:17
 sub-rest : tie.Need-sub-rest Inv-loop μ-loop
 sub-rest c = omega (arith, c .before .before .before .before .loop-test .taken)
 
--- src/lib.rt:21:17
-add-count : tie.Need-add-count Inv-loop μ-loop
-add-count c = search needs
-
--- src/lib.rt:13:5
 loop-less : tie.Need-loop-less Inv-loop μ-loop
 loop-less c = omega (arith, c .before .before .before .before .loop-test .taken)
 
--- src/lib.rt:13:5
 loop-again : tie.Need-loop-again Inv-loop μ-loop
 loop-again c = (omega (arith, c .before .before .before .before .before .loop .inv .0, count-value _ _ _ _ (c .before .before .before .next-answer .ensures) _ _ (c .before .end .given .1)), omega (arith, c .before .before .before .before .before .loop .inv .1, c .before .before .before .before .loop-test .taken))
 
--- src/lib.rt:23:39
-enum-known-end-2 : tie.Need-enum-known-end-2 Inv-loop μ-loop
-enum-known-end-2 c = search needs
-
--- src/lib.rt:25:17
 sub-rest-2 : tie.Need-sub-rest-2 Inv-loop μ-loop
 sub-rest-2 c = omega (arith, c .before .before .before .before .loop-test .taken)
 
--- src/lib.rt:26:17
-add-count-2 : tie.Need-add-count-2 Inv-loop μ-loop
-add-count-2 c = search needs
-
--- src/lib.rt:13:5
 loop-less-2 : tie.Need-loop-less-2 Inv-loop μ-loop
 loop-less-2 c = omega (arith, c .before .before .before .before .loop-test .taken)
 
--- src/lib.rt:13:5
 loop-again-2 : tie.Need-loop-again-2 Inv-loop μ-loop
 loop-again-2 c = (omega (arith, c .before .before .before .before .before .loop .inv .0, count-descriptor _ _ _ _ (c .before .before .before .next-answer .ensures) _ _ (c .before .end2 .given .1)), omega (arith, c .before .before .before .before .before .loop .inv .1, c .before .before .before .before .loop-test .taken))
 
--- src/lib.rt:28:36
-enum-known-end-3 : tie.Need-enum-known-end-3 Inv-loop μ-loop
-enum-known-end-3 c = search needs
-
--- src/lib.rt:30:17
 sub-rest-3 : tie.Need-sub-rest-3 Inv-loop μ-loop
 sub-rest-3 c = omega (arith, c .before .before .before .before .loop-test .taken)
 
--- src/lib.rt:31:17
-add-count-3 : tie.Need-add-count-3 Inv-loop μ-loop
-add-count-3 c = search needs
-
--- src/lib.rt:13:5
 loop-less-3 : tie.Need-loop-less-3 Inv-loop μ-loop
 loop-less-3 c = omega (arith, c .before .before .before .before .loop-test .taken)
 
--- src/lib.rt:13:5
 loop-again-3 : tie.Need-loop-again-3 Inv-loop μ-loop
 loop-again-3 c = (omega (arith, c .before .before .before .before .before .loop .inv .0, count-keys _ _ _ _ (c .before .before .before .next-answer .ensures) _ _ _ (c .before .end3 .given .1)), omega (arith, c .before .before .before .before .before .loop .inv .1, c .before .before .before .before .loop-test .taken))
 
--- src/lib.rt:33:34
-enum-known-end-4 : tie.Need-enum-known-end-4 Inv-loop μ-loop
-enum-known-end-4 c = search needs
-
--- src/lib.rt:35:17
 sub-rest-4 : tie.Need-sub-rest-4 Inv-loop μ-loop
 sub-rest-4 c = omega (arith, c .before .before .before .before .loop-test .taken)
 
--- src/lib.rt:36:17
-add-count-4 : tie.Need-add-count-4 Inv-loop μ-loop
-add-count-4 c = search needs
-
--- src/lib.rt:13:5
 loop-less-4 : tie.Need-loop-less-4 Inv-loop μ-loop
 loop-less-4 c = omega (arith, c .before .before .before .before .loop-test .taken)
 
--- src/lib.rt:13:5
 loop-again-4 : tie.Need-loop-again-4 Inv-loop μ-loop
 loop-again-4 c = (omega (arith, c .before .before .before .before .before .loop .inv .0, count-throw _ _ _ _ (c .before .before .before .next-answer .ensures) _ _ (c .before .end4 .given .1)), omega (arith, c .before .before .before .before .before .loop .inv .1, c .before .before .before .before .loop-test .taken))
 
--- src/lib.rt:7:1
 returns-2 : tie.Need-returns-2 Inv-loop μ-loop
 returns-2 c = omega (arith, c .before .loop .inv .0, count-end (now (c .before .before .before .args .sheet)) (c .before .loop .place) (c .before .loop .rest) (c .loop-test .left))
 
@@ -125,27 +70,27 @@ answers-left-spec =
     Inv-loop
     μ-loop
     loop-holds
-    next-answer-requires
-    enum-told
+    (λ c κs. search needs)
+    (λ c. search needs)
     returns
-    enum-known-end
+    (λ c. search needs)
     sub-rest
-    add-count
+    (λ c. search needs)
     loop-less
     loop-again
-    enum-known-end-2
+    (λ c. search needs)
     sub-rest-2
-    add-count-2
+    (λ c. search needs)
     loop-less-2
     loop-again-2
-    enum-known-end-3
+    (λ c. search needs)
     sub-rest-3
-    add-count-3
+    (λ c. search needs)
     loop-less-3
     loop-again-3
-    enum-known-end-4
+    (λ c. search needs)
     sub-rest-4
-    add-count-4
+    (λ c. search needs)
     loop-less-4
     loop-again-4
     returns-2)

@@ -17,9 +17,6 @@ key-word-requires c κs = c .before .before .pre .1 .joins
 add-words : tie.Need-add-words
 add-words c = let s = sized (now (c .before .before .before .args .words)) (c .before .before .before .pre .0) in omega arith
 
-mul-words : tie.Need-mul-words
-mul-words c = search needs
-
 slice-write-words : tie.Need-slice-write-words
 slice-write-words c = let s = sized (now (c .before .before .before .args .words)) (c .before .before .before .pre .0) in omega arith
 
@@ -62,7 +59,7 @@ add-property-spec =
     slice-read-n
     key-word-requires
     add-words
-    mul-words
+    (λ c. search needs)
     slice-write-words
     write-row-requires
     add-words-2

@@ -5,20 +5,11 @@ use borrow.Author.Needs.{needs}
 use Rattle.store_write.proofs.properties.key_word.Statement.{statement}
 use Rattle.store_write.proofs.properties.key_word.Tie as tie
 
-enum-known-k : tie.Need-enum-known-k
-enum-known-k c = search needs
-
 mul-result : tie.Need-mul-result
 mul-result c = omega (arith, ap numberIn (c .before .k .given .1))
 
 add-result : tie.Need-add-result
 add-result c = omega (arith, ap numberIn (c .before .k .given .1))
-
-enum-known-k-2 : tie.Need-enum-known-k-2
-enum-known-k-2 c = search needs
-
-add-result-2 : tie.Need-add-result-2
-add-result-2 c = search needs
 
 mul-result-2 : tie.Need-mul-result-2
 mul-result-2 c = omega (arith, ap numberIn (c .before .k2 .given .1))
@@ -36,11 +27,11 @@ pub key-word-spec : {M : Type 1} → statement M
 key-word-spec =
     tie.close
     (tie.spec
-    enum-known-k
+    (λ c. search needs)
     mul-result
     add-result
-    enum-known-k-2
-    add-result-2
+    (λ c. search needs)
+    (λ c. search needs)
     mul-result-2
     add-result-3
     returns

@@ -5,48 +5,6 @@ use borrow.Author.Needs.{needs}
 use Rattle.store_write.proofs.properties.property_words.Statement.{statement}
 use Rattle.store_write.proofs.properties.property_words.Tie as tie
 
-enum-known-p : tie.Need-enum-known-p
-enum-known-p c = search needs
-
-words-of-requires : tie.Need-words-of-requires
-words-of-requires c κs = search needs
-
-weight-requires : tie.Need-weight-requires
-weight-requires c κs = search needs
-
-weight-requires-2 : tie.Need-weight-requires-2
-weight-requires-2 c κs = search needs
-
-add-t16 : tie.Need-add-t16
-add-t16 c = omega arith
-
-weight-requires-3 : tie.Need-weight-requires-3
-weight-requires-3 c κs = search needs
-
-add-t18 : tie.Need-add-t18
-add-t18 c = omega arith
-
-enum-known-p-2 : tie.Need-enum-known-p-2
-enum-known-p-2 c = search needs
-
-words-of-requires-2 : tie.Need-words-of-requires-2
-words-of-requires-2 c κs = search needs
-
-words-of-requires-3 : tie.Need-words-of-requires-3
-words-of-requires-3 c κs = search needs
-
-weight-requires-4 : tie.Need-weight-requires-4
-weight-requires-4 c κs = search needs
-
-add-t20 : tie.Need-add-t20
-add-t20 c = omega arith
-
-weight-requires-5 : tie.Need-weight-requires-5
-weight-requires-5 c κs = search needs
-
-add-t22 : tie.Need-add-t22
-add-t22 c = omega arith
-
 returns : tie.Need-returns
 returns c =
     let v = c .before .before .before .before .before .p .given .0 .0 in
@@ -82,19 +40,19 @@ pub property-words-spec : {M : Type 1} → statement M
 property-words-spec =
     tie.close
     (tie.spec
-    enum-known-p
-    words-of-requires
-    weight-requires
-    weight-requires-2
-    add-t16
-    weight-requires-3
-    add-t18
-    enum-known-p-2
-    words-of-requires-2
-    words-of-requires-3
-    weight-requires-4
-    add-t20
-    weight-requires-5
-    add-t22
+    (λ c. search needs)
+    (λ c κs. search needs)
+    (λ c κs. search needs)
+    (λ c κs. search needs)
+    (λ c. omega arith)
+    (λ c κs. search needs)
+    (λ c. omega arith)
+    (λ c. search needs)
+    (λ c κs. search needs)
+    (λ c κs. search needs)
+    (λ c κs. search needs)
+    (λ c. omega arith)
+    (λ c κs. search needs)
+    (λ c. omega arith)
     returns
     returns-2)

@@ -40,9 +40,6 @@ slice-read-if1 c = let s = sized (now (c .before .before .before .before .before
 add-i : tie.Need-add-i Inv-loop μ-loop
 add-i c = let s = sized (now (c .before .before .before .before .before .before .before .args .words)) (c .before .before .before .before .before .before .before .pre .0) in omega arith
 
-loop-less : tie.Need-loop-less Inv-loop μ-loop
-loop-less c = omega arith
-
 loop-again : tie.Need-loop-again Inv-loop μ-loop
 loop-again c =
     let g = c .before .before .before .loop .inv in (
@@ -66,9 +63,6 @@ add-i-2 c = let s = sized (now (c .before .before .before .before .before .befor
 
 add-j : tie.Need-add-j Inv-loop μ-loop
 add-j c = let s = sized (now (c .before .before .before .before .before .before .before .before .before .before .before .args .words)) (c .before .before .before .before .before .before .before .before .before .before .before .pre .0) in omega arith
-
-loop-less-2 : tie.Need-loop-less-2 Inv-loop μ-loop
-loop-less-2 c = omega arith
 
 loop-again-2 : tie.Need-loop-again-2 Inv-loop μ-loop
 loop-again-2 c =
@@ -110,12 +104,12 @@ remove-property-spec =
     mul-if1
     slice-read-if1
     add-i
-    loop-less
+    (λ c. omega arith)
     loop-again
     move-entry-requires
     add-i-2
     add-j
-    loop-less-2
+    (λ c. omega arith)
     loop-again-2
     slice-write-words
     same-length

@@ -5,24 +5,6 @@ use borrow.Author.Needs.{needs}
 use Rattle.store_write.proofs.write.object_words.Statement.{statement}
 use Rattle.store_write.proofs.write.object_words.Tie as tie
 
-enum-known-x : tie.Need-enum-known-x
-enum-known-x c = search needs
-
-words-of-requires : tie.Need-words-of-requires
-words-of-requires c κs = search needs
-
-weight-requires : tie.Need-weight-requires
-weight-requires c κs = search needs
-
-enum-known-x-2 : tie.Need-enum-known-x-2
-enum-known-x-2 c = search needs
-
-weight-requires-2 : tie.Need-weight-requires-2
-weight-requires-2 c κs = search needs
-
-add-t9 : tie.Need-add-t9
-add-t9 c = omega arith
-
 returns : tie.Need-returns
 returns c =
     let r = c .before .before .before .x .given .0 .0 in
@@ -48,11 +30,11 @@ pub object-words-spec : {M : Type 1} → statement M
 object-words-spec =
     tie.close
     (tie.spec
-    enum-known-x
-    words-of-requires
-    weight-requires
-    enum-known-x-2
-    weight-requires-2
-    add-t9
+    (λ c. search needs)
+    (λ c κs. search needs)
+    (λ c κs. search needs)
+    (λ c. search needs)
+    (λ c κs. search needs)
+    (λ c. omega arith)
     returns
     returns-2)

@@ -6,41 +6,11 @@ use borrow.Author.Needs.{needs}
 use Rattle.store_write.proofs.write.write_object.Statement.{statement}
 use Rattle.store_write.proofs.write.write_object.Tie as tie
 
-object-words-requires : tie.Need-object-words-requires
-object-words-requires c κs = search needs
-
-mul-b : tie.Need-mul-b
-mul-b c = search needs
-
-add-b : tie.Need-add-b
-add-b c = search needs
-
-mul-words : tie.Need-mul-words
-mul-words c = search needs
-
-slice-write-words : tie.Need-slice-write-words
-slice-write-words c = search needs
-
-add-words : tie.Need-add-words
-add-words c = search needs
-
-mul-words-2 : tie.Need-mul-words-2
-mul-words-2 c = search needs
-
 slice-write-words-2 : tie.Need-slice-write-words-2
 slice-write-words-2 c = simp length-set (omega (arith, c .before .before .pre .0))
 
-add-words-2 : tie.Need-add-words-2
-add-words-2 c = search needs
-
-mul-words-3 : tie.Need-mul-words-3
-mul-words-3 c = search needs
-
 slice-write-words-3 : tie.Need-slice-write-words-3
 slice-write-words-3 c = simp length-set (omega (arith, c .before .before .pre .0))
-
-same-length : tie.Need-same-length
-same-length c = search needs
 
 returns : tie.Need-returns
 returns c =
@@ -52,16 +22,16 @@ pub write-object-spec : {M : Type 1} → statement M
 write-object-spec =
     tie.close
     (tie.spec
-    object-words-requires
-    mul-b
-    add-b
-    mul-words
-    slice-write-words
-    add-words
-    mul-words-2
+    (λ c κs. search needs)
+    (λ c. search needs)
+    (λ c. search needs)
+    (λ c. search needs)
+    (λ c. search needs)
+    (λ c. search needs)
+    (λ c. search needs)
     slice-write-words-2
-    add-words-2
-    mul-words-3
+    (λ c. search needs)
+    (λ c. search needs)
     slice-write-words-3
-    same-length
+    (λ c. search needs)
     returns)
