@@ -1,2 +1,3 @@
 pub mod EnterLaws
 pub mod AnswerLaws
+pub mod Cycle

@@ -5,12 +5,12 @@ use native.Mathlib.Omega.{arith}
 use Prim.Native.Nat.{_+_, _*_}
 use Rattle.internal_methods.specs.Monad.{pure, fails, next, _>>=_, throwIf, if_then_else_}
 use Rattle.internal_methods.specs.Proxy.{hasTrap, proxyDefineOwnProperty}
+use Rattle.calls.proofs.Cycle.{at, below}
 use Rattle.calls.proofs.EnterLaws.{define-own-property-goes-on, ordinary-deep, ordinary-found, proxy-deep}
 use Rattle.definition.specs.Define.{definedByTrap}
 use Rattle.definition.proofs.DefineLaws.{ordinary-known}
-use Prim.Native.Nat.{ℕ, _<_}
-use borrow.Fn.Kinds.{In}
-use borrow.Fn.PlainCycle.{Measures, is, falls, and}
+use Prim.Native.Nat.{ℕ}
+use borrow.Fn.PlainCycle.{Measures}
 use Rattle.definition.proofs.define_own_property.Reads as define-own-property
 use Rattle.definition.proofs.define_own_property.Kinds as define-own-property-kinds
 use Rattle.definition.proofs.+define_own_property+proxy_exotic_define_own_property.Lts-define_own_property as define-own-property-lts
@@ -34,38 +34,6 @@ abbrev μ-define-own-property : Measures 3 define-own-property-kinds.ps ℕ
 abbrev μ-proxy-exotic-define-own-property : Measures 3 proxy-exotic-define-own-property-kinds.ps ℕ
 μ-proxy-exotic-define-own-property κs a = 2 * a .1 .1 .1 .1 .1 .1 .1 .0 + 1
 
-abbrev define-own-property-at : ℕ → In 3 define-own-property-kinds.ps
-define-own-property-at t =
-    and
-    3
-    define-own-property-kinds.ps
-    (is 3 define-own-property-kinds.ps μ-define-own-property t)
-    define-own-property.Pre
-
-abbrev define-own-property-below : ℕ → In 3 define-own-property-kinds.ps
-define-own-property-below t =
-    and
-    3
-    define-own-property-kinds.ps
-    (falls 3 define-own-property-kinds.ps _<_ μ-define-own-property t)
-    define-own-property.Pre
-
-abbrev proxy-exotic-define-own-property-at : ℕ → In 3 proxy-exotic-define-own-property-kinds.ps
-proxy-exotic-define-own-property-at t =
-    and
-    3
-    proxy-exotic-define-own-property-kinds.ps
-    (is 3 proxy-exotic-define-own-property-kinds.ps μ-proxy-exotic-define-own-property t)
-    proxy-exotic-define-own-property.Pre
-
-abbrev proxy-exotic-define-own-property-below : ℕ → In 3 proxy-exotic-define-own-property-kinds.ps
-proxy-exotic-define-own-property-below t =
-    and
-    3
-    proxy-exotic-define-own-property-kinds.ps
-    (falls 3 proxy-exotic-define-own-property-kinds.ps _<_ μ-proxy-exotic-define-own-property t)
-    proxy-exotic-define-own-property.Pre
-
 pub +define-own-property+proxy-exotic-define-own-property-spec : {M : Type 1} → statement M
 unfolding _>>=_ definedByTrap fails hasTrap if_then_else_ next proxyDefineOwnProperty pure throwIf
 +define-own-property+proxy-exotic-define-own-property-spec =
@@ -77,10 +45,10 @@ unfolding _>>=_ definedByTrap fails hasTrap if_then_else_ next proxyDefineOwnPro
       enter-reads.Learnt,
       ordinary-define-own-property-reads.Asked,
       ordinary-define-own-property-reads.Learnt,
-      proxy-exotic-define-own-property-below t,
+      below 3 proxy-exotic-define-own-property-kinds.ps μ-proxy-exotic-define-own-property proxy-exotic-define-own-property.Pre t,
       proxy-exotic-define-own-property.Post,
     )
-    (define-own-property-at t)
+    (at 3 define-own-property-kinds.ps μ-define-own-property define-own-property.Pre t)
     define-own-property.Post
     (λ c κs. c .before .before .before .pre .1 .readable .store)
     (λ c. search needs)
@@ -98,10 +66,10 @@ unfolding _>>=_ definedByTrap fails hasTrap if_then_else_ next proxyDefineOwnPro
       has-trap-reads.Learnt,
       define-own-property-trap-reads.Asked,
       define-own-property-trap-reads.Learnt,
-      define-own-property-below t,
+      below 3 define-own-property-kinds.ps μ-define-own-property define-own-property.Pre t,
       define-own-property.Post,
     )
-    (proxy-exotic-define-own-property-at t)
+    (at 3 proxy-exotic-define-own-property-kinds.ps μ-proxy-exotic-define-own-property proxy-exotic-define-own-property.Pre t)
     proxy-exotic-define-own-property.Post
     (λ c κs. search needs)
     (λ c κs. c .before .before .before .before .before .pre .1)

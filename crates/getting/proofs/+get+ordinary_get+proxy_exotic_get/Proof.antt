@@ -7,11 +7,11 @@ use borrow.Author.Needs.{needs}
 use Rattle.internal_methods.specs.Monad.{pure, fails, next, _>>=_, throwIf, if_then_else_}
 use Rattle.internal_methods.specs.Ordinary.{ordinaryGet}
 use Rattle.internal_methods.specs.Proxy.{hasTrap, proxyGet}
+use Rattle.calls.proofs.Cycle.{at, below}
 use Rattle.calls.proofs.EnterLaws.{get-goes-on, ordinary-deep, proxy-deep}
 use Rattle.value.proofs.Objects.{is-object, is-no-object}
-use Prim.Native.Nat.{ℕ, _<_}
-use borrow.Fn.Kinds.{In}
-use borrow.Fn.PlainCycle.{Measures, is, falls, and}
+use Prim.Native.Nat.{ℕ}
+use borrow.Fn.PlainCycle.{Measures}
 use Rattle.getting.proofs.get.Reads as get
 use Rattle.getting.proofs.get.Kinds as get-kinds
 use Rattle.getting.proofs.+get+ordinary_get+proxy_exotic_get.Lts-get as get-lts
@@ -41,52 +41,18 @@ abbrev μ-ordinary-get : Measures 3 ordinary-get-kinds.ps ℕ
 abbrev μ-proxy-exotic-get : Measures 3 proxy-exotic-get-kinds.ps ℕ
 μ-proxy-exotic-get κs a = 2 * a .1 .1 .1 .1 .1 .1 .1 .0 + 1
 
-abbrev get-at : ℕ → In 3 get-kinds.ps
-get-at t = and 3 get-kinds.ps (is 3 get-kinds.ps μ-get t) get.Pre
-
-abbrev get-below : ℕ → In 3 get-kinds.ps
-get-below t = and 3 get-kinds.ps (falls 3 get-kinds.ps _<_ μ-get t) get.Pre
-
-abbrev ordinary-get-at : ℕ → In 3 ordinary-get-kinds.ps
-ordinary-get-at t =
-    and 3 ordinary-get-kinds.ps (is 3 ordinary-get-kinds.ps μ-ordinary-get t) ordinary-get.Pre
-
-abbrev ordinary-get-below : ℕ → In 3 ordinary-get-kinds.ps
-ordinary-get-below t =
-    and
-    3
-    ordinary-get-kinds.ps
-    (falls 3 ordinary-get-kinds.ps _<_ μ-ordinary-get t)
-    ordinary-get.Pre
-
-abbrev proxy-exotic-get-at : ℕ → In 3 proxy-exotic-get-kinds.ps
-proxy-exotic-get-at t =
-    and
-    3
-    proxy-exotic-get-kinds.ps
-    (is 3 proxy-exotic-get-kinds.ps μ-proxy-exotic-get t)
-    proxy-exotic-get.Pre
-
-abbrev proxy-exotic-get-below : ℕ → In 3 proxy-exotic-get-kinds.ps
-proxy-exotic-get-below t =
-    and
-    3
-    proxy-exotic-get-kinds.ps
-    (falls 3 proxy-exotic-get-kinds.ps _<_ μ-proxy-exotic-get t)
-    proxy-exotic-get.Pre
-
 pub +get+ordinary-get+proxy-exotic-get-spec : {M : Type 1} → statement M
 unfolding _>>=_ fails hasTrap if_then_else_ next ordinaryGet proxyGet pure throwIf
 +get+ordinary-get+proxy-exotic-get-spec =
     close μ-get μ-ordinary-get μ-proxy-exotic-get (λ t. get-lts.spec (
       enter-reads.Asked,
       enter-reads.Learnt,
-      ordinary-get-below t,
+      below 3 ordinary-get-kinds.ps μ-ordinary-get ordinary-get.Pre t,
       ordinary-get.Post,
-      proxy-exotic-get-below t,
+      below 3 proxy-exotic-get-kinds.ps μ-proxy-exotic-get proxy-exotic-get.Pre t,
       proxy-exotic-get.Post,
     )
-    (get-at t)
+    (at 3 get-kinds.ps μ-get get.Pre t)
     get.Post
     (λ c κs. c .before .before .before .pre .1 .store)
     (λ c. search needs)
@@ -106,14 +72,14 @@ unfolding _>>=_ fails hasTrap if_then_else_ next ordinaryGet proxyGet pure throw
       get-prototype-of-reads.Learnt,
       object-of-reads.Asked,
       object-of-reads.Learnt,
-      get-below t,
+      below 3 get-kinds.ps μ-get get.Pre t,
       get.Post,
       is-undefined-reads.Asked,
       is-undefined-reads.Learnt,
       next-value-reads.Asked,
       next-value-reads.Learnt,
     )
-    (ordinary-get-at t)
+    (at 3 ordinary-get-kinds.ps μ-ordinary-get ordinary-get.Pre t)
     ordinary-get.Post
     (λ c κs. c .before .before .before .pre .1)
     (λ c. search needs)
@@ -143,10 +109,10 @@ unfolding _>>=_ fails hasTrap if_then_else_ next ordinaryGet proxyGet pure throw
       has-trap-reads.Learnt,
       get-trap-reads.Asked,
       get-trap-reads.Learnt,
-      get-below t,
+      below 3 get-kinds.ps μ-get get.Pre t,
       get.Post,
     )
-    (proxy-exotic-get-at t)
+    (at 3 proxy-exotic-get-kinds.ps μ-proxy-exotic-get proxy-exotic-get.Pre t)
     proxy-exotic-get.Post
     (λ c κs. search needs)
     (λ c κs. (c .before .before .before .before .before .pre .1, sym (c .before .has-trap .ensures) ∙ c .if1 .taken))

@@ -7,11 +7,11 @@ use borrow.Author.Needs.{needs}
 use Rattle.internal_methods.specs.Monad.{pure, fails, next, _>>=_, throwIf, if_then_else_}
 use Rattle.internal_methods.specs.Ordinary.{ordinaryHasProperty}
 use Rattle.internal_methods.specs.Proxy.{hasTrap, proxyHasProperty}
+use Rattle.calls.proofs.Cycle.{at, below}
 use Rattle.calls.proofs.EnterLaws.{has-property-goes-on, ordinary-deep, proxy-deep}
 use Rattle.value.proofs.Objects.{is-object, is-no-object}
-use Prim.Native.Nat.{ℕ, _<_}
-use borrow.Fn.Kinds.{In}
-use borrow.Fn.PlainCycle.{Measures, is, falls, and}
+use Prim.Native.Nat.{ℕ}
+use borrow.Fn.PlainCycle.{Measures}
 use Rattle.has_property.proofs.has_property.Reads as has-property
 use Rattle.has_property.proofs.has_property.Kinds as has-property-kinds
 use Rattle.has_property.proofs.+has_property+ordinary_has_property+proxy_exotic_has_property.Lts-has_property as has-property-lts
@@ -43,50 +43,6 @@ abbrev μ-ordinary-has-property : Measures 3 ordinary-has-property-kinds.ps ℕ
 abbrev μ-proxy-exotic-has-property : Measures 3 proxy-exotic-has-property-kinds.ps ℕ
 μ-proxy-exotic-has-property κs a = 2 * a .1 .1 .1 .1 .1 .1 .0 + 1
 
-abbrev has-property-at : ℕ → In 3 has-property-kinds.ps
-has-property-at t =
-    and 3 has-property-kinds.ps (is 3 has-property-kinds.ps μ-has-property t) has-property.Pre
-
-abbrev has-property-below : ℕ → In 3 has-property-kinds.ps
-has-property-below t =
-    and
-    3
-    has-property-kinds.ps
-    (falls 3 has-property-kinds.ps _<_ μ-has-property t)
-    has-property.Pre
-
-abbrev ordinary-has-property-at : ℕ → In 3 ordinary-has-property-kinds.ps
-ordinary-has-property-at t =
-    and
-    3
-    ordinary-has-property-kinds.ps
-    (is 3 ordinary-has-property-kinds.ps μ-ordinary-has-property t)
-    ordinary-has-property.Pre
-
-abbrev ordinary-has-property-below : ℕ → In 3 ordinary-has-property-kinds.ps
-ordinary-has-property-below t =
-    and
-    3
-    ordinary-has-property-kinds.ps
-    (falls 3 ordinary-has-property-kinds.ps _<_ μ-ordinary-has-property t)
-    ordinary-has-property.Pre
-
-abbrev proxy-exotic-has-property-at : ℕ → In 3 proxy-exotic-has-property-kinds.ps
-proxy-exotic-has-property-at t =
-    and
-    3
-    proxy-exotic-has-property-kinds.ps
-    (is 3 proxy-exotic-has-property-kinds.ps μ-proxy-exotic-has-property t)
-    proxy-exotic-has-property.Pre
-
-abbrev proxy-exotic-has-property-below : ℕ → In 3 proxy-exotic-has-property-kinds.ps
-proxy-exotic-has-property-below t =
-    and
-    3
-    proxy-exotic-has-property-kinds.ps
-    (falls 3 proxy-exotic-has-property-kinds.ps _<_ μ-proxy-exotic-has-property t)
-    proxy-exotic-has-property.Pre
-
 pub +has-property+ordinary-has-property+proxy-exotic-has-property-spec : {M : Type 1} → statement M
 unfolding _>>=_ fails hasTrap if_then_else_ next ordinaryHasProperty proxyHasProperty pure throwIf
 +has-property+ordinary-has-property+proxy-exotic-has-property-spec =
@@ -97,12 +53,12 @@ unfolding _>>=_ fails hasTrap if_then_else_ next ordinaryHasProperty proxyHasPro
     (λ t. has-property-lts.spec (
       enter-reads.Asked,
       enter-reads.Learnt,
-      ordinary-has-property-below t,
+      below 3 ordinary-has-property-kinds.ps μ-ordinary-has-property ordinary-has-property.Pre t,
       ordinary-has-property.Post,
-      proxy-exotic-has-property-below t,
+      below 3 proxy-exotic-has-property-kinds.ps μ-proxy-exotic-has-property proxy-exotic-has-property.Pre t,
       proxy-exotic-has-property.Post,
     )
-    (has-property-at t)
+    (at 3 has-property-kinds.ps μ-has-property has-property.Pre t)
     has-property.Post
     (λ c κs. c .before .before .before .pre .1 .store)
     (λ c. search needs)
@@ -122,10 +78,10 @@ unfolding _>>=_ fails hasTrap if_then_else_ next ordinaryHasProperty proxyHasPro
       get-prototype-of-reads.Learnt,
       object-of-reads.Asked,
       object-of-reads.Learnt,
-      has-property-below t,
+      below 3 has-property-kinds.ps μ-has-property has-property.Pre t,
       has-property.Post,
     )
-    (ordinary-has-property-at t)
+    (at 3 ordinary-has-property-kinds.ps μ-ordinary-has-property ordinary-has-property.Pre t)
     ordinary-has-property.Post
     (λ c κs. c .before .before .before .pre .1)
     (λ c. search needs)
@@ -149,10 +105,10 @@ unfolding _>>=_ fails hasTrap if_then_else_ next ordinaryHasProperty proxyHasPro
       has-trap-reads.Learnt,
       has-property-trap-reads.Asked,
       has-property-trap-reads.Learnt,
-      has-property-below t,
+      below 3 has-property-kinds.ps μ-has-property has-property.Pre t,
       has-property.Post,
     )
-    (proxy-exotic-has-property-at t)
+    (at 3 proxy-exotic-has-property-kinds.ps μ-proxy-exotic-has-property proxy-exotic-has-property.Pre t)
     proxy-exotic-has-property.Post
     (λ c κs. search needs)
     (λ c κs. (c .before .before .before .before .before .pre .1, sym (c .before .has-trap .ensures) ∙ c .if1 .taken))

@@ -5,11 +5,11 @@ use Prim.Native.Nat.{_+_, _*_}
 use borrow.Author.Needs.{needs}
 use Rattle.internal_methods.specs.Monad.{pure, fails, next, _>>=_}
 use Rattle.internal_methods.specs.Proxy.{hasTrap}
+use Rattle.calls.proofs.Cycle.{at, below}
 use Rattle.calls.proofs.EnterLaws.{own-property-keys-goes-on, proxy-deep}
 use Rattle.own_keys.proofs.PartLaws.{in-parts, without-trap, stays-fit, begun-fit}
-use Prim.Native.Nat.{ℕ, _<_}
-use borrow.Fn.Kinds.{In}
-use borrow.Fn.PlainCycle.{Measures, is, falls, and}
+use Prim.Native.Nat.{ℕ}
+use borrow.Fn.PlainCycle.{Measures}
 use Rattle.own_keys.proofs.own_property_keys.Reads as own-property-keys
 use Rattle.own_keys.proofs.own_property_keys.Kinds as own-property-keys-kinds
 use Rattle.own_keys.proofs.+own_property_keys+proxy_exotic_own_property_keys.Lts-own_property_keys as own-property-keys-lts
@@ -30,38 +30,6 @@ abbrev μ-own-property-keys : Measures 6 own-property-keys-kinds.ps ℕ
 abbrev μ-proxy-exotic-own-property-keys : Measures 6 proxy-exotic-own-property-keys-kinds.ps ℕ
 μ-proxy-exotic-own-property-keys κs a = 2 * a .1 .1 .1 .1 .1 .1 .1 .1 .0 + 1
 
-abbrev own-property-keys-at : ℕ → In 6 own-property-keys-kinds.ps
-own-property-keys-at t =
-    and
-    6
-    own-property-keys-kinds.ps
-    (is 6 own-property-keys-kinds.ps μ-own-property-keys t)
-    own-property-keys.Pre
-
-abbrev own-property-keys-below : ℕ → In 6 own-property-keys-kinds.ps
-own-property-keys-below t =
-    and
-    6
-    own-property-keys-kinds.ps
-    (falls 6 own-property-keys-kinds.ps _<_ μ-own-property-keys t)
-    own-property-keys.Pre
-
-abbrev proxy-exotic-own-property-keys-at : ℕ → In 6 proxy-exotic-own-property-keys-kinds.ps
-proxy-exotic-own-property-keys-at t =
-    and
-    6
-    proxy-exotic-own-property-keys-kinds.ps
-    (is 6 proxy-exotic-own-property-keys-kinds.ps μ-proxy-exotic-own-property-keys t)
-    proxy-exotic-own-property-keys.Pre
-
-abbrev proxy-exotic-own-property-keys-below : ℕ → In 6 proxy-exotic-own-property-keys-kinds.ps
-proxy-exotic-own-property-keys-below t =
-    and
-    6
-    proxy-exotic-own-property-keys-kinds.ps
-    (falls 6 proxy-exotic-own-property-keys-kinds.ps _<_ μ-proxy-exotic-own-property-keys t)
-    proxy-exotic-own-property-keys.Pre
-
 pub +own-property-keys+proxy-exotic-own-property-keys-spec : {M : Type 1} → statement M
 unfolding _>>=_ fails hasTrap next pure
 +own-property-keys+proxy-exotic-own-property-keys-spec =
@@ -70,10 +38,10 @@ unfolding _>>=_ fails hasTrap next pure
       enter-reads.Learnt,
       ordinary-own-property-keys-reads.Asked,
       ordinary-own-property-keys-reads.Learnt,
-      proxy-exotic-own-property-keys-below t,
+      below 6 proxy-exotic-own-property-keys-kinds.ps μ-proxy-exotic-own-property-keys proxy-exotic-own-property-keys.Pre t,
       proxy-exotic-own-property-keys.Post,
     )
-    (own-property-keys-at t)
+    (at 6 own-property-keys-kinds.ps μ-own-property-keys own-property-keys.Pre t)
     own-property-keys.Post
     (λ c κs. c .before .before .before .before .before .before .pre .1 .0 .store)
     (λ c. search needs)
@@ -93,12 +61,12 @@ unfolding _>>=_ fails hasTrap next pure
       has-trap-reads.Learnt,
       own-keys-trap-reads.Asked,
       own-keys-trap-reads.Learnt,
-      own-property-keys-below t,
+      below 6 own-property-keys-kinds.ps μ-own-property-keys own-property-keys.Pre t,
       own-property-keys.Post,
       checked-keys-reads.Asked,
       checked-keys-reads.Learnt,
     )
-    (proxy-exotic-own-property-keys-at t)
+    (at 6 proxy-exotic-own-property-keys-kinds.ps μ-proxy-exotic-own-property-keys proxy-exotic-own-property-keys.Pre t)
     proxy-exotic-own-property-keys.Post
     (λ c κs. search needs)
     (λ c κs. (c .before .before .before .before .before .before .before .before .before .pre .1 .0, (c .before .before .before .before .before .before .before .before .before .pre .1 .1 .0, c .before .before .before .before .before .before .before .before .before .pre .1 .1 .1 .1 .1)))

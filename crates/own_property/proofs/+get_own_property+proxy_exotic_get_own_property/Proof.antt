@@ -5,11 +5,11 @@ use native.Mathlib.Omega.{arith}
 use Prim.Native.Nat.{_+_, _*_}
 use Rattle.internal_methods.specs.Monad.{pure, fails, next, _>>=_, throwIf, if_then_else_}
 use Rattle.internal_methods.specs.Proxy.{hasTrap, proxyGetOwnProperty}
+use Rattle.calls.proofs.Cycle.{at, below}
 use Rattle.calls.proofs.EnterLaws.{get-own-property-goes-on, proxy-deep}
 use Rattle.own_property.specs.Result.{undefinedResult, descriptorResult}
-use Prim.Native.Nat.{ℕ, _<_}
-use borrow.Fn.Kinds.{In}
-use borrow.Fn.PlainCycle.{Measures, is, falls, and}
+use Prim.Native.Nat.{ℕ}
+use borrow.Fn.PlainCycle.{Measures}
 use Rattle.own_property.proofs.get_own_property.Reads as get-own-property
 use Rattle.own_property.proofs.get_own_property.Kinds as get-own-property-kinds
 use Rattle.own_property.proofs.+get_own_property+proxy_exotic_get_own_property.Lts-get_own_property as get-own-property-lts
@@ -31,38 +31,6 @@ abbrev μ-get-own-property : Measures 3 get-own-property-kinds.ps ℕ
 abbrev μ-proxy-exotic-get-own-property : Measures 3 proxy-exotic-get-own-property-kinds.ps ℕ
 μ-proxy-exotic-get-own-property κs a = 2 * a .1 .1 .1 .1 .1 .1 .0 + 1
 
-abbrev get-own-property-at : ℕ → In 3 get-own-property-kinds.ps
-get-own-property-at t =
-    and
-    3
-    get-own-property-kinds.ps
-    (is 3 get-own-property-kinds.ps μ-get-own-property t)
-    get-own-property.Pre
-
-abbrev get-own-property-below : ℕ → In 3 get-own-property-kinds.ps
-get-own-property-below t =
-    and
-    3
-    get-own-property-kinds.ps
-    (falls 3 get-own-property-kinds.ps _<_ μ-get-own-property t)
-    get-own-property.Pre
-
-abbrev proxy-exotic-get-own-property-at : ℕ → In 3 proxy-exotic-get-own-property-kinds.ps
-proxy-exotic-get-own-property-at t =
-    and
-    3
-    proxy-exotic-get-own-property-kinds.ps
-    (is 3 proxy-exotic-get-own-property-kinds.ps μ-proxy-exotic-get-own-property t)
-    proxy-exotic-get-own-property.Pre
-
-abbrev proxy-exotic-get-own-property-below : ℕ → In 3 proxy-exotic-get-own-property-kinds.ps
-proxy-exotic-get-own-property-below t =
-    and
-    3
-    proxy-exotic-get-own-property-kinds.ps
-    (falls 3 proxy-exotic-get-own-property-kinds.ps _<_ μ-proxy-exotic-get-own-property t)
-    proxy-exotic-get-own-property.Pre
-
 pub +get-own-property+proxy-exotic-get-own-property-spec : {M : Type 1} → statement M
 unfolding _>>=_ descriptorResult fails hasTrap if_then_else_ next proxyGetOwnProperty pure throwIf undefinedResult
 +get-own-property+proxy-exotic-get-own-property-spec =
@@ -71,10 +39,10 @@ unfolding _>>=_ descriptorResult fails hasTrap if_then_else_ next proxyGetOwnPro
       enter-reads.Learnt,
       ordinary-get-own-property-reads.Asked,
       ordinary-get-own-property-reads.Learnt,
-      proxy-exotic-get-own-property-below t,
+      below 3 proxy-exotic-get-own-property-kinds.ps μ-proxy-exotic-get-own-property proxy-exotic-get-own-property.Pre t,
       proxy-exotic-get-own-property.Post,
     )
-    (get-own-property-at t)
+    (at 3 get-own-property-kinds.ps μ-get-own-property get-own-property.Pre t)
     get-own-property.Post
     (λ c κs. c .before .before .before .pre .1 .store)
     (λ c. search needs)
@@ -91,14 +59,14 @@ unfolding _>>=_ descriptorResult fails hasTrap if_then_else_ next proxyGetOwnPro
       has-trap-reads.Learnt,
       next-descriptor-reads.Asked,
       next-descriptor-reads.Learnt,
-      get-own-property-below t,
+      below 3 get-own-property-kinds.ps μ-get-own-property get-own-property.Pre t,
       get-own-property.Post,
       undefined-result-reads.Asked,
       undefined-result-reads.Learnt,
       descriptor-result-reads.Asked,
       descriptor-result-reads.Learnt,
     )
-    (proxy-exotic-get-own-property-at t)
+    (at 3 proxy-exotic-get-own-property-kinds.ps μ-proxy-exotic-get-own-property proxy-exotic-get-own-property.Pre t)
     proxy-exotic-get-own-property.Post
     (λ c κs. search needs)
     (λ c κs. search needs)

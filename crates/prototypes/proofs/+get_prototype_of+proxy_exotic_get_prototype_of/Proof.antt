@@ -5,10 +5,10 @@ use Prim.Native.Nat.{_+_, _*_}
 use borrow.Author.Needs.{needs}
 use Rattle.internal_methods.specs.Monad.{pure, fails, next, _>>=_, throwIf, if_then_else_}
 use Rattle.internal_methods.specs.Proxy.{hasTrap, proxyGetPrototypeOf}
+use Rattle.calls.proofs.Cycle.{at, below}
 use Rattle.calls.proofs.EnterLaws.{get-prototype-of-goes-on, proxy-deep}
-use Prim.Native.Nat.{ℕ, _<_}
-use borrow.Fn.Kinds.{In}
-use borrow.Fn.PlainCycle.{Measures, is, falls, and}
+use Prim.Native.Nat.{ℕ}
+use borrow.Fn.PlainCycle.{Measures}
 use Rattle.prototypes.proofs.get_prototype_of.Reads as get-prototype-of
 use Rattle.prototypes.proofs.get_prototype_of.Kinds as get-prototype-of-kinds
 use Rattle.prototypes.proofs.+get_prototype_of+proxy_exotic_get_prototype_of.Lts-get_prototype_of as get-prototype-of-lts
@@ -30,38 +30,6 @@ abbrev μ-get-prototype-of : Measures 3 get-prototype-of-kinds.ps ℕ
 abbrev μ-proxy-exotic-get-prototype-of : Measures 3 proxy-exotic-get-prototype-of-kinds.ps ℕ
 μ-proxy-exotic-get-prototype-of κs a = 2 * a .1 .1 .1 .1 .1 .0 + 1
 
-abbrev get-prototype-of-at : ℕ → In 3 get-prototype-of-kinds.ps
-get-prototype-of-at t =
-    and
-    3
-    get-prototype-of-kinds.ps
-    (is 3 get-prototype-of-kinds.ps μ-get-prototype-of t)
-    get-prototype-of.Pre
-
-abbrev get-prototype-of-below : ℕ → In 3 get-prototype-of-kinds.ps
-get-prototype-of-below t =
-    and
-    3
-    get-prototype-of-kinds.ps
-    (falls 3 get-prototype-of-kinds.ps _<_ μ-get-prototype-of t)
-    get-prototype-of.Pre
-
-abbrev proxy-exotic-get-prototype-of-at : ℕ → In 3 proxy-exotic-get-prototype-of-kinds.ps
-proxy-exotic-get-prototype-of-at t =
-    and
-    3
-    proxy-exotic-get-prototype-of-kinds.ps
-    (is 3 proxy-exotic-get-prototype-of-kinds.ps μ-proxy-exotic-get-prototype-of t)
-    proxy-exotic-get-prototype-of.Pre
-
-abbrev proxy-exotic-get-prototype-of-below : ℕ → In 3 proxy-exotic-get-prototype-of-kinds.ps
-proxy-exotic-get-prototype-of-below t =
-    and
-    3
-    proxy-exotic-get-prototype-of-kinds.ps
-    (falls 3 proxy-exotic-get-prototype-of-kinds.ps _<_ μ-proxy-exotic-get-prototype-of t)
-    proxy-exotic-get-prototype-of.Pre
-
 pub +get-prototype-of+proxy-exotic-get-prototype-of-spec : {M : Type 1} → statement M
 unfolding _>>=_ fails hasTrap if_then_else_ next proxyGetPrototypeOf pure throwIf
 +get-prototype-of+proxy-exotic-get-prototype-of-spec =
@@ -70,10 +38,10 @@ unfolding _>>=_ fails hasTrap if_then_else_ next proxyGetPrototypeOf pure throwI
       enter-reads.Learnt,
       ordinary-get-prototype-of-reads.Asked,
       ordinary-get-prototype-of-reads.Learnt,
-      proxy-exotic-get-prototype-of-below t,
+      below 3 proxy-exotic-get-prototype-of-kinds.ps μ-proxy-exotic-get-prototype-of proxy-exotic-get-prototype-of.Pre t,
       proxy-exotic-get-prototype-of.Post,
     )
-    (get-prototype-of-at t)
+    (at 3 get-prototype-of-kinds.ps μ-get-prototype-of get-prototype-of.Pre t)
     get-prototype-of.Post
     (λ c κs. c .before .before .before .pre .1 .store)
     (λ c. search needs)
@@ -92,12 +60,12 @@ unfolding _>>=_ fails hasTrap if_then_else_ next proxyGetPrototypeOf pure throwI
       next-prototype-reads.Learnt,
       is-extensible-reads.Asked,
       is-extensible-reads.Learnt,
-      get-prototype-of-below t,
+      below 3 get-prototype-of-kinds.ps μ-get-prototype-of get-prototype-of.Pre t,
       get-prototype-of.Post,
       same-value-reads.Asked,
       same-value-reads.Learnt,
     )
-    (proxy-exotic-get-prototype-of-at t)
+    (at 3 proxy-exotic-get-prototype-of-kinds.ps μ-proxy-exotic-get-prototype-of proxy-exotic-get-prototype-of.Pre t)
     proxy-exotic-get-prototype-of.Post
     (λ c κs. search needs)
     (λ c κs. search needs)

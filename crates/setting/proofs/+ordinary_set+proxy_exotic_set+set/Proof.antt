@@ -7,13 +7,13 @@ use Rattle.value.specs.Value.{objectOf}
 use Rattle.internal_methods.specs.Monad.{pure, fails, next, _>>=_, throwIf, if_then_else_}
 use Rattle.internal_methods.specs.Ordinary.{ordinarySet}
 use Rattle.internal_methods.specs.Proxy.{hasTrap, proxySet}
+use Rattle.calls.proofs.Cycle.{at, below}
 use Rattle.calls.proofs.EnterLaws.{set-goes-on, ordinary-deep, proxy-deep}
 use Rattle.value.proofs.Objects.{is-object, is-no-object}
 use Rattle.setting.specs.Set.{setAccessor}
 use Rattle.setting.specs.SetByTrap.{setByTrap}
-use Prim.Native.Nat.{ℕ, _<_}
-use borrow.Fn.Kinds.{In}
-use borrow.Fn.PlainCycle.{Measures, is, falls, and}
+use Prim.Native.Nat.{ℕ}
+use borrow.Fn.PlainCycle.{Measures}
 use Rattle.setting.proofs.ordinary_set.Reads as ordinary-set
 use Rattle.setting.proofs.ordinary_set.Kinds as ordinary-set-kinds
 use Rattle.setting.proofs.+ordinary_set+proxy_exotic_set+set.Lts-ordinary_set as ordinary-set-lts
@@ -43,40 +43,6 @@ abbrev μ-proxy-exotic-set : Measures 3 proxy-exotic-set-kinds.ps ℕ
 abbrev μ-set : Measures 3 set-kinds.ps ℕ
 μ-set κs a = 2 * a .1 .1 .1 .1 .1 .1 .1 .1 .0
 
-abbrev ordinary-set-at : ℕ → In 3 ordinary-set-kinds.ps
-ordinary-set-at t =
-    and 3 ordinary-set-kinds.ps (is 3 ordinary-set-kinds.ps μ-ordinary-set t) ordinary-set.Pre
-
-abbrev ordinary-set-below : ℕ → In 3 ordinary-set-kinds.ps
-ordinary-set-below t =
-    and
-    3
-    ordinary-set-kinds.ps
-    (falls 3 ordinary-set-kinds.ps _<_ μ-ordinary-set t)
-    ordinary-set.Pre
-
-abbrev proxy-exotic-set-at : ℕ → In 3 proxy-exotic-set-kinds.ps
-proxy-exotic-set-at t =
-    and
-    3
-    proxy-exotic-set-kinds.ps
-    (is 3 proxy-exotic-set-kinds.ps μ-proxy-exotic-set t)
-    proxy-exotic-set.Pre
-
-abbrev proxy-exotic-set-below : ℕ → In 3 proxy-exotic-set-kinds.ps
-proxy-exotic-set-below t =
-    and
-    3
-    proxy-exotic-set-kinds.ps
-    (falls 3 proxy-exotic-set-kinds.ps _<_ μ-proxy-exotic-set t)
-    proxy-exotic-set.Pre
-
-abbrev set-at : ℕ → In 3 set-kinds.ps
-set-at t = and 3 set-kinds.ps (is 3 set-kinds.ps μ-set t) set.Pre
-
-abbrev set-below : ℕ → In 3 set-kinds.ps
-set-below t = and 3 set-kinds.ps (falls 3 set-kinds.ps _<_ μ-set t) set.Pre
-
 pub +ordinary-set+proxy-exotic-set+set-spec : {M : Type 1} → statement M
 unfolding _>>=_ fails hasTrap if_then_else_ next ordinarySet proxySet pure setAccessor setByTrap throwIf
 +ordinary-set+proxy-exotic-set+set-spec =
@@ -87,14 +53,14 @@ unfolding _>>=_ fails hasTrap if_then_else_ next ordinarySet proxySet pure setAc
       get-prototype-of-reads.Learnt,
       object-of-reads.Asked,
       object-of-reads.Learnt,
-      set-below t,
+      below 3 set-kinds.ps μ-set set.Pre t,
       set.Post,
       set-data-reads.Asked,
       set-data-reads.Learnt,
       set-accessor-reads.Asked,
       set-accessor-reads.Learnt,
     )
-    (ordinary-set-at t)
+    (at 3 ordinary-set-kinds.ps μ-ordinary-set ordinary-set.Pre t)
     ordinary-set.Post
     (λ c κs. c .before .before .before .pre .1 .readable)
     (λ c. search needs)
@@ -124,10 +90,10 @@ unfolding _>>=_ fails hasTrap if_then_else_ next ordinarySet proxySet pure setAc
       has-trap-reads.Learnt,
       set-trap-reads.Asked,
       set-trap-reads.Learnt,
-      set-below t,
+      below 3 set-kinds.ps μ-set set.Pre t,
       set.Post,
     )
-    (proxy-exotic-set-at t)
+    (at 3 proxy-exotic-set-kinds.ps μ-proxy-exotic-set proxy-exotic-set.Pre t)
     proxy-exotic-set.Post
     (λ c κs. search needs)
     (λ c κs. c .before .before .before .before .before .pre .1)
@@ -137,12 +103,12 @@ unfolding _>>=_ fails hasTrap if_then_else_ next ordinarySet proxySet pure setAc
     λ t. set-lts.spec (
       enter-reads.Asked,
       enter-reads.Learnt,
-      ordinary-set-below t,
+      below 3 ordinary-set-kinds.ps μ-ordinary-set ordinary-set.Pre t,
       ordinary-set.Post,
-      proxy-exotic-set-below t,
+      below 3 proxy-exotic-set-kinds.ps μ-proxy-exotic-set proxy-exotic-set.Pre t,
       proxy-exotic-set.Post,
     )
-    (set-at t)
+    (at 3 set-kinds.ps μ-set set.Pre t)
     set.Post
     (λ c κs. c .before .before .before .pre .1 .readable .store)
     (λ c. search needs)
