@@ -1,5 +1,4 @@
-// A descriptor is 29 bytes: a presence mask, a byte of booleans, then value, get and set.
-// Writing a descriptor as its 29 bytes.
+// A descriptor in 29 bytes: a presence mask, a byte of booleans, then value, get and set.
 use crate::numbers;
 use crate::value_record;
 use descriptors::fields;

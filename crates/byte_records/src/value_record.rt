@@ -1,5 +1,4 @@
-// Reading a value from its 9 bytes.
-// Writing a value as its 9 bytes.
+// A value in 9 bytes: a kind, then its payload.
 use crate::numbers::wide;
 use crate::numbers::word_at;
 use value::Value;

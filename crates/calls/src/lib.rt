@@ -1,4 +1,5 @@
 // A call of an internal method: how it begins, and how it ends.
+// entry: it is counted, and goes to the methods of its object's kind. answers: what it takes of the sheet.
 use internal_methods::Failure;
 use property::DescriptorObject;
 use property::OwnProperty;

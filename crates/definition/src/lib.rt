@@ -1,4 +1,5 @@
 // 10.1.6 and 10.5.6 [[DefineOwnProperty]].
+// trap: 10.5.6 from step 7 on, by way of checks. writing: the write of 10.1.6.3.
 use calls::BooleanOut;
 use calls::Entered;
 use calls::OwnPropertyOut;

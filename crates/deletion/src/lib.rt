@@ -1,4 +1,5 @@
 // 10.1.10 and 10.5.10 [[Delete]].
+// trap: 10.5.10 from step 7 on.
 use calls::Entered;
 use calls::OwnPropertyOut;
 use calls::Progress;

@@ -1,4 +1,5 @@
-// The interface for C and Rust to link. A report is ten words (crates/report_words). No function has a condition on what it is lent.
+// The interface for C and Rust to link. A report is ten words (reporting: report_words). No function has a condition on what
+// it is lent.
 use message::writing;
 use reporting::report_words;
 ghost use mathlib.Core.Path.{_≡_};

@@ -1,4 +1,5 @@
 // Completing, validating and merging descriptors over lent memory, which says how many objects and strings there are.
+// operations: the three over byte records. records: reading those, and refusals 1 to 4.
 use crate::operations::DescriptorAnswer;
 use crate::operations::Verdict;
 use property::OwnProperty;

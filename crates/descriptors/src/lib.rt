@@ -1,4 +1,6 @@
 // 6.2.6.4 and 6.2.6.5: a descriptor to and from an object.
+// kinds: 6.2.6.1 to 6.2.6.3. errors: what 6.2.6.5 throws for. completion: 6.2.6.6.
+// flags, fields, kind_fields: the fields of a descriptor. attributes: those of a property.
 use property::DescriptorKind;
 use property::DescriptorObject;
 use property::Field;

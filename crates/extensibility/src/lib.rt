@@ -1,4 +1,5 @@
 // 10.1.3 and 10.5.3 [[IsExtensible]].
+// prevention: 10.1.4 and 10.5.4 [[PreventExtensions]].
 use calls::BooleanOut;
 use calls::Entered;
 use calls::Progress;

@@ -1,4 +1,5 @@
-// 10.1.8 and 10.5.8 [[Get]].
+// 10.1.8 and 10.5.8 [[Get]]: one cycle of both kinds of object.
+// trap: 10.5.8 from step 7 on.
 use calls::Entered;
 use calls::OwnPropertyOut;
 use calls::Progress;

@@ -1,4 +1,5 @@
-// 10.1.7 and 10.5.7 [[HasProperty]].
+// 10.1.7 and 10.5.7 [[HasProperty]]: one cycle of both kinds of object.
+// trap: 10.5.7 from step 7 on.
 use calls::BooleanOut;
 use calls::Entered;
 use calls::OwnPropertyOut;

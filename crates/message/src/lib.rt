@@ -1,4 +1,5 @@
 // The texts of the TypeErrors: constant rows of 90 bytes, padded with zeros, and their lengths. Row 0 stands for no message.
+// writing: a text into lent bytes.
 ghost use mathlib.Core.Path.{_≡_};
 ghost use lib.ListN.{length, getD};
 ghost use Rattle.internal_methods.specs.Messages.{messageText};

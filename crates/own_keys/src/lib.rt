@@ -1,4 +1,6 @@
 // 10.1.11 and 10.5.11 [[OwnPropertyKeys]].
+// trap: 10.5.11 steps 7 to 10, by way of answered. check: steps 14 to 23, by way of marks.
+// loading: a list's keys into words, where they are looked at.
 use crate::loading::KeyList;
 use crate::loading::KeysOut;
 use crate::trap::TrapOut;

@@ -1,4 +1,5 @@
 // 10.1.5 and 10.5.5 [[GetOwnProperty]].
+// results: 10.5.5 steps 10 to 17. target_checks: what all of 10.5 asks of the target's property.
 use calls::DescriptorOut;
 use calls::Entered;
 use calls::OwnPropertyOut;

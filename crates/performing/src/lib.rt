@@ -1,4 +1,5 @@
 // What a step asks for, done: the operation of each code but [[OwnPropertyKeys]], with the one write that it makes.
+// creation: codes 1 to 3. reads: 4, 6, 8, 10 and 11. writes: 5, 7, 9, 12 and 13. listing: 14, with its output.
 use calls::Progress;
 use record::Step;
 use reporting::Performed;

@@ -1,4 +1,5 @@
 // 10.1.1 and 10.5.1 [[GetPrototypeOf]].
+// setting, setting_trap: 10.1.2 and 10.5.2 [[SetPrototypeOf]]. chain: the walk of 10.1.2.1 step 7.
 use calls::BooleanOut;
 use calls::Entered;
 use calls::Progress;

@@ -1,4 +1,5 @@
 // What a step reports once its run has ended, and the commit of its write.
+// report_words: a report as ten words, for C.
 use calls::Progress;
 use internal_methods::Failure;
 use sheet::counting;

@@ -1,4 +1,5 @@
-// 10.1.9 and 10.5.9 [[Set]].
+// 10.1.9 and 10.5.9 [[Set]]: one cycle of both kinds of object.
+// trap: 10.5.9 from step 7 on. receiver: 10.1.9.2 steps 2.c to 2.e.
 use calls::Entered;
 use calls::OwnPropertyOut;
 use calls::Progress;

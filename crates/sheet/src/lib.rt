@@ -1,4 +1,5 @@
-// Answer sheets as byte records, and refusals 1 to 3 over them.
+// Answer sheets as byte records, and refusal 1 over them.
+// answers: the next answer from a place on. counting: how many are still to come.
 use property::DescriptorObject;
 use value::Value;
 

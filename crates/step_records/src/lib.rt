@@ -1,4 +1,6 @@
 // The refusals over a call's records, in their order: 1 to 4 over the step, then 1 to 3 over the sheet.
+// parts: which parts a code uses. form: refusal 1. reading: the step of its bytes. kinds: refusals 2 and 3.
+// value_tests: refusals 2 to 4 over a value and a descriptor. sheet_tests: refusals 2 and 3 over the sheet.
 use record::Counts;
 use record::Refusal;
 use record::Step;

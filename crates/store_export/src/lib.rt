@@ -1,5 +1,6 @@
 // The store for C and Rust to link. A key is a word: string s is 2 s, and symbol s is 2 s + 1. Each function tests what
 // it is lent; where it refuses, it changes nothing and answers 257.
+// conditions: those tests.
 use property::Property;
 use store_read::Place;
 use store_read::finding;

@@ -1,4 +1,5 @@
 // Reading the store's words.
+// read: counts and objects. finding: where a property stands, and what it is. own_key_order: 10.1.11.1, by way of sorted_words.
 use store::Object;
 
 pub mod finding;

@@ -1,5 +1,5 @@
-// Writing the store's words.
-// The one write of a step, to the store's words.
+// Writing the store's words: the one write of a step.
+// write: what a write is, and objects. properties: set and add one. removal: remove one.
 ghost use Rattle.store.specs.Words.{storeOf};
 ghost use Rattle.store_write.specs.Write.{Becomes, applied, writtenTo, fitsIn};
 

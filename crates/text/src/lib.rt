@@ -1,4 +1,5 @@
 // The strings that were entered, by number, in lent cells: a count, then for each string its length and 32 code units.
+// entry: entering one. indices: which strings are array indices.
 use property::ArrayIndex;
 ghost use mathlib.Core.Path.{_≡_};
 ghost use mathlib.Core.Bool.{true};

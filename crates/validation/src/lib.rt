@@ -1,4 +1,5 @@
 // 10.1.6.3 ValidateAndApplyPropertyDescriptor, and 10.1.6.2.
+// applying: step 6. outcome: yes or no, and the property after it. merging: two descriptors into one.
 use descriptors::attributes;
 use descriptors::completion;
 use descriptors::fields;
