@@ -18,7 +18,7 @@ use Rattle.performing.proofs.reads.key_or_first.Reads as key-or-first-r
 use Rattle.performing.proofs.writes.write_result.Reads as write-result-reads
 use Rattle.extensibility.proofs.prevention.prevent_extensions.Reads as prevent-extensions-reads
 use Rattle.descriptors.proofs.to_property_descriptor.Reads as to-property-descriptor-reads
-use Rattle.prototypes.proofs.setting.set_prototype_of.Reads as set-prototype-of-reads
+use Rattle.prototypes.proofs.set_prototype_of.Reads as set-prototype-of-reads
 use Rattle.setting.proofs.set.Reads as set-reads
 
 set-prototype-of-requires : tie.Need-set-prototype-of-requires
