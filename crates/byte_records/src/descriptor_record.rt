@@ -1,5 +1,4 @@
 // A descriptor in 29 bytes: a presence mask, a byte of booleans, then value, get and set.
-use crate::numbers;
 use crate::value_record;
 use descriptors::fields;
 use descriptors::flags;
@@ -45,8 +44,8 @@ pub fn descriptor_at(bytes: &[u8], at: usize) -> DescriptorObject
     requires { ⌜ at + 29 ≤ length (now bytes) ⌝ }
     ensures { λ r. ⌜ r ≡ descriptorAt (now (bytes .entry)) at ⌝ }
 {
-    let mask = numbers::wide(bytes[at]);
-    let flags = numbers::wide(bytes[at + 1]);
+    let mask = bits::wide(bytes[at]);
+    let flags = bits::wide(bytes[at + 1]);
     DescriptorObject {
         enumerable: flag_of(has_bit(mask, 1), has_bit(flags, 1)),
         configurable: flag_of(has_bit(mask, 2), has_bit(flags, 2)),
@@ -95,8 +94,8 @@ pub fn is_descriptor_at(bytes: &[u8], at: usize) -> bool
     requires { ⌜ at + 29 ≤ length (now bytes) ⌝ }
     ensures { λ r. ⌜ r ≡ isDescriptorAt (now (bytes .entry)) at ⌝ }
 {
-    let mask = numbers::wide(bytes[at]);
-    let flags = numbers::wide(bytes[at + 1]);
+    let mask = bits::wide(bytes[at]);
+    let flags = bits::wide(bytes[at + 1]);
     if mask < 64 {
         if flags < 8 {
             if are_flags_formed(mask, flags) {

@@ -1,14 +1,9 @@
 // Numbers in bytes, little-endian.
+use value_operations::bits::wide;
 ghost use mathlib.Core.Path.{_≡_};
 ghost use Prim.Native.Nat.{_+_, _<_, _≤_};
 ghost use lib.ListN.{length};
 ghost use Rattle.record.specs.Bytes.{numberAt};
-
-pub fn wide(b: u8) -> u64
-    ensures { λ r. ⌜ (r ≡ b) × (r < 256) ⌝ }
-{
-    b as u64
-}
 
 // The number in 2 bytes.
 pub fn short_at(bytes: &[u8], at: usize) -> u64

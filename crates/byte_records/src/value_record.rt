@@ -1,7 +1,7 @@
 // A value in 9 bytes: a kind, then its payload.
-use crate::numbers::wide;
 use crate::numbers::word_at;
 use value::Value;
+use value_operations::bits::wide;
 use value_operations::encoding;
 ghost use mathlib.Core.Path.{_≡_};
 ghost use Prim.Native.Nat.{_+_, _<_, _≤_};

@@ -5,15 +5,10 @@ use steps::Completion;
 use steps::Outcome;
 use steps::Report;
 use value::Value;
+use value_operations::bits;
 use value_operations::encoding;
-ghost use Prim.Native.Nat.{_+_, _*_, _<_, _≤_};
+ghost use Prim.Native.Nat.{_+_, _*_, _≤_};
 ghost use lib.ListN.{length};
-
-fn wide(b: u8) -> usize
-    ensures { λ r. ⌜ r < 256 ⌝ }
-{
-    b as usize
-}
 
 fn print(text: &[u8]) {
     io::write_all(1, text);
@@ -132,7 +127,7 @@ fn print_completion(c: Completion, output: &[u8]) {
 
 fn print_message(n: u64) {
     let mut text = [0u8; 256];
-    let size = wide(message::message_length(n));
+    let size = bits::wide(message::message_length(n)) as usize;
     let mut i: usize = 0;
     while i < size {
         text[i] = message::message_byte(n, i);

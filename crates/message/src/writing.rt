@@ -1,16 +1,11 @@
 // The text of a message, written into lent bytes.
+use value_operations::bits;
 ghost use mathlib.Core.Path.{_≡_};
 ghost use Prim.Native.Nat.{_≤_};
 ghost use lib.ListN.{length};
 ghost use Rattle.text.specs.Table.{overwrite};
 ghost use Rattle.internal_methods.specs.Messages.{messageText};
 ghost use Rattle.message.specs.Written.{written};
-
-fn wide(b: u8) -> usize
-    ensures { λ r. ⌜ r ≡ b ⌝ }
-{
-    b as usize
-}
 
 fn write(n: u64, text: &mut [u8], size: usize)
     requires { ⌜ (size ≡ length (messageText n)) × (size ≤ length (now text)) ⌝ }
@@ -28,7 +23,7 @@ pub fn write_message(n: u64, text: &mut [u8]) -> u64
     ensures size { λ r. ⌜ r ≡ length (messageText n) ⌝ }
     ensures after { λ _. ⌜ now (text .exit) ≡ written (messageText n) (now (text .entry)) ⌝ }
 {
-    let size = wide(crate::message_length(n));
+    let size = bits::wide(crate::message_length(n)) as usize;
     if size <= text.len() {
         write(n, text, size);
         return size as u64;

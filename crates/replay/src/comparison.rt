@@ -1,4 +1,5 @@
 // What a call ends in, beside what the line expects.
+use value_operations::bits;
 ghost use Prim.Native.Nat.{_<_, _≤_, _+_};
 ghost use lib.ListN.{length};
 
@@ -11,18 +12,12 @@ pub struct Ending {
     pub size: usize,
 }
 
-fn wide(b: u8) -> u64
-    ensures { λ r. ⌜ r < 256 ⌝ }
-{
-    b as u64
-}
-
 // Zero past the end.
 fn byte_at(bytes: &[u8], at: usize) -> u64
     ensures { λ r. ⌜ r < 256 ⌝ }
 {
     if at < bytes.len() {
-        return wide(bytes[at]);
+        return bits::wide(bytes[at]);
     }
     0
 }
@@ -185,7 +180,7 @@ fn print_bytes(bytes: &[u8]) {
     let n = bytes.len();
     let mut i: usize = 0;
     while i < n {
-        io::print_hex(1, wide(bytes[i]), 2);
+        io::print_hex(1, bits::wide(bytes[i]), 2);
         i += 1;
     }
     print(b"\n");

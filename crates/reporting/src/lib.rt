@@ -7,6 +7,7 @@ use steps::Completion;
 use steps::Outcome;
 use steps::Report;
 use store_write::Write;
+use value_operations::bits;
 ghost use mathlib.Core.Path.{_≡_};
 ghost use mathlib.Core.Bool.{true};
 ghost use Prim.Native.Nat.{_<_, _-_};
@@ -29,12 +30,6 @@ pub enum Performed {
 
 const MAXIMUM_CALLS: usize = 2048;
 
-fn wide(b: u8) -> usize
-    ensures { λ r. ⌜ r ≡ b ⌝ }
-{
-    b as usize
-}
-
 // Where a step begins: at the first answer, with all its calls.
 pub fn start(sheet: &[u8]) -> Progress
     requires { ⌜ 0 < length (now sheet) ⌝ }
@@ -42,7 +37,7 @@ pub fn start(sheet: &[u8]) -> Progress
 {
     Progress {
         at: 1,
-        left: wide(sheet[0]),
+        left: bits::wide(sheet[0]) as usize,
         calls: MAXIMUM_CALLS,
     }
 }
@@ -52,7 +47,7 @@ fn answers_used(sheet: &[u8], s: Progress) -> u64
     requires { ⌜ 0 < length (now sheet) ⌝ }
     ensures { λ r. ⌜ r ≡ length (sheetOf (now (sheet .entry))) - length (answersAt (now (sheet .entry)) (s .at) (s .left)) ⌝ }
 {
-    let all = counting::answers_left(sheet, 1, wide(sheet[0]));
+    let all = counting::answers_left(sheet, 1, bits::wide(sheet[0]) as usize);
     let rest = counting::answers_left(sheet, s.at, s.left);
     if rest < all {
         return (all - rest) as u64;

@@ -4,6 +4,7 @@ use crate::NextAnswer;
 use byte_records::descriptor_record;
 use byte_records::numbers;
 use byte_records::value_record;
+use value_operations::bits;
 ghost use mathlib.Core.Path.{_≡_};
 ghost use mathlib.Core.Bool.{_&&_};
 ghost use Prim.Native.Nat.{_+_, _*_, _<_, _≤_};
@@ -118,12 +119,6 @@ fn are_answers_at(bytes: &[u8], at: usize, n: usize) -> bool
     i == bytes.len()
 }
 
-fn size_of(b: u8) -> usize
-    ensures { λ r. ⌜ r ≡ b ⌝ }
-{
-    b as usize
-}
-
 // Refusal 1 over the sheet.
 pub fn is_sheet(bytes: &[u8]) -> bool
     ensures { λ r. ⌜ r ≡ isSheet (now (bytes .entry)) ⌝ }
@@ -131,7 +126,7 @@ pub fn is_sheet(bytes: &[u8]) -> bool
     if bytes.len() == 0 {
         return false;
     }
-    let n = size_of(bytes[0]);
+    let n = bits::wide(bytes[0]) as usize;
     if n <= 64 {
         return are_answers_at(bytes, 1, n);
     }

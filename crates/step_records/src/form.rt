@@ -1,9 +1,9 @@
 // Steps as byte records of 58 bytes (code, object, key, value, receiver, descriptor), and refusal 1 over them.
 use crate::parts;
 use byte_records::descriptor_record;
-use byte_records::numbers;
 use byte_records::value_record;
 use value::Value;
+use value_operations::bits;
 ghost use mathlib.Core.Path.{_≡_};
 ghost use mathlib.Core.Bool.{true, false};
 ghost use Prim.Native.Nat.{_≤_};
@@ -94,8 +94,8 @@ pub fn is_step(bytes: &[u8]) -> bool
     if bytes.len() != 58 {
         return false;
     }
-    let code = numbers::wide(bytes[0]);
-    let object = numbers::wide(bytes[1]);
+    let code = bits::wide(bytes[0]);
+    let object = bits::wide(bytes[1]);
     if is_code(code) {
         if is_object_formed(code, object) {
             if are_values_formed(code, bytes) {

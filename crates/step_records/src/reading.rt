@@ -1,8 +1,8 @@
 // Reading a step from its 58 bytes.
 use byte_records::descriptor_record;
-use byte_records::numbers;
 use byte_records::value_record;
 use record::Step;
+use value_operations::bits;
 ghost use mathlib.Core.Path.{_≡_};
 ghost use Prim.Native.Nat.{_≤_};
 ghost use lib.ListN.{length};
@@ -13,8 +13,8 @@ pub fn step_of(bytes: &[u8]) -> Step
     ensures { λ r. ⌜ r ≡ stepOf (now (bytes .entry)) ⌝ }
 {
     Step {
-        code: numbers::wide(bytes[0]),
-        object: numbers::wide(bytes[1]),
+        code: bits::wide(bytes[0]),
+        object: bits::wide(bytes[1]),
         key: value_record::value_at(bytes, 2),
         value: value_record::value_at(bytes, 11),
         receiver: value_record::value_at(bytes, 20),

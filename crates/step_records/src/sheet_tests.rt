@@ -5,18 +5,13 @@ use record::Counts;
 use record::Test;
 use sheet::AnswerEnd;
 use sheet::NextAnswer;
+use value_operations::bits;
 ghost use mathlib.Core.Path.{_≡_};
 ghost use Prim.Native.Nat.{_+_, _*_, _<_, _≤_};
 ghost use lib.ListN.{length};
 ghost use Rattle.record.specs.Tests.{isMade, isKnown, asks};
 ghost use Rattle.record.specs.Sheet.{valuesAt, sheetOf, valuesPass, sheetPasses};
 ghost use Rattle.sheet.specs.Next.{placeAfter, KeysWithin, nextPasses};
-
-fn size_of(b: u8) -> usize
-    ensures { λ r. ⌜ r ≡ b ⌝ }
-{
-    b as usize
-}
 
 // Whether n values pass.
 fn values_pass(test: Test, counts: Counts, bytes: &[u8], at: usize, n: usize) -> bool
@@ -69,7 +64,7 @@ fn sheet_passes(test: Test, counts: Counts, bytes: &[u8]) -> bool
         return true;
     }
     let mut at: usize = 1;
-    let mut left: usize = size_of(bytes[0]);
+    let mut left: usize = bits::wide(bytes[0]) as usize;
     while 0 < left {
         let next = sheet::next_answer(bytes, at, left);
         if next_passes(test, counts, bytes, next) {

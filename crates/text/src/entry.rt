@@ -15,12 +15,6 @@ const MAXIMUM_STRINGS: usize = 256;
 
 const ROW_SIZE: usize = 33;
 
-fn wide(x: u16) -> usize
-    ensures { λ r. ⌜ r ≡ x ⌝ }
-{
-    x as usize
-}
-
 // Whether two strings have the same code units.
 fn same_text(a: &[u16], b: &[u16]) -> bool
     ensures { λ r. ⌜ r ≡ sameText (now (a .entry)) (now (b .entry)) ⌝ }
@@ -45,7 +39,7 @@ fn find(cells: &[u16], units: &[u16]) -> Found
     ensures { λ r. ⌜ r ≡ found (numberOf (readTable (now (cells .entry))) (now (units .entry))) ⌝ }
 {
     if crate::is_table(cells) {
-        let size = wide(cells[0]);
+        let size = crate::wide(cells[0]);
         let mut n: usize = 0;
         while n < size {
             if same_text(crate::text_at(cells, n), units) {
@@ -93,7 +87,7 @@ pub fn enter(cells: &mut [u16], units: &[u16]) -> EntryAnswer
             match find(cells, units) {
                 Found::Number(n) => EntryAnswer::Entered(n),
                 Found::Nothing => {
-                    let n = wide(cells[0]);
+                    let n = crate::wide(cells[0]);
                     if n < MAXIMUM_STRINGS {
                         add(cells, units, n);
                         EntryAnswer::Entered(n as u64)

@@ -6,12 +6,6 @@ ghost use lib.ListN.{length};
 ghost use Rattle.property.specs.ArrayIndex.{decimal, withinIndex, arrayIndex};
 ghost use Rattle.property.specs.Answers.{indexAnswer};
 
-fn wide(n: u16) -> u64
-    ensures { λ r. ⌜ r ≡ n ⌝ }
-{
-    n as u64
-}
-
 // The number that the digits say, if they are digits all and the number is an index.
 fn decimal_index(units: &[u16]) -> ArrayIndex
     requires { ⌜ length (now units) ≤ 10 ⌝ }
@@ -23,7 +17,7 @@ fn decimal_index(units: &[u16]) -> ArrayIndex
         let c = units[i];
         match c {
             48..=57 => {
-                n = 10 * n + wide(c - 48);
+                n = 10 * n + crate::wide(c - 48) as u64;
             }
             _ => {
                 return ArrayIndex::NotIndex;

@@ -40,6 +40,7 @@ const ROW_SIZE: usize = 33;
 
 const TABLE_SIZE: usize = 8449;
 
+// A code unit as a word.
 fn wide(x: u16) -> usize
     ensures { λ r. ⌜ r ≡ x ⌝ }
 {

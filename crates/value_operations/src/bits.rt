@@ -1,6 +1,6 @@
-// The bits of a number.
+// The bits of a number: what one adds to it, and a byte as a word.
 ghost use mathlib.Core.Path.{_≡_};
-ghost use Prim.Native.Nat.{_≤_};
+ghost use Prim.Native.Nat.{_<_, _≤_};
 ghost use Rattle.value.specs.Bits.{weight};
 
 // What a bit adds to its number.
@@ -8,4 +8,11 @@ pub fn weight(b: bool, n: u64) -> u64
     ensures { λ r. ⌜ (r ≡ weight b n) × (r ≤ n) ⌝ }
 {
     if b { n } else { 0 }
+}
+
+// A byte as a word.
+pub fn wide(b: u8) -> u64
+    ensures { λ r. ⌜ (r ≡ b) × (r < 256) ⌝ }
+{
+    b as u64
 }

@@ -1,6 +1,6 @@
 // What a value is: its language type, ToBoolean, IsCallable, and the object that it may be.
 // equality: SameValue. keys: values as property keys, and back. encoding: values as kind and payload, and back.
-// bits: the weight of a bit.
+// bits: the weight of a bit, and a byte as a word.
 use value::ObjectResult;
 use value::Value;
 ghost use mathlib.Core.Path.{_≡_};

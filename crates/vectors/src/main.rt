@@ -18,16 +18,11 @@ use step_records::value_tests;
 use text::indices;
 use validation::merging;
 use validation::outcome;
+use value_operations::bits;
 use value_operations::equality;
 ghost use mathlib.Core.Path.{_≡_};
 ghost use Prim.Native.Nat.{_<_, _≤_, _+_};
 ghost use lib.ListN.{length};
-
-fn place(b: u8) -> usize
-    ensures { λ r. ⌜ r < 256 ⌝ }
-{
-    b as usize
-}
 
 fn truth(b: u8) -> bool {
     b != 0
@@ -51,7 +46,7 @@ fn to_boolean(r: &[u8]) -> bool
     requires { ⌜ length (now r) ≡ 192 ⌝ }
 {
     let v = value_record::value_at(r, 1);
-    let n = place(r[10]);
+    let n = bits::wide(r[10]) as usize;
     same_bool(value_operations::to_boolean(v, n), truth(r[11]))
 }
 
@@ -106,7 +101,7 @@ fn is_index(r: &[u8], answer: ArrayIndex) -> bool
 fn array_index(r: &[u8]) -> bool
     requires { ⌜ length (now r) ≡ 192 ⌝ }
 {
-    let n = place(r[1]);
+    let n = bits::wide(r[1]) as usize;
     let text = units(r);
     is_index(r, index_in(&text, n))
 }
@@ -234,10 +229,10 @@ fn step_tests(r: &[u8]) -> bool
     requires { ⌜ length (now r) ≡ 192 ⌝ }
 {
     let n = Counts {
-        objects: numbers::wide(r[1]),
-        strings: numbers::wide(r[2]),
+        objects: bits::wide(r[1]),
+        strings: bits::wide(r[2]),
     };
-    let end = 5 + place(r[4]);
+    let end = 5 + bits::wide(r[4]) as usize;
     if end <= 80 {
         step_refusal(&r[5..end], n, truth(r[3])) == r[80]
     } else {
@@ -264,10 +259,10 @@ fn sheet_tests(r: &[u8]) -> bool
     requires { ⌜ length (now r) ≡ 192 ⌝ }
 {
     let n = Counts {
-        objects: numbers::wide(r[1]),
-        strings: numbers::wide(r[2]),
+        objects: bits::wide(r[1]),
+        strings: bits::wide(r[2]),
     };
-    let end = 4 + place(r[3]);
+    let end = 4 + bits::wide(r[3]) as usize;
     if end <= 180 {
         sheet_refusal(&r[4..end], n) == r[180]
     } else {
@@ -322,7 +317,7 @@ fn turn(passed: &mut [u64; 256], failed: &mut [u64; 256]) -> bool {
     if got < 192 {
         return false;
     }
-    let kind = place(r[0]);
+    let kind = bits::wide(r[0]) as usize;
     if passes(&r) {
         counted(passed, kind);
     } else {

@@ -9,16 +9,15 @@ use Rattle.reporting.proofs.answers_used.Statement.{statement}
 use Rattle.reporting.proofs.answers_used.Tie as tie
 use Rattle.reporting.proofs.answers_used.Reads as reads
 use Rattle.reporting.proofs.answers_used.Lts as lts
-use Rattle.reporting.proofs.wide.Reads as wide-reads
 use Rattle.sheet.proofs.counting.answers_left.Reads as answers-left-reads
 
 returns : tie.Need-returns
 unfolding sheetOf
-returns c = rw (c .before .before .answers-left .ensures, c .before .answers-left2 .ensures, c .before .before .before .wide .ensures)
+returns c = rw (c .before .before .answers-left .ensures, c .before .answers-left2 .ensures, c .before .before .before .wide .ensures .0)
 
 returns-2 : tie.Need-returns-2
 unfolding sheetOf
-returns-2 c = let h : length (sheetOf (now (c .before .before .before .before .before .before .args .sheet))) ≤ length (answersAt (now (c .before .before .before .before .before .before .args .sheet)) (c .before .before .before .before .before .before .args .s .at) (c .before .before .before .before .before .before .args .s .left)) = rw (sym (c .before .answers-left2 .ensures), sym (c .before .before .before .wide .ensures), sym (c .before .before .answers-left .ensures)) (c .if1 .left) in omega arith
+returns-2 c = let h : length (sheetOf (now (c .before .before .before .before .before .before .args .sheet))) ≤ length (answersAt (now (c .before .before .before .before .before .before .args .sheet)) (c .before .before .before .before .before .before .args .s .at) (c .before .before .before .before .before .before .args .s .left)) = rw (sym (c .before .answers-left2 .ensures), sym (c .before .before .before .wide .ensures .0), sym (c .before .before .answers-left .ensures)) (c .if1 .left) in omega arith
 
 pub answers-used-spec : {M : Type 1} → statement M
 answers-used-spec =

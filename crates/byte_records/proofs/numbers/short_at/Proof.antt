@@ -5,7 +5,6 @@ use Rattle.byte_records.proofs.numbers.short_at.Statement.{statement}
 use Rattle.byte_records.proofs.numbers.short_at.Tie as tie
 use Rattle.byte_records.proofs.numbers.short_at.Reads as reads
 use Rattle.byte_records.proofs.numbers.short_at.Lts as lts
-use Rattle.byte_records.proofs.numbers.wide.Reads as wide-reads
 
 returns : tie.Need-returns
 returns c = rw (short-of _ _) (omega arith, omega arith)

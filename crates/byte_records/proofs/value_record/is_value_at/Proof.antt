@@ -5,7 +5,6 @@ use Rattle.byte_records.proofs.value_record.is_value_at.Statement.{stat
 use Rattle.byte_records.proofs.value_record.is_value_at.Tie as tie
 use Rattle.byte_records.proofs.value_record.is_value_at.Reads as reads
 use Rattle.byte_records.proofs.value_record.is_value_at.Lts as lts
-use Rattle.byte_records.proofs.numbers.wide.Reads as wide-reads
 use Rattle.byte_records.proofs.numbers.word_at.Reads as word-at-reads
 
 returns : tie.Need-returns

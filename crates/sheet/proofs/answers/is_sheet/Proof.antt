@@ -13,11 +13,11 @@ returns c = rw (le-ltb 0 (length (c .before .before .args .bytes .now)) (omega a
 
 returns-2 : tie.Need-returns-2
 unfolding isSheet
-returns-2 c = rw (lt-ltb 0 (length (c .before .before .before .before .before .before .args .bytes .now)) (omega arith), sym (c .before .before .size-of .ensures), le-leb _ _ (c .before .if2 .taken)) (c .are-answers-at .ensures)
+returns-2 c = rw (lt-ltb 0 (length (c .before .before .before .before .before .before .args .bytes .now)) (omega arith), sym (c .before .before .wide .ensures .0), le-leb _ _ (c .before .if2 .taken)) (c .are-answers-at .ensures)
 
 returns-3 : tie.Need-returns-3
 unfolding isSheet
-returns-3 c = rw (lt-ltb 0 (length (c .before .before .before .before .before .args .bytes .now)) (omega arith), sym (c .before .size-of .ensures), lt-leb _ _ (c .if2 .left))
+returns-3 c = rw (lt-ltb 0 (length (c .before .before .before .before .before .args .bytes .now)) (omega arith), sym (c .before .wide .ensures .0), lt-leb _ _ (c .if2 .left))
 
 pub is-sheet-spec : {M : Type 1} → statement M
 is-sheet-spec = tie.close (tie.spec returns (λ c. search needs) (λ c κs. search needs) (λ c κs. search needs) returns-2 returns-3)

@@ -16,12 +16,9 @@ abbrev μ-loop : tie.MeasureT-loop
 returns : tie.Need-returns Inv-loop μ-loop
 returns c = sheet-empty (asks (c .before .before .args .test) (c .before .before .args .counts)) (c .before .before .args .bytes .now) (c .if1 .taken)
 
-shared-slice-read-size-of : tie.Need-shared-slice-read-size-of Inv-loop μ-loop
-shared-slice-read-size-of c = omega arith
-
 loop-holds : tie.Need-loop-holds Inv-loop μ-loop
 unfolding sheetOf
-loop-holds c = rw (c .size-of .ensures)
+loop-holds c = rw (c .wide .ensures .0)
 
 next-passes-requires : tie.Need-next-passes-requires Inv-loop μ-loop
 next-passes-requires c κs = (c .next-answer .ensures) .within
@@ -45,4 +42,4 @@ returns-4 : tie.Need-returns-4 Inv-loop μ-loop
 returns-4 c = sym (c .before .loop .inv ∙ sheet-end (asks (c .before .before .before .before .before .before .args .test) (c .before .before .before .before .before .before .args .counts)) _ _ _ (c .loop-test .left))
 
 pub sheet-passes-spec : {M : Type 1} → statement M
-sheet-passes-spec = tie.close (tie.spec Inv-loop μ-loop returns shared-slice-read-size-of (λ c κs. search needs) loop-holds (λ c κs. search needs) next-passes-requires (λ c κs. search needs) (λ c. search needs) (λ c. search needs) returns-2 sub-left loop-less loop-again returns-3 returns-4)
+sheet-passes-spec = tie.close (tie.spec Inv-loop μ-loop returns (λ c. search needs) (λ c κs. search needs) loop-holds (λ c κs. search needs) next-passes-requires (λ c κs. search needs) (λ c. search needs) (λ c. search needs) returns-2 sub-left loop-less loop-again returns-3 returns-4)
