@@ -1,25 +1,12 @@
 // Runs steps and string entries from the standard input over one store, and prints a line for each.
 // A call is a head of 8 bytes (1 step or 2 string, 0, and three 16-bit lengths: record, sheet, output), then the record and the sheet; tests/day.mjs makes them.
 use byte_records::numbers;
-ghost use Prim.Native.Nat.{_<_, _≤_, _+_, _*_};
+ghost use Prim.Native.Nat.{_≤_};
 ghost use lib.ListN.{length};
 
 mod printing;
 
 const CAPACITY: usize = 4096;
-
-fn wide(b: u8) -> usize
-    ensures { λ r. ⌜ r < 256 ⌝ }
-{
-    b as usize
-}
-
-fn short(head: &[u8; 8], at: usize) -> usize
-    requires { ⌜ at + 2 ≤ 8 ⌝ }
-    ensures { λ r. ⌜ r < 65536 ⌝ }
-{
-    wide(head[at]) + 256 * wide(head[at + 1])
-}
 
 fn run_step(
     words: &mut [u64],
@@ -33,27 +20,12 @@ fn run_step(
     printing::print_report(n, report, output);
 }
 
-// Two bytes for each code unit.
-fn unit(call: &[u8], at: usize) -> u16
-    requires { ⌜ at + 2 ≤ length (now call) ⌝ }
-{
-    (numbers::short_at(call, at) % 65536) as u16
-}
-
-// How many code units the call has; of a longer one the first 64, which are too many too.
-fn unit_count(call: &[u8]) -> usize
-    ensures { λ r. ⌜ (2 * r ≤ length (now (call .entry))) × (r ≤ 64) ⌝ }
-{
-    let n = call.len() / 2;
-    if n < 64 { n } else { 64 }
-}
-
 fn run_entry(strings: &mut [u16], n: u64, call: &[u8]) {
     let mut units = [0u16; 64];
-    let size = unit_count(call);
+    let size = numbers::unit_count(call);
     let mut i: usize = 0;
     while i < size {
-        units[i] = unit(call, 2 * i);
+        units[i] = numbers::unit_at(call, 2 * i);
         i += 1;
     }
     let report = step::enter_string(strings, &units[..size]);
@@ -105,9 +77,9 @@ fn turn(words: &mut [u64], strings: &mut [u16], n: u64) -> bool {
         return false;
     }
     let kind = head[0];
-    let size = short(&head, 2);
-    let end = size + short(&head, 4);
-    let room = short(&head, 6);
+    let size = numbers::short_at(&head, 2) as usize;
+    let end = size + numbers::short_at(&head, 4) as usize;
+    let room = numbers::short_at(&head, 6) as usize;
     if CAPACITY < end {
         return false;
     }

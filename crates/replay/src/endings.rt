@@ -1,12 +1,9 @@
-// What a call ends in, for comparing, and what a line's bytes say.
+// What a call ends in, for comparing.
 use crate::comparison::Ending;
 use crate::readout;
-use byte_records::numbers;
 use descriptor_entries::operations::Verdict;
 use reporting::report_words;
 use steps::Report;
-ghost use Prim.Native.Nat.{_≤_, _*_, _+_};
-ghost use lib.ListN.{length};
 
 pub fn ended(report: Report, ours: &mut [u8]) -> Ending {
     let outcome = report.outcome;
@@ -36,21 +33,6 @@ fn result(size: usize) -> Ending {
         answers: 0,
         size: size,
     }
-}
-
-// Two bytes for each code unit.
-pub fn unit(bytes: &[u8], at: usize) -> u16
-    requires { ⌜ at + 2 ≤ length (now bytes) ⌝ }
-{
-    (numbers::short_at(bytes, at) % 65536) as u16
-}
-
-// How many code units there are; of a longer string the first 64, which are too many too.
-pub fn unit_count(bytes: &[u8]) -> usize
-    ensures { λ r. ⌜ (2 * r ≤ length (now (bytes .entry))) × (r ≤ 64) ⌝ }
-{
-    let n = bytes.len() / 2;
-    if n < 64 { n } else { 64 }
 }
 
 pub fn judged(verdict: Verdict, ours: &mut [u8]) -> Ending {

@@ -1,6 +1,7 @@
 // A call of an entry by its kind (tests/engines/1-records.js), and what it ends in.
 use crate::comparison::Ending;
 use crate::endings;
+use byte_records::numbers;
 ghost use mathlib.Core.Bool.{true};
 ghost use Prim.Native.Nat.{_*_, _+_};
 
@@ -8,10 +9,10 @@ const UNKNOWN: u64 = 255;
 
 fn enter(strings: &mut [u16], bytes: &[u8], ours: &mut [u8]) -> Ending {
     let mut units = [0u16; 64];
-    let size = endings::unit_count(bytes);
+    let size = numbers::unit_count(bytes);
     let mut i: usize = 0;
     while i < size {
-        units[i] = endings::unit(bytes, 2 * i);
+        units[i] = numbers::unit_at(bytes, 2 * i);
         i += 1;
     }
     endings::ended(step::enter_string(strings, &units[..size]), ours)

@@ -1,19 +1,6 @@
 // Lines of hexadecimal digits from the standard input.
-ghost use Prim.Native.Nat.{_<_, _≤_, _+_, _*_};
+ghost use Prim.Native.Nat.{_≤_, _*_};
 ghost use lib.ListN.{length};
-
-fn wide(b: u8) -> usize
-    ensures { λ r. ⌜ r < 256 ⌝ }
-{
-    b as usize
-}
-
-pub fn short(head: &[u8; 18], at: usize) -> usize
-    requires { ⌜ at + 2 ≤ 18 ⌝ }
-    ensures { λ r. ⌜ r < 65536 ⌝ }
-{
-    wide(head[at]) + 256 * wide(head[at + 1])
-}
 
 // The value of a hexadecimal digit, and 16 of anything else.
 fn digit(b: u8) -> u8

@@ -1,6 +1,7 @@
 // Performs the calls that a JavaScript engine performed, and counts those that end otherwise here than there.
 // tests/engines/1-records.js has the layout of a line.
 use crate::comparison::Ending;
+use byte_records::numbers;
 ghost use Prim.Native.Nat.{_<_, _≤_, _+_, _*_};
 ghost use lib.ListN.{length};
 
@@ -146,10 +147,10 @@ fn turn(
     }
     let formed = line_input::decode(&mut head, 9);
     let kind = head[0];
-    let room = line_input::short(&head, 1);
-    let size = line_input::short(&head, 3);
-    let end = size + line_input::short(&head, 5);
-    let n = end + line_input::short(&head, 7);
+    let room = numbers::short_at(&head, 1) as usize;
+    let size = numbers::short_at(&head, 3) as usize;
+    let end = size + numbers::short_at(&head, 5) as usize;
+    let n = end + numbers::short_at(&head, 7) as usize;
     if got < 18 {
         return broken(tally);
     }

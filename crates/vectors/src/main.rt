@@ -50,20 +50,13 @@ fn to_boolean(r: &[u8]) -> bool
     same_bool(value_operations::to_boolean(v, n), truth(r[11]))
 }
 
-// The code unit in two bytes
-fn unit(r: &[u8], at: usize) -> u16
-    requires { ⌜ at + 2 ≤ length (now r) ⌝ }
-{
-    (numbers::short_at(r, at) % 65536) as u16
-}
-
 fn units(r: &[u8]) -> [u16; 32]
     requires { ⌜ length (now r) ≡ 192 ⌝ }
 {
     let mut units = [0u16; 32];
     let mut i: usize = 0;
     while i < 32 {
-        units[i] = unit(r, 2 + 2 * i);
+        units[i] = numbers::unit_at(r, 2 + 2 * i);
         i += 1;
     }
     units
