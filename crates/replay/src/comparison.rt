@@ -1,4 +1,5 @@
 // What a call ends in, beside what the line expects.
+use crate::print;
 use value_operations::bits;
 ghost use Prim.Native.Nat.{_<_, _≤_, _+_};
 ghost use lib.ListN.{length};
@@ -170,10 +171,6 @@ pub fn difference(
         return 4;
     }
     2
-}
-
-fn print(text: &[u8]) {
-    io::write_all(1, text);
 }
 
 fn print_bytes(bytes: &[u8]) {

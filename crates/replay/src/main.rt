@@ -15,6 +15,10 @@ mod tally;
 // How many differences are shown.
 const SHOWN: u64 = 10;
 
+fn print(text: &[u8]) {
+    io::write_all(1, text);
+}
+
 // The call, over an output of 0xee.
 fn performed(
     words: &mut [u64],
@@ -106,7 +110,7 @@ fn run(
 
 // A line that cannot be read counts as a difference, and is the last.
 fn broken(tally: &mut [u64; 128]) -> bool {
-    io::write_all(1, b"a line is broken\n");
+    print(b"a line is broken\n");
     tally::count_difference(tally);
     false
 }

@@ -1,4 +1,5 @@
 // What is counted of calls and comparisons, and the report of it.
+use crate::print;
 ghost use Prim.Native.Nat.{_<_, _≤_};
 
 // Where each is counted: messages by their numbers, those that the engine's text tells alone, refusals, kinds of call, outcomes,
@@ -66,10 +67,6 @@ pub fn lines(tally: &[u64; 128]) -> u64 {
 
 pub fn differences(tally: &[u64; 128]) -> u64 {
     count_of(tally, DIFFERENCES)
-}
-
-fn print(text: &[u8]) {
-    io::write_all(1, text);
 }
 
 fn print_count(name: &[u8], tally: &[u64; 128], at: u64) {
