@@ -18,6 +18,8 @@ pub mod listing;
 mod reads;
 mod writes;
 
+pub const MAXIMUM_PROPERTIES: usize = 256;
+
 // Codes 1 to 3
 fn perform_creation(
     words: &[u64],

@@ -1,9 +1,11 @@
 // A step of [[OwnPropertyKeys]]: its keys stand at the output's start, 9 bytes each.
+use crate::MAXIMUM_PROPERTIES;
 use calls::Progress;
 use key_lists::key_bytes;
 use own_keys::loading;
 use own_keys::loading::KeyList;
 use own_keys::loading::KeysOut;
+use reporting::MAXIMUM_CALLS;
 use steps::Completion;
 use steps::Report;
 ghost use mathlib.Core.Path.{_≡_};
@@ -24,10 +26,6 @@ ghost use Rattle.steps.specs.Perform as result;
 ghost use Rattle.steps.specs.Step.{ended};
 ghost use Rattle.reporting.specs.Reports.{start};
 ghost use Rattle.reporting.specs.Memory.{shown, shownBy};
-
-const MAXIMUM_CALLS: usize = 2048;
-
-const MAXIMUM_PROPERTIES: usize = 256;
 
 // Refusal 11, or the keys in the output.
 fn write_out(

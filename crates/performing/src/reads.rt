@@ -5,6 +5,7 @@ use calls::Progress;
 use calls::ValueOut;
 use property::OwnProperty;
 use record::Step;
+use reporting::MAXIMUM_CALLS;
 use reporting::Performed;
 use steps::Completion;
 use store_write::Write;
@@ -22,8 +23,6 @@ ghost use Rattle.steps.specs.Operation.{keyOrFirst, operationOf};
 ghost use Rattle.steps.specs.Perform.{perform, maximumCalls};
 ghost use Rattle.reporting.specs.Performed.{Taken, outPerformed};
 ghost use Rattle.performing.specs.Results.{Performable, isReading, valueResult, booleanResult, ownPropertyResult};
-
-const MAXIMUM_CALLS: usize = 2048;
 
 fn value_result(out: ValueOut) -> Performed
     ensures { λ r. ⌜ r ≡ valueResult out ⌝ }

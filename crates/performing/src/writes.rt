@@ -4,6 +4,7 @@ use calls::Progress;
 use calls::WriteOut;
 use extensibility::prevention;
 use record::Step;
+use reporting::MAXIMUM_CALLS;
 use reporting::Performed;
 use steps::Completion;
 use value::Value;
@@ -16,8 +17,6 @@ ghost use Rattle.steps.specs.Operation.{operationOf};
 ghost use Rattle.steps.specs.Perform.{perform, maximumCalls};
 ghost use Rattle.reporting.specs.Performed.{Taken, outPerformed};
 ghost use Rattle.performing.specs.Results.{Performable, isReading, writeResult};
-
-const MAXIMUM_CALLS: usize = 2048;
 
 fn write_result(out: WriteOut) -> Performed
     ensures { λ r. ⌜ r ≡ writeResult out ⌝ }

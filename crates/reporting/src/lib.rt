@@ -28,7 +28,7 @@ pub enum Performed {
     Done(Completion, Write, Progress),
 }
 
-const MAXIMUM_CALLS: usize = 2048;
+pub const MAXIMUM_CALLS: usize = 2048;
 
 // Where a step begins: at the first answer, with all its calls.
 pub fn start(sheet: &[u8]) -> Progress

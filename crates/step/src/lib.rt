@@ -1,4 +1,5 @@
 // The interface: a step over lent memory, and the entering of a string.
+use performing::MAXIMUM_PROPERTIES;
 use performing::listing;
 use record::Refusal;
 use step_records::reading;
@@ -21,8 +22,6 @@ ghost use Rattle.calls.specs.Outs.{Readable};
 ghost use Rattle.steps.specs.Step.{recordTests, ended, ran};
 ghost use Rattle.step.specs.Entry.{entryReport};
 ghost use Rattle.reporting.specs.Memory.{isMemory, shown, shownBy, stepOver, shownEntry, enterOver, WordsAfter};
-
-const MAXIMUM_PROPERTIES: usize = 256;
 
 fn is_memory(words: &[u64], strings: &[u16]) -> bool
     ensures { λ r. ⌜ r ≡ isMemory (now (words .entry)) (now (strings .entry)) ⌝ }

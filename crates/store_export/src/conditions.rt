@@ -6,8 +6,6 @@ ghost use mathlib.Core.Bool.{true};
 ghost use Rattle.store.specs.Words.{isStore};
 ghost use Rattle.store_export.specs.Export.{isJoined, isNew, isListable, isAddable, isRemovable};
 
-const NUMBERS: u64 = 288230376151711744;
-
 pub fn is_listable(words: &[u64], strings: &[u16], size: usize) -> bool
     ensures { λ r. ⌜ r ≡ isListable (now (words .entry)) (now (strings .entry)) size ⌝ }
 {
@@ -24,7 +22,7 @@ fn is_joined(o: u64, key: u64) -> bool
     ensures { λ r. ⌜ r ≡ isJoined o key ⌝ }
 {
     if o < 32 {
-        return key / 2 < NUMBERS;
+        return key / 2 < finding::NUMBERS;
     }
     false
 }

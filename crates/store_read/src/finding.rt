@@ -1,4 +1,5 @@
 // Reading the store's words: where a property stands, and what it is.
+use crate::KEYS;
 use crate::Place;
 use property::OwnProperty;
 use property::Property;
@@ -12,11 +13,9 @@ ghost use Rattle.store.specs.Store as store;
 ghost use Rattle.store.specs.Words.{isStore, storeOf, propertyIn};
 ghost use Rattle.store_read.specs.Answers.{findPlace, firstPlace, keyWords};
 
-const KEYS: usize = 98;
-
 const ROWS: usize = 354;
 
-const NUMBERS: u64 = 288230376151711744;
+pub const NUMBERS: u64 = 288230376151711744;
 
 // Where the first key word stands that equals the word.
 fn find_word(words: &[u64], word: u64) -> Place

@@ -30,3 +30,6 @@ pub enum IndexWord {
     Other,
     Joined(u64),
 }
+
+// Where the key words begin.
+const KEYS: usize = 98;

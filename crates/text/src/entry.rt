@@ -1,6 +1,8 @@
 // Entering a string into the table.
 use crate::EntryAnswer;
 use crate::Found;
+use crate::MAXIMUM_LENGTH;
+use crate::ROW_SIZE;
 ghost use mathlib.Core.Path.{_≡_};
 ghost use mathlib.Core.Bool.{true};
 ghost use Prim.Native.Nat.{_+_, _<_, _≤_};
@@ -9,11 +11,7 @@ ghost use Rattle.text.specs.Strings.{sameText, numberOf};
 ghost use Rattle.text.specs.Table.{tableSize, stringsOf, isTable, overwrite, addedTo};
 ghost use Rattle.text.specs.Answers.{readTable, found, entryOf, enterCells, cellsAfter};
 
-const MAXIMUM_LENGTH: usize = 32;
-
 const MAXIMUM_STRINGS: usize = 256;
-
-const ROW_SIZE: usize = 33;
 
 // Whether two strings have the same code units.
 fn same_text(a: &[u16], b: &[u16]) -> bool
