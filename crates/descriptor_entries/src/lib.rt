@@ -22,11 +22,8 @@ pub enum Held {
 fn counts_in(words: &[u64], strings: &[u16]) -> Held
     ensures { λ r. ⌜ r ≡ countsIn (now (words .entry)) (now (strings .entry)) ⌝ }
 {
-    if store_read::is_store(words) {
-        if text::is_table(strings) {
-            return Held::Counts(step_records::counts_of(words, strings));
-        }
-        return Held::Malformed;
+    if reporting::is_memory(words, strings) {
+        return Held::Counts(step_records::counts_of(words, strings));
     }
     Held::Malformed
 }

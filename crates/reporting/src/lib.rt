@@ -1,4 +1,4 @@
-// What a step reports once its run has ended, and the commit of its write.
+// What a step reports once its run has ended, and the commit of its write; whether lent memory is a store and a table.
 // report_words: a report as ten words, for C.
 use calls::Progress;
 use internal_methods::Failure;
@@ -17,6 +17,7 @@ ghost use Rattle.record.specs.Sheet.{sheetOf, answersAt};
 ghost use Rattle.calls.specs.Outs.{stateOf};
 ghost use Rattle.steps.specs.Perform.{maximumCalls};
 ghost use Rattle.steps.specs.Response.{reportOf, refusal};
+ghost use Rattle.reporting.specs.Memory.{isMemory};
 ghost use Rattle.reporting.specs.Performed.{Taken};
 ghost use Rattle.reporting.specs.Reports.{start, failureResponse, completionReport, performedReport, Finished};
 
@@ -29,6 +30,16 @@ pub enum Performed {
 }
 
 pub const MAXIMUM_CALLS: usize = 2048;
+
+// Whether the words are a store and the cells a table.
+pub fn is_memory(words: &[u64], strings: &[u16]) -> bool
+    ensures { λ r. ⌜ r ≡ isMemory (now (words .entry)) (now (strings .entry)) ⌝ }
+{
+    if store_read::is_store(words) {
+        return text::is_table(strings);
+    }
+    false
+}
 
 // Where a step begins: at the first answer, with all its calls.
 pub fn start(sheet: &[u8]) -> Progress

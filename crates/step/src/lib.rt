@@ -21,16 +21,7 @@ ghost use Rattle.record.specs.Sheet.{sheetOf};
 ghost use Rattle.calls.specs.Outs.{Readable};
 ghost use Rattle.steps.specs.Step.{recordTests, ended, ran};
 ghost use Rattle.step.specs.Entry.{entryReport};
-ghost use Rattle.reporting.specs.Memory.{isMemory, shown, shownBy, stepOver, shownEntry, enterOver, WordsAfter};
-
-fn is_memory(words: &[u64], strings: &[u16]) -> bool
-    ensures { λ r. ⌜ r ≡ isMemory (now (words .entry)) (now (strings .entry)) ⌝ }
-{
-    if store_read::is_store(words) {
-        return text::is_table(strings);
-    }
-    false
-}
+ghost use Rattle.reporting.specs.Memory.{shown, shownBy, stepOver, shownEntry, enterOver, WordsAfter};
 
 // A step whose records passed their tests.
 fn run(words: &mut [u64], strings: &[u16], bytes: &[u8], sheet: &[u8], output: &mut [u8]) -> Report
@@ -58,7 +49,7 @@ pub fn step(
     ensures { λ r. ⌜ shown r (now (words .exit)) (now (strings .entry)) (now (output .exit)) ≡ shownBy (stepOver (now (words .entry)) (now (strings .entry)) (now (bytes .entry)) (now (sheet .entry)) (now (output .entry))) ⌝ }
     ensures { λ r. ⌜ WordsAfter (r .outcome) (now (words .entry)) (now (words .exit)) ⌝ }
 {
-    if is_memory(words, strings) {
+    if reporting::is_memory(words, strings) {
         match step_records::record_refusal(words, strings, bytes, sheet) {
             Refusal::Failed(n) => reporting::refused(n),
             Refusal::Passed => run(words, strings, bytes, sheet, output),

@@ -12,7 +12,6 @@ use Rattle.step.proofs.step.Reads as reads
 use Rattle.step.proofs.step.Lts as lts
 use Rattle.step_records.proofs.record_refusal.Reads as record-refusal-reads
 use Rattle.reporting.proofs.refused.Reads as refused-reads
-use Rattle.step.proofs.is_memory.Reads as is-memory-reads
 use Rattle.step.proofs.run.Reads as run-reads
 
 record-refusal-requires : tie.Need-record-refusal-requires
