@@ -1,23 +1,18 @@
 -- What each write to the words makes of the store that they hold. Assumes nothing.
-use Prim.Native.Nat.{ℕ, zero, suc, _+_, _-_, _*_, _/_, _%_, _<_, _≤_}
+use Prim.Native.Nat.{ℕ, zero, suc, _+_, _-_, _<_, _≤_}
 use native.Mathlib.Omega.{arith}
 use native.Mathlib.Numerals.{add-one}
 use mathlib.Core.Path.{_≡_, refl, sym, ap, _∙_}
-use mathlib.Core.Bool.{Bool, true, false, _&&_, cond}
+use mathlib.Core.Bool.{Bool, true, false, cond}
 use mathlib.Core.List.{List, [], _∷_, _++_, append-assoc, append-nil}
-use lib.Dec.{eqb}
 use lib.ListN.{length, set, length-set}
 use lib.Seq.{sets, length-sets, getD-set-same, getD-set-other}
-use borrow.Author.Tests.{eqb-true, eqb-false, eq-eqb, ne-eqb, leb-true, le-leb}
+use borrow.Author.Tests.{eq-eqb, ne-eqb}
 use Rattle.value.specs.Bits.{weight}
 use Rattle.value.specs.declared.Value.{Value}
 use Rattle.value.specs.declared.Value.the-variants.{Undefined}
 use Rattle.value.specs.declared.PropertyKey.{PropertyKey}
-use Rattle.value.specs.declared.PropertyKey.the-variants.{String, Symbol}
-use Rattle.value.specs.PropertyKey.{sameKey}
 use Rattle.value.specs.Words.{pick, kindOf, payloadOf, valueOf}
-use Rattle.value.proofs.Bools.{and-true, bool-ext}
-use Rattle.value.proofs.SameKey.{key-refl, key-eq}
 use Rattle.property.specs.declared.Property.{Property}
 use Rattle.property.specs.declared.Property.the-variants.{Data, Accessor}
 use Rattle.property.specs.declared.OwnProperty.the-variants.{Absent}
@@ -28,8 +23,9 @@ use Rattle.store.specs.declared.Entry.{Entry}
 use Rattle.store_write.specs.declared.write.ObjectWords.{ObjectWords}
 use Rattle.store_write.specs.declared.write.PropertyWords.{PropertyWords}
 use Rattle.store.specs.Store.{Store, empty, entry, isAt, remove, put, add, own, withProperty, withoutProperty, replaceAt, withChange}
-use Rattle.store.specs.Words.{objectAt, keyAt, rowAt, wordAt, objectOf, objectIn, headOf, firstOf, secondOf, keyWord, ownerOf, keyOf, propertyOf, flagsOf, primary, secondary, propertyIn, entryIn, storeOf, isStore, withObject, withNewObject, withRow, withNewRow, moved, swept, withoutRow}
+use Rattle.store.specs.Words.{objectAt, keyAt, rowAt, wordAt, objectOf, objectIn, headOf, firstOf, secondOf, keyWord, propertyOf, flagsOf, primary, secondary, propertyIn, entryIn, storeOf, isStore, withObject, withNewObject, withRow, withNewRow, moved, swept, withoutRow}
 use Rattle.store_write.specs.Write.{Fits, FitsObject, FitsProperty, ObjectCells, PropertyCells, New, Becomes}
+use Rattle.store.proofs.WordLaws.{Sized, sized, is-store, word-owner, word-key, at-word}
 use Rattle.store.proofs.FindLaws.{First, first-replaced, absent-appended}
 use Rattle.store.proofs.FindLaws.First.{here, later}
 
@@ -59,11 +55,6 @@ sets-in (u ∷ us) w i (suc m) l h =
 -- Tables --------------------------------------------------------------------------------
 
 module _ {A : Type 0} where
-  pub length-tabulate : (f : ℕ → A) (i n : ℕ) → length (tabulate f i n) ≡ n
-  unfolding tabulate
-  length-tabulate f i zero = refl
-  length-tabulate f i (suc n) = ap suc (length-tabulate f (suc i) n)
-
   pub tabulate-ext : (f g : ℕ → A) (s n : ℕ) → ((i : ℕ) → s ≤ i → i < s + n → f i ≡ g i) → tabulate f s n ≡ tabulate g s n
   unfolding tabulate
   tabulate-ext f g s zero h = refl
@@ -102,24 +93,6 @@ module _ {A : Type 0} where
   tabulate-set f g n i l h =
       let e : 0 + i ≡ i = omega arith in
       rw e at (set-from f g 0 n i l (λ j a b r. h j (omega arith) (λ q. r (omega arith))))
-
--- A store -------------------------------------------------------------------------------
-
-pub record Sized (w : List ℕ) : Type 0 where
-  pub size : length w ≡ 1634
-  pub objects : wordAt w 0 ≤ 32
-  pub properties : wordAt w 1 ≤ 256
-
-pub sized : (w : List ℕ) → isStore w ≡ true → Sized w
-unfolding isStore
-sized w h =
-    let (a, b) = and-true _ _ h in
-    let (c, d) = and-true _ _ b in
-    record { size = eqb-true _ _ a; objects = leb-true _ _ c; properties = leb-true _ _ d }
-
-pub is-store : (w : List ℕ) → Sized w → isStore w ≡ true
-unfolding isStore
-is-store w s = rw (eq-eqb _ _ (s .size), le-leb _ _ (s .objects), le-leb _ _ (s .properties))
 
 -- Objects -------------------------------------------------------------------------------
 
@@ -305,52 +278,6 @@ property-made w i p l f =
     let a : wordAt (sets w (rowAt i) us) (rowAt i) ≡ flagsOf p = rw e at (at 0 l (omega arith)) in
     rw (row-sets w i p, a, at 1 l (omega arith), at 2 l (omega arith), at 3 l (omega arith), at 4 l (omega arith), f .first .again, f .second .again)
     (property-again p)
-
--- Key words -----------------------------------------------------------------------------
-
--- a key word holds its owner and its key
-pub word-owner : (o : ℕ) (k : PropertyKey) → o < 32 → ownerOf (keyWord o k) ≡ o
-word-owner o (String s) h = omega arith
-word-owner o (Symbol s) h = omega arith
-
-pub word-key : (o : ℕ) (k : PropertyKey) → o < 32 → keyOf (keyWord o k) ≡ k
-unfolding keyOf
-word-key o (String s) h =
-    let a : (o + 64 * s) / 32 % 2 ≡ 0 = omega arith in
-    let b : (o + 64 * s) / 64 ≡ s = omega arith in
-    rw (a, b)
-word-key o (Symbol s) h =
-    let a : (o + 32 + 64 * s) / 32 % 2 ≡ 1 = omega arith in
-    let b : (o + 32 + 64 * s) / 64 ≡ s = omega arith in
-    rw (a, b)
-
--- and nothing else
-word-parts : (n : ℕ) → keyWord (ownerOf n) (keyOf n) ≡ n
-unfolding keyOf
-word-parts n = go (eqb (n / 32 % 2) 0) refl
-  where
-    go : (b : Bool) → eqb (n / 32 % 2) 0 ≡ b → keyWord (ownerOf n) (keyOf n) ≡ n
-    go true e = let h = eqb-true (n / 32 % 2) 0 e in rw e (omega arith)
-    go false e = let h = eqb-false (n / 32 % 2) 0 e in rw e (omega arith)
-
--- one comparison of key words tells whether an entry is a property
-pub at-word : (w : List ℕ) (i o : ℕ) (k : PropertyKey) → o < 32 → isAt (entryIn w i) o k ≡ eqb (wordAt w (keyAt i)) (keyWord o k)
-unfolding isAt entryIn
-at-word w i o k h = bool-ext _ _ there back
-  where
-    n : ℕ
-    n = wordAt w (keyAt i)
-
-    there : (eqb (ownerOf n) o && sameKey (keyOf n) k) ≡ true → eqb n (keyWord o k) ≡ true
-    there t =
-        let (a, b) = and-true _ _ t in
-        let e : keyWord o k ≡ n = rw (sym (eqb-true (ownerOf n) o a), sym (key-eq (keyOf n) k b)) (word-parts n) in
-        eq-eqb n (keyWord o k) (sym e)
-
-    back : eqb n (keyWord o k) ≡ true → (eqb (ownerOf n) o && sameKey (keyOf n) k) ≡ true
-    back t =
-        let e = eqb-true n (keyWord o k) t in
-        rw (e, word-owner o k h, word-key o k h, eq-eqb o o refl) (key-refl k)
 
 -- Rows ----------------------------------------------------------------------------------
 
@@ -690,10 +617,6 @@ pub new-row-stored : (w u : List ℕ) (o : ℕ) (k : PropertyKey) (p : Property)
     → u ≡ withRow (set w (keyAt (wordAt w 1)) key) (wordAt w 1) p → set u 1 (wordAt w 1 + 1) ≡ withNewRow w o k p
 unfolding withNewRow
 new-row-stored w u o k p key d e = rw (e, d, add-one)
-
-pub properties-counted : (w : List ℕ) → length (storeOf w .properties) ≡ wordAt w 1
-unfolding storeOf
-properties-counted w = length-tabulate (entryIn w) 0 (wordAt w 1)
 
 -- a turn of the sweep, and its end
 module _ (w : List ℕ) (o : ℕ) (k : PropertyKey) (i n j key : ℕ) where

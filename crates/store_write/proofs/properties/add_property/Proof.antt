@@ -1,4 +1,5 @@
-use Rattle.store_write.proofs.WriteLaws.{sized, length-row, became, becomes-new-row, new-row-stored}
+use Rattle.store.proofs.WordLaws.{sized}
+use Rattle.store_write.proofs.WriteLaws.{length-row, became, becomes-new-row, new-row-stored}
 use Rattle.store.specs.Words.{wordAt, keyAt, withRow}
 use lib.ListN.{length, set, length-set}
 use denote.Ref.{now}

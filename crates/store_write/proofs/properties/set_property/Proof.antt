@@ -1,4 +1,5 @@
-use Rattle.store_write.proofs.WriteLaws.{sized, became, becomes-row}
+use Rattle.store.proofs.WordLaws.{sized}
+use Rattle.store_write.proofs.WriteLaws.{became, becomes-row}
 use denote.Ref.{now}
 use native.Mathlib.Omega.{arith}
 use borrow.Author.Needs.{needs}

@@ -1,4 +1,5 @@
-use Rattle.store_write.proofs.WriteLaws.{sized, length-moved, became, becomes-without, turn-hit, turn-miss, turn-end}
+use Rattle.store.proofs.WordLaws.{sized}
+use Rattle.store_write.proofs.WriteLaws.{length-moved, became, becomes-without, turn-hit, turn-miss, turn-end}
 use Rattle.store.specs.Words.{keyWord, swept, withoutRow}
 use Rattle.value.specs.declared.PropertyKey.{PropertyKey}
 use lib.ListN.{length, length-set}

@@ -1,6 +1,7 @@
 use Rattle.store.specs.Words.{wordAt}
 use lib.ListN.{length}
-use Rattle.store_write.proofs.WriteLaws.{sized, length-object, became, becomes-new-object, new-object-stored}
+use Rattle.store.proofs.WordLaws.{sized}
+use Rattle.store_write.proofs.WriteLaws.{length-object, became, becomes-new-object, new-object-stored}
 use denote.Ref.{now}
 use mathlib.Core.Path.{ap}
 use native.Mathlib.Omega.{arith}

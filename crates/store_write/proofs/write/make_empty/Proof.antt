@@ -1,4 +1,5 @@
-use Rattle.store_write.proofs.WriteLaws.{store-empty, sized-empty, is-store}
+use Rattle.store.proofs.WordLaws.{is-store}
+use Rattle.store_write.proofs.WriteLaws.{store-empty, sized-empty}
 use borrow.Author.Tests.{eq-eqb, ne-eqb}
 use mathlib.Core.Bool.{false≢true}
 use denote.Ref.{now}
