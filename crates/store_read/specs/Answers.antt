@@ -1,7 +1,7 @@
 -- What reading the store answers, as the code's own enums. Assumes nothing.
 use Prim.Native.Nat.{ℕ, suc, _+_, _*_, _/_, _%_, _≤_}
 use mathlib.Core.Path.{_≡_}
-use mathlib.Core.Bool.{Bool, _&&_}
+use mathlib.Core.Bool.{Bool, true, false, _&&_}
 use mathlib.Core.Option.{Option, none, some}
 use mathlib.Core.List.{List, [], _∷_, map}
 use lib.Dec.{eqb, ltb}
@@ -20,7 +20,7 @@ use Rattle.store_read.specs.declared.Place.the-variants.{Nothing, At}
 use Rattle.store_read.specs.declared.IndexWord.{IndexWord}
 use Rattle.store_read.specs.declared.IndexWord.the-variants.{Other, Joined}
 use Rattle.store.specs.Store.{Store, isAt}
-use Rattle.store.specs.OwnKeys.{KeyClass, index, string, symbol, classOf, keysIn, ofClass}
+use Rattle.store.specs.OwnKeys.{KeyClass, index, string, symbol, classOf, isString, isSymbol, keysIn, ofClass}
 use Rattle.store.specs.Words.{wordAt, keyAt}
 
 abbrev pub objectFound : Option Object → ObjectFound
@@ -59,6 +59,11 @@ pub record Listed (before after : List ℕ) (n : ℕ) (keys : List PropertyKey) 
   pub rest : drop n after ≡ drop n before
   pub fits : n ≤ length before
   pub size : length after ≡ length before
+
+-- the class of the keys that are listed by creation: symbols, or strings that are no indices
+abbrev pub listedClass : Bool → KeyClass → Bool
+listedClass true = isSymbol
+listedClass false = isString
 
 -- is it a key of the object o, and of the class?
 abbrev pub isOwn : (KeyClass → Bool) → Strings → Entry → ℕ → Bool

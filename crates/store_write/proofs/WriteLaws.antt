@@ -17,6 +17,7 @@ use Rattle.property.specs.declared.Property.{Property}
 use Rattle.property.specs.declared.Property.the-variants.{Data, Accessor}
 use Rattle.property.specs.declared.OwnProperty.the-variants.{Absent}
 use Rattle.text.specs.Table.{tabulate}
+use Rattle.text.proofs.TableLaws.{tabulate-ext, tabulate-last}
 use Rattle.store.specs.declared.Object.{Object}
 use Rattle.store.specs.declared.Object.the-variants.{Ordinary, Proxy}
 use Rattle.store.specs.declared.Entry.{Entry}
@@ -26,8 +27,7 @@ use Rattle.store.specs.Store.{Store, empty, entry, isAt, remove, put, add, own,
 use Rattle.store.specs.Words.{objectAt, keyAt, rowAt, wordAt, objectOf, objectIn, headOf, firstOf, secondOf, keyWord, propertyOf, flagsOf, primary, secondary, propertyIn, entryIn, storeOf, isStore, withObject, withNewObject, withRow, withNewRow, moved, swept, withoutRow}
 use Rattle.store_write.specs.Write.{Fits, FitsObject, FitsProperty, ObjectCells, PropertyCells, New, Becomes}
 use Rattle.store.proofs.WordLaws.{Sized, sized, is-store, word-owner, word-key, at-word}
-use Rattle.store.proofs.FindLaws.{First, first-replaced, absent-appended}
-use Rattle.store.proofs.FindLaws.First.{here, later}
+use Rattle.store.proofs.FindLaws.{absent-appended}
 
 -- Words ---------------------------------------------------------------------------------
 
@@ -55,21 +55,6 @@ sets-in (u ∷ us) w i (suc m) l h =
 -- Tables --------------------------------------------------------------------------------
 
 module _ {A : Type 0} where
-  pub tabulate-ext : (f g : ℕ → A) (s n : ℕ) → ((i : ℕ) → s ≤ i → i < s + n → f i ≡ g i) → tabulate f s n ≡ tabulate g s n
-  unfolding tabulate
-  tabulate-ext f g s zero h = refl
-  tabulate-ext f g s (suc n) h =
-      let e : f s ≡ g s = h s (omega arith) (omega arith) in
-      let r : tabulate f (suc s) n ≡ tabulate g (suc s) n = tabulate-ext f g (suc s) n (λ i a b. h i (omega arith) (omega arith)) in
-      cc
-
-  last-from : (f : ℕ → A) (s n : ℕ) → tabulate f s (suc n) ≡ tabulate f s n ++ (f (s + n) ∷ [])
-  unfolding tabulate
-  last-from f s zero = let e : s + 0 ≡ s = omega arith in rw e
-  last-from f s (suc n) =
-      let e : s + suc n ≡ suc s + n = omega arith in
-      rw e (ap (λ (l : List A). f s ∷ l) (last-from f (suc s) n))
-
   -- the tables agree but for one element
   set-from : (f g : ℕ → A) (s n i : ℕ) → i < n → ((j : ℕ) → s ≤ j → j < s + n → (j ≡ s + i → ⊥) → f j ≡ g j)
       → tabulate f s n ≡ set (tabulate g s n) i (f (s + i))
@@ -86,8 +71,8 @@ module _ {A : Type 0} where
       set-from f g (suc s) n i (omega arith) (λ j a b q. h j (omega arith) (omega arith) (λ p. q (omega arith))) in
       rw (e, d, r)
 
-  pub tabulate-last : (f : ℕ → A) (n : ℕ) → tabulate f 0 (suc n) ≡ tabulate f 0 n ++ (f n ∷ [])
-  tabulate-last f n = let e : 0 + n ≡ n = omega arith in rw e at (last-from f 0 n)
+  one-more : (f : ℕ → A) (n : ℕ) → tabulate f 0 (suc n) ≡ tabulate f 0 n ++ (f n ∷ [])
+  one-more f n = let e : 0 + n ≡ n = omega arith in rw e at (tabulate-last f 0 n)
 
   pub tabulate-set : (f g : ℕ → A) (n i : ℕ) → i < n → ((j : ℕ) → j < n → (j ≡ i → ⊥) → f j ≡ g j) → tabulate f 0 n ≡ set (tabulate g 0 n) i (f i)
   tabulate-set f g n i l h =
@@ -221,7 +206,7 @@ module _ (w : List ℕ) (s : Sized w) (x : Object) (h : wordAt w 0 < 32) where
       object-same u (withObject w n x) n (λ m t. made-out _ (λ e. omega arith)) ∙ object-made w n x (omega (arith, s .size)) f in
       let before : tabulate (objectIn u) 0 n ≡ tabulate (objectIn w) 0 n =
       tabulate-ext (objectIn u) (objectIn w) 0 n (λ j p q. object-same u w j (λ m t. out _ (λ e. omega arith) (λ k l e. omega arith))) in
-      let a : objectsOf u ≡ objectsOf w ++ (x ∷ []) = rw (count, tabulate-last (objectIn u) n, before, made) in
+      let a : objectsOf u ≡ objectsOf w ++ (x ∷ []) = rw (count, one-more (objectIn u) n, before, made) in
       let b : propertiesOf u ≡ propertiesOf w =
       properties-same u w (out 1 (λ e. omega arith) (λ m t e. omega arith)) (λ m l. out m (λ e. omega arith) (λ k t e. omega arith)) in
       store-by u _ a b
@@ -297,24 +282,6 @@ replace-from f s (suc n) (suc i) p h =
 pub replaced : (f : ℕ → Entry) (n i : ℕ) (p : Property) → i < n → replaceAt (tabulate f 0 n) i p ≡ set (tabulate f 0 n) i (entry (f i .owner) (f i .key) p)
 replaced f n i p h = let e : 0 + i ≡ i = omega arith in rw e at (replace-from f 0 n i p h)
 
-first-from : (f : ℕ → Entry) (s n i o : ℕ) (k : PropertyKey) → i < n → isAt (f (s + i)) o k ≡ true → ((j : ℕ) → j < i → isAt (f (s + j)) o k ≡ false)
-    → First o k (tabulate f s n) i
-unfolding tabulate
-first-from f s zero i o k l h b = absurd (omega arith)
-first-from f s (suc n) zero o k l h b = let e : s + 0 ≡ s = omega arith in here (rw e at h)
-first-from f s (suc n) (suc i) o k l h b =
-    let e : s + suc i ≡ suc s + i = omega arith in
-    let z : s + 0 ≡ s = omega arith in
-    later (rw z at (b 0 (omega arith)))
-    (first-from f (suc s) n i o k (omega arith) (rw e at h)
-    (λ j t. let d : s + suc j ≡ suc s + j = omega arith in rw d at (b (suc j) (omega arith))))
-
-pub first-at : (f : ℕ → Entry) (n i o : ℕ) (k : PropertyKey) → i < n → isAt (f i) o k ≡ true → ((j : ℕ) → j < i → isAt (f j) o k ≡ false)
-    → First o k (tabulate f 0 n) i
-first-at f n i o k l h b =
-    let e : 0 + i ≡ i = omega arith in
-    first-from f 0 n i o k l (rw e h) (λ j t. let d : 0 + j ≡ j = omega arith in rw d (b j t))
-
 module _ (w : List ℕ) (s : Sized w) (i : ℕ) (p : Property) (h : i < wordAt w 1) where
   low : (j : ℕ) → j < 354 → wordAt (withRow w i p) j ≡ wordAt w j
   low j l = row-out w i p j (λ m t e. omega arith)
@@ -340,13 +307,6 @@ module _ (w : List ℕ) (s : Sized w) (i : ℕ) (p : Property) (h : i < wordAt w
       let a : objectsOf u ≡ objectsOf w = objects-same u w (s .objects) (low 0 (omega arith)) (λ m t l. low m (omega arith)) in
       let b : propertiesOf u ≡ replaceAt (propertiesOf w) i p = properties-row f ∙ sym (replaced (entryIn w) (wordAt w 1) i p h) in
       store-by u _ a b
-
-  -- where row i is the first of the property, its replacement is an insertion
-  pub store-replaced : (o : ℕ) (k : PropertyKey) → FitsProperty p → isAt (entryIn w i) o k ≡ true → ((j : ℕ) → j < i → isAt (entryIn w j) o k ≡ false)
-      → storeOf (withRow w i p) ≡ withProperty (storeOf w) o k p
-  unfolding withChange withProperty storeOf
-  store-replaced o k f a b =
-      store-row f ∙ rw (first-replaced o k (propertiesOf w) i p (first-at (entryIn w) (wordAt w 1) i o k h a b))
 
 -- the words with the next key word
 abbrev keyedBy : List ℕ → ℕ → PropertyKey → List ℕ
@@ -399,7 +359,7 @@ module _ (w : List ℕ) (s : Sized w) (o : ℕ) (k : PropertyKey) (p : Property)
       tabulate-ext (entryIn u) (entryIn w) 0 n (λ j t l. entry-same u w j j
       (new-out _ (λ e. omega arith) (λ e. omega arith) (λ q r e. omega arith))
       (λ m r. new-out _ (λ e. omega arith) (λ e. omega arith) (λ q z e. omega arith))) in
-      let y : propertiesOf u ≡ propertiesOf w ++ (entry o k p ∷ []) = rw (new-count, tabulate-last (entryIn u) n, before, entry-new b f) in
+      let y : propertiesOf u ≡ propertiesOf w ++ (entry o k p ∷ []) = rw (new-count, one-more (entryIn u) n, before, entry-new b f) in
       store-by u _ x (y ∙ sym (absent-appended (propertiesOf w) o k p a))
 
 -- Removal -------------------------------------------------------------------------------
@@ -506,7 +466,7 @@ swept-all (suc n) w o k i j l h b =
     go false t a c =
         let v = moved w i j in
         let first : tabulate (entryIn v) 0 (suc j) ≡ tabulate (entryIn w) 0 j ++ (entryIn w i ∷ []) =
-        tabulate-last (entryIn v) j
+        one-more (entryIn v) j
         ∙ rw (tabulate-ext (entryIn v) (entryIn w) 0 j (λ m x y. entry-same v w m m (moved-out w i j _ (λ e. omega arith) (λ r q e. omega arith)) (λ r q. moved-out w i j _ (λ e. omega arith) (λ s u e. omega arith))), moved-entry w i j l (omega arith)) in
         let rest : tabulate (entryIn v) (suc i) n ≡ tabulate (entryIn w) (suc i) n =
         tabulate-ext (entryIn v) (entryIn w) (suc i) n (λ m x y. entry-same v w m m (moved-out w i j _ (λ e. omega arith) (λ r q e. omega arith)) (λ r q. moved-out w i j _ (λ e. omega arith) (λ s u e. omega arith))) in
