@@ -25,7 +25,7 @@ use Rattle.store_write.specs.declared.write.ObjectWords.{ObjectWords}
 use Rattle.store_write.specs.declared.write.PropertyWords.{PropertyWords}
 use Rattle.store.specs.Store.{Store, empty, entry, isAt, remove, put, add, own, withProperty, withoutProperty, replaceAt, withChange}
 use Rattle.store.specs.Words.{objectAt, keyAt, rowAt, wordAt, objectOf, objectIn, headOf, firstOf, secondOf, keyWord, propertyOf, flagsOf, primary, secondary, propertyIn, entryIn, storeOf, isStore, withObject, withNewObject, withRow, withNewRow, moved, swept, withoutRow}
-use Rattle.store_write.specs.Write.{Fits, FitsObject, FitsProperty, ObjectCells, PropertyCells, New, Becomes}
+use Rattle.store_write.specs.Write.{Fits, FitsObject, FitsProperty, cellsOf, ObjectCells, PropertyCells, New, Becomes}
 use Rattle.store.proofs.WordLaws.{Sized, sized, is-store, word-owner, word-key, at-word}
 use Rattle.store.proofs.FindLaws.{absent-appended}
 
@@ -51,6 +51,19 @@ sets-in (u ∷ us) w i zero l h =
 sets-in (u ∷ us) w i (suc m) l h =
     let e : i + suc m ≡ suc i + m = omega arith in
     rw e (sets-in us (set w i u) (suc i) m (simp length-set (omega arith)) (omega arith))
+
+-- words that are stored one by one
+pub three-set : (w : List ℕ) (i a b c : ℕ) → set (set (set w i a) (i + 1) b) (i + 2) c ≡ sets w i (a ∷ b ∷ c ∷ [])
+three-set w i a b c =
+    let p : i + 1 ≡ suc i = omega arith in
+    let q : i + 2 ≡ suc (suc i) = omega arith in
+    rw (p, q)
+
+pub five-set : (w u : List ℕ) (i a b c d e : ℕ) → u ≡ sets w i (a ∷ b ∷ c ∷ []) → set (set u (i + 3) d) (i + 4) e ≡ sets w i (a ∷ b ∷ c ∷ d ∷ e ∷ [])
+five-set w u i a b c d e h =
+    let p : i + 3 ≡ suc (suc (suc i)) = omega arith in
+    let q : i + 4 ≡ suc (suc (suc (suc i))) = omega arith in
+    rw (h, p, q)
 
 -- Tables --------------------------------------------------------------------------------
 
@@ -86,10 +99,7 @@ objectWords x = headOf x ∷ firstOf x ∷ secondOf x ∷ []
 
 pub object-sets : (w : List ℕ) (o : ℕ) (x : Object) → withObject w o x ≡ sets w (objectAt o) (objectWords x)
 unfolding withObject
-object-sets w o x =
-    let a : objectAt o + 1 ≡ suc (objectAt o) = omega arith in
-    let b : objectAt o + 2 ≡ suc (suc (objectAt o)) = omega arith in
-    rw (a, b)
+object-sets w o x = three-set w (objectAt o) _ _ _
 
 pub object-same : (u w : List ℕ) (o : ℕ) → ((m : ℕ) → m < 3 → wordAt u (objectAt o + m) ≡ wordAt w (objectAt o + m)) → objectIn u o ≡ objectIn w o
 unfolding objectIn
@@ -218,12 +228,7 @@ rowWords p = flagsOf p ∷ kindOf (primary p) ∷ payloadOf (primary p) ∷ kind
 
 pub row-sets : (w : List ℕ) (i : ℕ) (p : Property) → withRow w i p ≡ sets w (rowAt i) (rowWords p)
 unfolding withRow
-row-sets w i p =
-    let a : rowAt i + 1 ≡ suc (rowAt i) = omega arith in
-    let b : rowAt i + 2 ≡ suc (suc (rowAt i)) = omega arith in
-    let c : rowAt i + 3 ≡ suc (suc (suc (rowAt i))) = omega arith in
-    let d : rowAt i + 4 ≡ suc (suc (suc (suc (rowAt i)))) = omega arith in
-    rw (a, b, c, d)
+row-sets w i p = five-set w _ (rowAt i) _ _ _ _ _ (three-set w (rowAt i) _ _ _)
 
 pub length-row : (w : List ℕ) (i : ℕ) (p : Property) → length (withRow w i p) ≡ length w
 length-row w i p = ap length (row-sets w i p) ∙ length-sets w (rowAt i) (rowWords p)
@@ -365,21 +370,16 @@ module _ (w : List ℕ) (s : Sized w) (o : ℕ) (k : PropertyKey) (p : Property)
 -- Removal -------------------------------------------------------------------------------
 
 -- five words of row i stored as row j
-abbrev rowOf : List ℕ → ℕ → List ℕ
+abbrev pub rowOf : List ℕ → ℕ → List ℕ
 rowOf w i = wordAt w (rowAt i) ∷ wordAt w (rowAt i + 1) ∷ wordAt w (rowAt i + 2) ∷ wordAt w (rowAt i + 3) ∷ wordAt w (rowAt i + 4) ∷ []
 
-abbrev movedKey : List ℕ → ℕ → ℕ → List ℕ
+abbrev pub movedKey : List ℕ → ℕ → ℕ → List ℕ
 movedKey w i j = set w (keyAt j) (wordAt w (keyAt i))
 
 module _ (w : List ℕ) (i j : ℕ) where
-  moved-sets : moved w i j ≡ sets (movedKey w i j) (rowAt j) (rowOf w i)
+  pub moved-sets : moved w i j ≡ sets (movedKey w i j) (rowAt j) (rowOf w i)
   unfolding moved
-  moved-sets =
-      let a : rowAt j + 1 ≡ suc (rowAt j) = omega arith in
-      let b : rowAt j + 2 ≡ suc (suc (rowAt j)) = omega arith in
-      let c : rowAt j + 3 ≡ suc (suc (suc (rowAt j))) = omega arith in
-      let d : rowAt j + 4 ≡ suc (suc (suc (suc (rowAt j)))) = omega arith in
-      rw (a, b, c, d)
+  moved-sets = five-set (movedKey w i j) _ (rowAt j) _ _ _ _ _ (three-set (movedKey w i j) (rowAt j) _ _ _)
 
   pub length-moved : length (moved w i j) ≡ length w
   length-moved = rw moved-sets (length-sets (movedKey w i j) (rowAt j) (rowOf w i) ∙ length-set w (keyAt j) (wordAt w (keyAt i)))
@@ -558,16 +558,11 @@ pub undefined-payload : 0 ≡ payloadOf Undefined
 unfolding payloadOf
 undefined-payload = refl
 
-pub object-stored : (w : List ℕ) (o : ℕ) (x : Object) (r : ObjectWords) → ObjectCells x r
-    → set (set (set w (objectAt o) (r .head)) (objectAt o + 1) (r .first)) (objectAt o + 2) (r .second) ≡ withObject w o x
-unfolding withObject
-object-stored w o x r h = rw (h .head, h .first, h .second)
+pub object-stored : (w u : List ℕ) (o : ℕ) (x : Object) (r : ObjectWords) → ObjectCells x r → u ≡ sets w (objectAt o) (r .head ∷ r .first ∷ r .second ∷ []) → u ≡ withObject w o x
+object-stored w u o x r h e = e ∙ rw (h .head, h .first, h .second) (sym (object-sets w o x))
 
-pub row-stored : (w : List ℕ) (i : ℕ) (p : Property) (r : PropertyWords) → PropertyCells p r
-    → set (set (set (set (set w (rowAt i) (r .flags)) (rowAt i + 1) (r .kind)) (rowAt i + 2) (r .payload)) (rowAt i + 3) (r .«second_kind»)) (rowAt i + 4) (r .«second_payload»)
-    ≡ withRow w i p
-unfolding withRow
-row-stored w i p r h = rw (h .flags, h .kind, h .payload, h .second-kind, h .second-payload)
+pub row-stored : (w u : List ℕ) (i : ℕ) (p : Property) (r : PropertyWords) → PropertyCells p r → u ≡ sets w (rowAt i) (cellsOf r) → u ≡ withRow w i p
+row-stored w u i p r h e = e ∙ rw (h .flags, h .kind, h .payload, h .second-kind, h .second-payload) (sym (row-sets w i p))
 
 pub new-object-stored : (w u : List ℕ) (x : Object) → u ≡ withObject w (wordAt w 0) x → set u 0 (wordAt w 0 + 1) ≡ withNewObject w x
 unfolding withNewObject
