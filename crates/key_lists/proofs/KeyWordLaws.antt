@@ -4,18 +4,19 @@ use native.Mathlib.Omega.{arith}
 use native.Mathlib.Numerals.{add-one}
 use mathlib.Core.Path.{_≡_, refl, sym, ap, _∙_}
 use mathlib.Core.Bool.{Bool, true, false, _||_, cond}
-use mathlib.Core.Option.{Option, none, some}
+use mathlib.Core.Option.{Option, none}
 use mathlib.Core.List.{List, [], _∷_, _++_, map}
 use lib.Dec.{eqb, ltb}
-use lib.ListN.{length, getD, take, drop, drop-of-length-le}
-use lib.Seq.{length-take-le, take-suc, drop-cons, getD-take}
+use lib.ListN.{length, getD, take, drop}
+use lib.Seq.{length-take-le, take-suc}
 use borrow.Author.Tests.{eqb-true, eqb-false, eq-eqb, ne-eqb, ltb-true, lt-ltb, le-ltb}
 use Rattle.value.specs.declared.PropertyKey.{PropertyKey}
 use Rattle.value.specs.declared.PropertyKey.the-variants.{String, Symbol}
 use Rattle.value.specs.PropertyKey.{sameKey}
 use Rattle.value.specs.Words.{pick}
 use Rattle.value.proofs.Bools.{bool-ext, or-swap}
-use Rattle.store_read.specs.Answers.{keyFromWord}
+use Rattle.store_read.specs.Answers.{keyFromWord, firstWhere}
+use Rattle.store_read.proofs.ListLaws.{next-word, no-more}
 use Rattle.internal_methods.specs.KeyList.{hasKey, duplicate, duplicateMessage}
 use Rattle.key_lists.specs.KeyWords.{messageNumber, placeOfWord}
 
@@ -56,34 +57,11 @@ message-word w = go (eqb (w % 2) 0) refl
 pub ltb-suc : (a b : ℕ) → ltb a b ≡ ltb (suc a) (suc b)
 ltb-suc a b = bool-ext _ _ (λ h. lt-ltb (suc a) (suc b) (omega (arith, ltb-true a b h))) (λ h. lt-ltb a b (omega (arith, ltb-true (suc a) (suc b) h)))
 
--- Where a word stands -----------------------------------------------------------------------
-
-pub next-word : (ws : List ℕ) (n i : ℕ) → n ≤ length ws → i < n → drop i (take n ws) ≡ getD ws i 0 ∷ drop (i + 1) (take n ws)
-next-word ws n i h l =
-    let s : i < length (take n ws) = omega (arith, length-take-le n ws h) in
-    rw (drop-cons (take n ws) i 0 s, getD-take n ws i 0 l, add-one i)
-
-pub no-more : (ws : List ℕ) (n i : ℕ) → n ≤ length ws → n ≤ i → drop i (take n ws) ≡ []
-no-more ws n i h l = drop-of-length-le (take n ws) {i = i} (omega (arith, length-take-le n ws h))
-
-module _ (word : ℕ) (ws : List ℕ) (i n : ℕ) (h : n ≤ length ws) where
-  pub place-hit : i < n → getD ws i 0 ≡ word → i ≡ i + placeOfWord word (drop i (take n ws))
-  unfolding placeOfWord
-  place-hit l e = rw (next-word ws n i h l, eq-eqb _ _ e) (omega arith)
-
-  pub place-step : i < n → (getD ws i 0 ≡ word → ⊥) → i + placeOfWord word (drop i (take n ws)) ≡ i + 1 + placeOfWord word (drop (i + 1) (take n ws))
-  unfolding placeOfWord
-  place-step l e = rw (next-word ws n i h l, ne-eqb _ _ e) (omega arith)
-
-  pub place-end : n ≤ i → i ≡ i + placeOfWord word (drop i (take n ws))
-  unfolding placeOfWord
-  place-end l = rw (no-more ws n i h l) (omega arith)
-
 -- Step 9 --------------------------------------------------------------------------------------
 
 -- a word stands among others where its key does
 pub place-has : (word : ℕ) (ws : List ℕ) → hasKey (keyFromWord word) (map keyFromWord ws) ≡ ltb (placeOfWord word ws) (length ws)
-unfolding hasKey placeOfWord
+unfolding hasKey firstWhere
 place-has word [] = sym (le-ltb 0 0 (omega arith))
 place-has word (w ∷ ws) = rw (key-word w word) (go (eqb w word) (place-has word ws))
   where

@@ -1,7 +1,7 @@
 -- What reading the store answers, as the code's own enums. Assumes nothing.
 use Prim.Native.Nat.{ℕ, suc, _+_, _*_, _/_, _%_, _≤_}
 use mathlib.Core.Path.{_≡_}
-use mathlib.Core.Bool.{Bool, true, false, _&&_}
+use mathlib.Core.Bool.{Bool, true, false, _&&_, cond}
 use mathlib.Core.Option.{Option, none, some}
 use mathlib.Core.List.{List, [], _∷_, map}
 use lib.Dec.{eqb, ltb}
@@ -82,10 +82,14 @@ joinedBy symbol word = Other
 unfoldable pub indexWord : Strings → Entry → ℕ → IndexWord
 indexWord strings e o = pick (eqb (e .owner) o) (joinedBy (classOf strings (e .key)) (keyToWord (e .key))) Other
 
+-- where the first word stands that passes the test, or the length if none does
+unfoldable pub firstWhere : (ℕ → Bool) → List ℕ → ℕ
+firstWhere test [] = 0
+firstWhere test (w ∷ ws) = cond (test w) 0 (suc (firstWhere test ws))
+
 -- before which of the words it is to stand: the first of a greater index
-unfoldable pub placeOf : ℕ → List ℕ → ℕ
-placeOf word [] = 0
-placeOf word (w ∷ ws) = pick (ltb (word / 512) (w / 512)) 0 (suc (placeOf word ws))
+abbrev pub placeOf : ℕ → List ℕ → ℕ
+placeOf word ws = firstWhere (λ (w : ℕ). ltb (word / 512) (w / 512)) ws
 
 unfoldable pub insertWord : ℕ → List ℕ → List ℕ
 insertWord word [] = word ∷ []
