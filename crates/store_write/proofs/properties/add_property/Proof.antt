@@ -9,24 +9,12 @@ use borrow.Author.Needs.{needs}
 use Rattle.store_write.proofs.properties.add_property.Statement.{statement}
 use Rattle.store_write.proofs.properties.add_property.Tie as tie
 
-slice-read-n : tie.Need-slice-read-n
-slice-read-n c = let s = sized (now (c .before .before .args .words)) (c .before .before .pre .0) in omega arith
-
 key-word-requires : tie.Need-key-word-requires
 key-word-requires c κs = c .before .before .pre .1 .joins
-
-add-words : tie.Need-add-words
-add-words c = let s = sized (now (c .before .before .before .args .words)) (c .before .before .before .pre .0) in omega arith
-
-slice-write-words : tie.Need-slice-write-words
-slice-write-words c = let s = sized (now (c .before .before .before .args .words)) (c .before .before .before .pre .0) in omega arith
 
 write-row-requires : tie.Need-write-row-requires
 write-row-requires c κs =
     let s = sized (now (c .before .before .before .before .args .words)) (c .before .before .before .before .pre .0) in (length-set (now (c .before .before .before .before .args .words)) (keyAt (wordAt (now (c .before .before .before .before .args .words)) 1)) (c .before .key-word .result) ∙ s .size, c .before .before .before .before .pre .1 .room)
-
-add-words-2 : tie.Need-add-words-2
-add-words-2 c = let s = sized (now (c .before .before .before .before .before .before .before .args .words)) (c .before .before .before .before .before .before .before .pre .0) in omega arith
 
 slice-write-words-2 : tie.Need-slice-write-words-2
 slice-write-words-2 c =
@@ -57,13 +45,13 @@ pub add-property-spec : {M : Type 1} → statement M
 add-property-spec =
     tie.close
     (tie.spec
-    slice-read-n
+    (λ c. let s = sized (now (c .before .before .args .words)) (c .before .before .pre .0) in omega arith)
     key-word-requires
-    add-words
+    (λ c. let s = sized (now (c .before .before .before .args .words)) (c .before .before .before .pre .0) in omega arith)
     (λ c. search needs)
-    slice-write-words
+    (λ c. let s = sized (now (c .before .before .before .args .words)) (c .before .before .before .pre .0) in omega arith)
     write-row-requires
-    add-words-2
+    (λ c. let s = sized (now (c .before .before .before .before .before .before .before .args .words)) (c .before .before .before .before .before .before .before .pre .0) in omega arith)
     slice-write-words-2
     same-length
     returns)

@@ -8,15 +8,6 @@ use borrow.Author.Needs.{needs}
 use Rattle.store_write.proofs.write.make_empty.Statement.{statement}
 use Rattle.store_write.proofs.write.make_empty.Tie as tie
 
-slice-write-words : tie.Need-slice-write-words
-slice-write-words c = search needs
-
-slice-write-words-2 : tie.Need-slice-write-words-2
-slice-write-words-2 c = search needs
-
-same-length : tie.Need-same-length
-same-length c = search needs
-
 returns : tie.Need-returns
 returns c =
     let w = now (c .before .args .words) in
@@ -31,4 +22,4 @@ returns-2 c =
 
 pub make-empty-spec : {M : Type 1} → statement M
 make-empty-spec =
-    tie.close (tie.spec slice-write-words slice-write-words-2 same-length returns returns-2)
+    tie.close (tie.spec (λ c. search needs) (λ c. search needs) (λ c. search needs) returns returns-2)
