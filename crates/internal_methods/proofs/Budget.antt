@@ -7,8 +7,6 @@ use mathlib.Core.Option.{Option, none, some}
 use mathlib.Core.List.{List, [], _∷_}
 use Rattle.value.specs.declared.Value.{Value}
 use Rattle.value.specs.declared.Value.the-variants as value
-use Rattle.value.specs.declared.PropertyKey.{PropertyKey}
-use Rattle.property.specs.declared.PropertyDescriptor.{PropertyDescriptor}
 use Rattle.store.specs.declared.OrdinaryObject.{OrdinaryObject}
 use Rattle.store.specs.declared.ProxyObject.{ProxyObject}
 use Rattle.store.specs.declared.Object.{Object}
@@ -213,61 +211,51 @@ steady-known c n closed = record {
 }
 
 -- with no call left each method is refused, whatever the fuel
-record StopsMethods (call : Methods) : Type 0 where
-  getPrototypeOf : (o : ℕ) → Stops (call .getPrototypeOf o)
-  setPrototypeOf : (o : ℕ) (v : Value) → Stops (call .setPrototypeOf o v)
-  isExtensible : (o : ℕ) → Stops (call .isExtensible o)
-  preventExtensions : (o : ℕ) → Stops (call .preventExtensions o)
-  getOwnProperty : (o : ℕ) (k : PropertyKey) → Stops (call .getOwnProperty o k)
-  defineOwnProperty : (o : ℕ) (k : PropertyKey) (d : PropertyDescriptor) → Stops (call .defineOwnProperty o k d)
-  hasProperty : (o : ℕ) (k : PropertyKey) → Stops (call .hasProperty o k)
-  get : (o : ℕ) (k : PropertyKey) (receiver : Value) → Stops (call .get o k receiver)
-  set : (o : ℕ) (k : PropertyKey) (v receiver : Value) → Stops (call .set o k v receiver)
-  delete : (o : ℕ) (k : PropertyKey) → Stops (call .delete o k)
-  ownPropertyKeys : (o : ℕ) → Stops (call .ownPropertyKeys o)
+abbrev StopsMethods : Methods → Type 0
+StopsMethods call = MethodsBy (λ A m m′ Q. Stops m) (λ _. Unit {0}) (λ _. Unit {0}) (λ _. Unit {0}) call call
 
 methods-stop : (n : ℕ) (c : Context) → StopsMethods (methods n c)
 unfolding methods
 methods-stop zero c = record {
-  getPrototypeOf = λ o. stops-fails;
-  setPrototypeOf = λ o v. stops-fails;
-  isExtensible = λ o. stops-fails;
-  preventExtensions = λ o. stops-fails;
-  getOwnProperty = λ o k. stops-fails;
-  defineOwnProperty = λ o k d. stops-fails;
-  hasProperty = λ o k. stops-fails;
-  get = λ o k receiver. stops-fails;
-  set = λ o k v receiver. stops-fails;
-  delete = λ o k. stops-fails;
-  ownPropertyKeys = λ o. stops-fails;
+  getPrototypeOf = λ o _. stops-fails;
+  setPrototypeOf = λ o v _ _. stops-fails;
+  isExtensible = λ o _. stops-fails;
+  preventExtensions = λ o _. stops-fails;
+  getOwnProperty = λ o k _. stops-fails;
+  defineOwnProperty = λ o k d _. stops-fails;
+  hasProperty = λ o k _. stops-fails;
+  get = λ o k receiver _. stops-fails;
+  set = λ o k v receiver _ _. stops-fails;
+  delete = λ o k _. stops-fails;
+  ownPropertyKeys = λ o _. stops-fails;
 }
 methods-stop (suc n) c = record {
-  getPrototypeOf = λ o. stops-dispatch _ _ _ _;
-  setPrototypeOf = λ o v. stops-dispatch _ _ _ _;
-  isExtensible = λ o. stops-dispatch _ _ _ _;
-  preventExtensions = λ o. stops-dispatch _ _ _ _;
-  getOwnProperty = λ o k. stops-dispatch _ _ _ _;
-  defineOwnProperty = λ o k d. stops-dispatch _ _ _ _;
-  hasProperty = λ o k. stops-dispatch _ _ _ _;
-  get = λ o k receiver. stops-dispatch _ _ _ _;
-  set = λ o k v receiver. stops-dispatch _ _ _ _;
-  delete = λ o k. stops-dispatch _ _ _ _;
-  ownPropertyKeys = λ o. stops-dispatch _ _ _ _;
+  getPrototypeOf = λ o _. stops-dispatch _ _ _ _;
+  setPrototypeOf = λ o v _ _. stops-dispatch _ _ _ _;
+  isExtensible = λ o _. stops-dispatch _ _ _ _;
+  preventExtensions = λ o _. stops-dispatch _ _ _ _;
+  getOwnProperty = λ o k _. stops-dispatch _ _ _ _;
+  defineOwnProperty = λ o k d _. stops-dispatch _ _ _ _;
+  hasProperty = λ o k _. stops-dispatch _ _ _ _;
+  get = λ o k receiver _. stops-dispatch _ _ _ _;
+  set = λ o k v receiver _ _. stops-dispatch _ _ _ _;
+  delete = λ o k _. stops-dispatch _ _ _ _;
+  ownPropertyKeys = λ o _. stops-dispatch _ _ _ _;
 }
 
 none-left : {c : Context} {call call′ : Methods} → StopsMethods call → StopsMethods call′ → SteadyMethods c 0 call call′
 none-left h h′ = record {
-  getPrototypeOf = λ o _. steady-stops (h .getPrototypeOf o) (h′ .getPrototypeOf o);
-  setPrototypeOf = λ o v _ _. steady-stops (h .setPrototypeOf o v) (h′ .setPrototypeOf o v);
-  isExtensible = λ o _. steady-stops (h .isExtensible o) (h′ .isExtensible o);
-  preventExtensions = λ o _. steady-stops (h .preventExtensions o) (h′ .preventExtensions o);
-  getOwnProperty = λ o k _. steady-stops (h .getOwnProperty o k) (h′ .getOwnProperty o k);
-  defineOwnProperty = λ o k d _. steady-stops (h .defineOwnProperty o k d) (h′ .defineOwnProperty o k d);
-  hasProperty = λ o k _. steady-stops (h .hasProperty o k) (h′ .hasProperty o k);
-  get = λ o k receiver _. steady-stops (h .get o k receiver) (h′ .get o k receiver);
-  set = λ o k v receiver _ _. steady-stops (h .set o k v receiver) (h′ .set o k v receiver);
-  delete = λ o k _. steady-stops (h .delete o k) (h′ .delete o k);
-  ownPropertyKeys = λ o _. steady-stops (h .ownPropertyKeys o) (h′ .ownPropertyKeys o);
+  getPrototypeOf = λ o _. steady-stops (h .getPrototypeOf o tt) (h′ .getPrototypeOf o tt);
+  setPrototypeOf = λ o v _ _. steady-stops (h .setPrototypeOf o v tt tt) (h′ .setPrototypeOf o v tt tt);
+  isExtensible = λ o _. steady-stops (h .isExtensible o tt) (h′ .isExtensible o tt);
+  preventExtensions = λ o _. steady-stops (h .preventExtensions o tt) (h′ .preventExtensions o tt);
+  getOwnProperty = λ o k _. steady-stops (h .getOwnProperty o k tt) (h′ .getOwnProperty o k tt);
+  defineOwnProperty = λ o k d _. steady-stops (h .defineOwnProperty o k d tt) (h′ .defineOwnProperty o k d tt);
+  hasProperty = λ o k _. steady-stops (h .hasProperty o k tt) (h′ .hasProperty o k tt);
+  get = λ o k receiver _. steady-stops (h .get o k receiver tt) (h′ .get o k receiver tt);
+  set = λ o k v receiver _ _. steady-stops (h .set o k v receiver tt tt) (h′ .set o k v receiver tt tt);
+  delete = λ o k _. steady-stops (h .delete o k tt) (h′ .delete o k tt);
+  ownPropertyKeys = λ o _. steady-stops (h .ownPropertyKeys o tt) (h′ .ownPropertyKeys o tt);
 }
 
 -- the fuel never decides: with as much as there are calls left, however much, a method ends alike

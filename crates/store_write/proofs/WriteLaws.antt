@@ -233,6 +233,9 @@ row-sets w i p = five-set w _ (rowAt i) _ _ _ _ _ (three-set w (rowAt i) _ _ _)
 pub length-row : (w : List ℕ) (i : ℕ) (p : Property) → length (withRow w i p) ≡ length w
 length-row w i p = ap length (row-sets w i p) ∙ length-sets w (rowAt i) (rowWords p)
 
+pub length-keyed : (w : List ℕ) (i key : ℕ) (p : Property) → length (withRow (set w (keyAt i) key) i p) ≡ length w
+length-keyed w i key p = length-row (set w (keyAt i) key) i p ∙ length-set w (keyAt i) key
+
 -- a word that is none of the row's
 pub row-out : (w : List ℕ) (i : ℕ) (p : Property) (j : ℕ) → ((m : ℕ) → m < 5 → j ≡ rowAt i + m → ⊥) → wordAt (withRow w i p) j ≡ wordAt w j
 row-out w i p j h = rw (row-sets w i p) (sets-out (rowWords p) w (rowAt i) j h)
@@ -330,13 +333,12 @@ module _ (w : List ℕ) (s : Sized w) (o : ℕ) (k : PropertyKey) (p : Property)
   unfolding withNewRow
   new-count =
       same (withRow (keyedBy w o k) (wordAt w 1) p) 1 (suc (wordAt w 1))
-      (omega (arith, length-row (keyedBy w o k) (wordAt w 1) p, length-set w (keyAt (wordAt w 1)) (keyWord o k), s .size))
+      (omega (arith, length-keyed w (wordAt w 1) (keyWord o k) p, s .size))
 
   pub sized-new-row : Sized (withNewRow w o k p)
   unfolding withNewRow
   sized-new-row = record {
-    size = length-set (withRow (keyedBy w o k) (wordAt w 1) p) 1 (suc (wordAt w 1)) ∙ length-row (keyedBy w o k) (wordAt w 1) p
-        ∙ length-set w (keyAt (wordAt w 1)) (keyWord o k) ∙ s .size;
+    size = length-set (withRow (keyedBy w o k) (wordAt w 1) p) 1 (suc (wordAt w 1)) ∙ length-keyed w (wordAt w 1) (keyWord o k) p ∙ s .size;
     objects = rw (new-out 0 (λ e. omega arith) (λ e. omega arith) (λ m t e. omega arith)) (s .objects);
     properties = rw new-count (omega arith);
   }

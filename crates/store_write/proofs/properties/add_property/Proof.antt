@@ -1,9 +1,9 @@
 use Rattle.store.proofs.WordLaws.{sized}
-use Rattle.store_write.proofs.WriteLaws.{length-row, became, becomes-new-row, new-row-stored}
-use Rattle.store.specs.Words.{wordAt, keyAt, withRow}
-use lib.ListN.{length, set, length-set}
+use Rattle.store_write.proofs.WriteLaws.{length-keyed, became, becomes-new-row, new-row-stored}
+use Rattle.store.specs.Words.{wordAt, keyAt}
+use lib.ListN.{length, length-set}
 use denote.Ref.{now}
-use mathlib.Core.Path.{_≡_, ap, _∙_}
+use mathlib.Core.Path.{ap, _∙_}
 use native.Mathlib.Omega.{arith}
 use borrow.Author.Needs.{needs}
 use Rattle.store_write.proofs.properties.add_property.Statement.{statement}
@@ -19,20 +19,13 @@ write-row-requires c κs =
 slice-write-words-2 : tie.Need-slice-write-words-2
 slice-write-words-2 c =
     let a = c .before .before .before .before .before .before .before .args in
-    let w = now (a .words) in
-    let s = sized w (c .before .before .before .before .before .before .before .pre .0) in
-    let v = set w (keyAt (wordAt w 1)) (c .before .before .before .before .key-word .result) in
-    let l : length (withRow v (wordAt w 1) (a .p)) ≡ length w = length-row v (wordAt w 1) (a .p) ∙ length-set w (keyAt (wordAt w 1)) (c .before .before .before .before .key-word .result) in
-    omega (arith, ap length (c .before .before .write-row .ensures .0))
+    let s = sized (now (a .words)) (c .before .before .before .before .before .before .before .pre .0) in
+    omega (arith, ap length (c .before .before .write-row .ensures .0), length-keyed (now (a .words)) (wordAt (now (a .words)) 1) (c .before .before .before .before .key-word .result) (a .p))
 
 same-length : tie.Need-same-length
 same-length c =
     let a = c .before .before .before .before .before .before .before .args in
-    let w = now (a .words) in
-    let s = sized w (c .before .before .before .before .before .before .before .pre .0) in
-    let v = set w (keyAt (wordAt w 1)) (c .before .before .before .before .key-word .result) in
-    let l : length (withRow v (wordAt w 1) (a .p)) ≡ length w = length-row v (wordAt w 1) (a .p) ∙ length-set w (keyAt (wordAt w 1)) (c .before .before .before .before .key-word .result) in
-    simp length-set (ap length (c .before .before .write-row .ensures .0) ∙ l)
+    simp length-set (ap length (c .before .before .write-row .ensures .0) ∙ length-keyed (now (a .words)) (wordAt (now (a .words)) 1) (c .before .before .before .before .key-word .result) (a .p))
 
 returns : tie.Need-returns
 returns c =
