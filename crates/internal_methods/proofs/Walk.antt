@@ -91,47 +91,47 @@ Judgement = (A : Type 0) → M A → M A → (A → Type 0) → Type 0
 
 -- what is known of an answer, where so much is of a value
 abbrev pub AnswerBy : (Value → Type 0) → Answer → Type 0
-AnswerBy Val (Answer.value v) = Val v
-AnswerBy Val (Answer.descriptor d) = Unit {0}
-AnswerBy Val (Answer.keys ks) = Unit {0}
-AnswerBy Val (Answer.throw v) = Unit {0}
+AnswerBy OfValue (Answer.value v) = OfValue v
+AnswerBy OfValue (Answer.descriptor d) = Unit {0}
+AnswerBy OfValue (Answer.keys ks) = Unit {0}
+AnswerBy OfValue (Answer.throw v) = Unit {0}
 
 abbrev pub WrittenBy : (Store → Type 0) → Written → Type 0
-WrittenBy Wr w = Wr (w .1)
+WrittenBy OfStore w = OfStore (w .1)
 
-pub record Rules (J : Judgement) (Val : Value → Type 0) : Type 1 where
+pub record Rules (J : Judgement) (OfValue : Value → Type 0) : Type 1 where
   pub yields : {A : Type 0} {Q : A → Type 0} (a : A) → Q a → J A (pure a) (pure a) Q
   pub unreadable : {A : Type 0} {Q : A → Type 0} → J A (fails (Refused 9)) (fails (Refused 9)) Q
   pub error : {A : Type 0} {Q : A → Type 0} (i : ℕ) → Message i → J A (fails (TypeError i)) (fails (TypeError i)) Q
   pub throws : {A : Type 0} {Q : A → Type 0} {k k′ : M A} (i : ℕ) (b : Bool) → Message i → (b ≡ false → J A k k′ Q) → J A (throwIf i b >> k) (throwIf i b >> k′) Q
   pub throws-any : {A : Type 0} {Q : A → Type 0} {k k′ : M A} (x : Option ℕ) → Messages x → (x ≡ none → J A k k′ Q) → J A (throwAny x >> k) (throwAny x >> k′) Q
   pub binds : {A B : Type 0} {Q : B → Type 0} {m m′ : M A} {k k′ : A → M B} → J A m m′ (λ _. Unit {0}) → ((a : A) → J B (k a) (k′ a) Q) → J B (m >>= k) (m′ >>= k′) Q
-  pub binds-value : {B : Type 0} {Q : B → Type 0} {m m′ : M Value} {k k′ : Value → M B} → J Value m m′ Val → ((v : Value) → Val v → J B (k v) (k′ v) Q) → J B (m >>= k) (m′ >>= k′) Q
-  pub asks : {B : Type 0} {Q : B → Type 0} {k k′ : Answer → M B} → ((a : Answer) → AnswerBy Val a → J B (k a) (k′ a) Q) → J B (ask >>= k) (ask >>= k′) Q
+  pub binds-value : {B : Type 0} {Q : B → Type 0} {m m′ : M Value} {k k′ : Value → M B} → J Value m m′ OfValue → ((v : Value) → OfValue v → J B (k v) (k′ v) Q) → J B (m >>= k) (m′ >>= k′) Q
+  pub asks : {B : Type 0} {Q : B → Type 0} {k k′ : Answer → M B} → ((a : Answer) → AnswerBy OfValue a → J B (k a) (k′ a) Q) → J B (ask >>= k) (ask >>= k′) Q
   -- of the result nothing need be known
   pub any : {A : Type 0} {P : A → Type 0} {m m′ : M A} → J A m m′ P → J A m m′ (λ _. Unit {0})
 
 -- what is known of objects, values and stores
-pub record Known (c : Context) (J : Judgement) (Obj : ℕ → Type 0) (Val : Value → Type 0) (Wr : Store → Type 0) : Type 1 where
+pub record Known (c : Context) (J : Judgement) (OfObject : ℕ → Type 0) (OfValue : Value → Type 0) (OfStore : Store → Type 0) : Type 1 where
   pub full : {A : Type 0} {Q : A → Type 0} → isFull c ≡ true → J A (fails (Refused 7)) (fails (Refused 7)) Q
-  pub object : (v : Value) → Val v → (q : ℕ) → objectOf v ≡ some q → Obj q
-  pub prototype : (o : ℕ) (r : OrdinaryObject) → lookup (c .store) o ≡ some (Ordinary r) → Val (r .prototype)
-  pub target : (o : ℕ) (p : ProxyObject) → lookup (c .store) o ≡ some (Proxy p) → Obj (p .target)
-  pub idle : Wr (c .store)
-  pub puts : (o : ℕ) (r : OrdinaryObject) → Val (r .prototype) → Wr (put (c .store) o (Ordinary r))
-  pub with : (o : ℕ) (k : PropertyKey) (p : Property) → Wr (withProperty (c .store) o k p)
-  pub without : (o : ℕ) (k : PropertyKey) → Wr (withoutProperty (c .store) o k)
+  pub object : (v : Value) → OfValue v → (q : ℕ) → objectOf v ≡ some q → OfObject q
+  pub prototype : (o : ℕ) (r : OrdinaryObject) → lookup (c .store) o ≡ some (Ordinary r) → OfValue (r .prototype)
+  pub target : (o : ℕ) (p : ProxyObject) → lookup (c .store) o ≡ some (Proxy p) → OfObject (p .target)
+  pub idle : OfStore (c .store)
+  pub puts : (o : ℕ) (r : OrdinaryObject) → OfValue (r .prototype) → OfStore (put (c .store) o (Ordinary r))
+  pub with : (o : ℕ) (k : PropertyKey) (p : Property) → OfStore (withProperty (c .store) o k p)
+  pub without : (o : ℕ) (k : PropertyKey) → OfStore (withoutProperty (c .store) o k)
 
 -- a call of a method is one of the method that the object has
-pub record Enters (c : Context) (J J⁺ : Judgement) (Obj : ℕ → Type 0) : Type 1 where
-  pub enters : {A : Type 0} {Q : A → Type 0} {f f′ : OrdinaryObject → M A} {g g′ : ProxyObject → M A} (o : ℕ) → Obj o
+pub record Enters (c : Context) (J J⁺ : Judgement) (OfObject : ℕ → Type 0) : Type 1 where
+  pub enters : {A : Type 0} {Q : A → Type 0} {f f′ : OrdinaryObject → M A} {g g′ : ProxyObject → M A} (o : ℕ) → OfObject o
       → ((r : OrdinaryObject) → lookup (c .store) o ≡ some (Ordinary r) → J A (f r) (f′ r) Q)
       → ((p : ProxyObject) → lookup (c .store) o ≡ some (Proxy p) → J A (g p) (g′ p) Q)
       → J⁺ A (dispatch (c .store) o f g) (dispatch (c .store) o f′ g′) Q
 
 -- The answers -----------------------------------------------------------------------------
 
-module _ {J : Judgement} {Val : Value → Type 0} (law : Rules J Val) where
+module _ {J : Judgement} {OfValue : Value → Type 0} (law : Rules J OfValue) where
   -- a number that is written is seen to be a message's
   type-error : {A : Type 0} {Q : A → Type 0} (i : ℕ) → T (isMessage i) → J A (fails (TypeError i)) (fails (TypeError i)) Q
   type-error i t = law .error i (message i t)
@@ -144,14 +144,14 @@ module _ {J : Judgement} {Val : Value → Type 0} (law : Rules J Val) where
   by-if true f g = f refl
   by-if false f g = g refl
 
-  asValue-by : (a : Answer) → AnswerBy Val a → J Value (asValue a) (asValue a) Val
+  asValue-by : (a : Answer) → AnswerBy OfValue a → J Value (asValue a) (asValue a) OfValue
   unfolding asValue
   asValue-by (Answer.value v) m = law .yields v m
   asValue-by (Answer.descriptor d) m = law .unreadable
   asValue-by (Answer.keys ks) m = law .unreadable
   asValue-by (Answer.throw v) m = law .unreadable
 
-  pub askValue-by : J Value askValue askValue Val
+  pub askValue-by : J Value askValue askValue OfValue
   unfolding askValue
   askValue-by = law .asks asValue-by
 
@@ -159,7 +159,7 @@ module _ {J : Judgement} {Val : Value → Type 0} (law : Rules J Val) where
   unfolding askBoolean
   askBoolean-by strings = law .binds-value askValue-by λ v _. law .yields _ tt
 
-  asPrototype-by : (v : Value) → Val v → J Value (asPrototype v) (asPrototype v) Val
+  asPrototype-by : (v : Value) → OfValue v → J Value (asPrototype v) (asPrototype v) OfValue
   unfolding asPrototype
   asPrototype-by value.Null m = law .yields _ m
   asPrototype-by (value.Object o) m = law .yields _ m
@@ -171,7 +171,7 @@ module _ {J : Judgement} {Val : Value → Type 0} (law : Rules J Val) where
   asPrototype-by (value.String s) m = type-error 2 tt
   asPrototype-by (value.Symbol s) m = type-error 2 tt
 
-  pub askPrototype-by : J Value askPrototype askPrototype Val
+  pub askPrototype-by : J Value askPrototype askPrototype OfValue
   unfolding askPrototype
   askPrototype-by = law .binds-value askValue-by asPrototype-by
 
@@ -186,7 +186,7 @@ module _ {J : Judgement} {Val : Value → Type 0} (law : Rules J Val) where
   undefinedDescriptor-by (value.String s) = type-error 7 tt
   undefinedDescriptor-by (value.Symbol s) = type-error 7 tt
 
-  asDescriptor-by : (a : Answer) → AnswerBy Val a → J (Option DescriptorObject) (asDescriptor a) (asDescriptor a) (λ _. Unit {0})
+  asDescriptor-by : (a : Answer) → AnswerBy OfValue a → J (Option DescriptorObject) (asDescriptor a) (asDescriptor a) (λ _. Unit {0})
   unfolding asDescriptor
   asDescriptor-by (Answer.value v) m = undefinedDescriptor-by v
   asDescriptor-by (Answer.descriptor d) m = law .yields _ tt
@@ -212,7 +212,7 @@ module _ {J : Judgement} {Val : Value → Type 0} (law : Rules J Val) where
   unlisted-by (value.String s) = type-error 31 tt
   unlisted-by (value.Symbol s) = type-error 31 tt
 
-  asKeys-by : (a : Answer) → AnswerBy Val a → J (List PropertyKey) (asKeys a) (asKeys a) (λ _. Unit {0})
+  asKeys-by : (a : Answer) → AnswerBy OfValue a → J (List PropertyKey) (asKeys a) (asKeys a) (λ _. Unit {0})
   unfolding asKeys
   asKeys-by (Answer.value v) m = unlisted-by v
   asKeys-by (Answer.descriptor d) m = law .unreadable
@@ -234,22 +234,22 @@ module _ {J : Judgement} {Val : Value → Type 0} (law : Rules J Val) where
 
 -- The methods -----------------------------------------------------------------------------
 
-pub record MethodsBy (J : Judgement) (Obj : ℕ → Type 0) (Val : Value → Type 0) (Wr : Store → Type 0) (call call′ : Methods) : Type 0 where
-  pub getPrototypeOf : (o : ℕ) → Obj o → J Value (call .getPrototypeOf o) (call′ .getPrototypeOf o) Val
-  pub setPrototypeOf : (o : ℕ) (v : Value) → Obj o → Val v → J Written (call .setPrototypeOf o v) (call′ .setPrototypeOf o v) (WrittenBy Wr)
-  pub isExtensible : (o : ℕ) → Obj o → J Bool (call .isExtensible o) (call′ .isExtensible o) (λ _. Unit {0})
-  pub preventExtensions : (o : ℕ) → Obj o → J Written (call .preventExtensions o) (call′ .preventExtensions o) (WrittenBy Wr)
-  pub getOwnProperty : (o : ℕ) (k : PropertyKey) → Obj o → J OwnProperty (call .getOwnProperty o k) (call′ .getOwnProperty o k) (λ _. Unit {0})
-  pub defineOwnProperty : (o : ℕ) (k : PropertyKey) (d : PropertyDescriptor) → Obj o → J Written (call .defineOwnProperty o k d) (call′ .defineOwnProperty o k d) (WrittenBy Wr)
-  pub hasProperty : (o : ℕ) (k : PropertyKey) → Obj o → J Bool (call .hasProperty o k) (call′ .hasProperty o k) (λ _. Unit {0})
-  pub get : (o : ℕ) (k : PropertyKey) (receiver : Value) → Obj o → J Value (call .get o k receiver) (call′ .get o k receiver) (λ _. Unit {0})
-  pub set : (o : ℕ) (k : PropertyKey) (v receiver : Value) → Obj o → Val receiver → J Written (call .set o k v receiver) (call′ .set o k v receiver) (WrittenBy Wr)
-  pub delete : (o : ℕ) (k : PropertyKey) → Obj o → J Written (call .delete o k) (call′ .delete o k) (WrittenBy Wr)
-  pub ownPropertyKeys : (o : ℕ) → Obj o → J (List PropertyKey) (call .ownPropertyKeys o) (call′ .ownPropertyKeys o) (λ _. Unit {0})
+pub record MethodsBy (J : Judgement) (OfObject : ℕ → Type 0) (OfValue : Value → Type 0) (OfStore : Store → Type 0) (call call′ : Methods) : Type 0 where
+  pub getPrototypeOf : (o : ℕ) → OfObject o → J Value (call .getPrototypeOf o) (call′ .getPrototypeOf o) OfValue
+  pub setPrototypeOf : (o : ℕ) (v : Value) → OfObject o → OfValue v → J Written (call .setPrototypeOf o v) (call′ .setPrototypeOf o v) (WrittenBy OfStore)
+  pub isExtensible : (o : ℕ) → OfObject o → J Bool (call .isExtensible o) (call′ .isExtensible o) (λ _. Unit {0})
+  pub preventExtensions : (o : ℕ) → OfObject o → J Written (call .preventExtensions o) (call′ .preventExtensions o) (WrittenBy OfStore)
+  pub getOwnProperty : (o : ℕ) (k : PropertyKey) → OfObject o → J OwnProperty (call .getOwnProperty o k) (call′ .getOwnProperty o k) (λ _. Unit {0})
+  pub defineOwnProperty : (o : ℕ) (k : PropertyKey) (d : PropertyDescriptor) → OfObject o → J Written (call .defineOwnProperty o k d) (call′ .defineOwnProperty o k d) (WrittenBy OfStore)
+  pub hasProperty : (o : ℕ) (k : PropertyKey) → OfObject o → J Bool (call .hasProperty o k) (call′ .hasProperty o k) (λ _. Unit {0})
+  pub get : (o : ℕ) (k : PropertyKey) (receiver : Value) → OfObject o → J Value (call .get o k receiver) (call′ .get o k receiver) (λ _. Unit {0})
+  pub set : (o : ℕ) (k : PropertyKey) (v receiver : Value) → OfObject o → OfValue receiver → J Written (call .set o k v receiver) (call′ .set o k v receiver) (WrittenBy OfStore)
+  pub delete : (o : ℕ) (k : PropertyKey) → OfObject o → J Written (call .delete o k) (call′ .delete o k) (WrittenBy OfStore)
+  pub ownPropertyKeys : (o : ℕ) → OfObject o → J (List PropertyKey) (call .ownPropertyKeys o) (call′ .ownPropertyKeys o) (λ _. Unit {0})
 
-module _ {c : Context} {J : Judgement} {Obj : ℕ → Type 0} {Val : Value → Type 0} {Wr : Store → Type 0} (law : Rules J Val) (known : Known c J Obj Val Wr) where
+module _ {c : Context} {J : Judgement} {OfObject : ℕ → Type 0} {OfValue : Value → Type 0} {OfStore : Store → Type 0} (law : Rules J OfValue) (known : Known c J OfObject OfValue OfStore) where
   -- either case of a value that is an object or none
-  by-object : {A : Type 0} {Q : A → Type 0} {m m′ : M A} {k k′ : ℕ → M A} (v : Value) → Val v → J A m m′ Q → ((q : ℕ) → Obj q → J A (k q) (k′ q) Q)
+  by-object : {A : Type 0} {Q : A → Type 0} {m m′ : M A} {k k′ : ℕ → M A} (v : Value) → OfValue v → J A m m′ Q → ((q : ℕ) → OfObject q → J A (k q) (k′ q) Q)
       → J A (elim (objectOf v) [ none ↦ m | some q ↦ k q ]) (elim (objectOf v) [ none ↦ m′ | some q ↦ k′ q ]) Q
   by-object {A} {Q} {m} {m′} {k} {k′} v h hm hk = go (objectOf v) refl
     where
@@ -257,17 +257,17 @@ module _ {c : Context} {J : Judgement} {Obj : ℕ → Type 0} {Val : Value → T
       go none e = hm
       go (some q) e = hk q (known .object v h q e)
 
-  setPrototypeOf-written : (o : ℕ) (r : OrdinaryObject) (v : Value) → Val v → WrittenBy Wr (ordinarySetPrototypeOf (c .store) o r v)
+  setPrototypeOf-written : (o : ℕ) (r : OrdinaryObject) (v : Value) → OfValue v → WrittenBy OfStore (ordinarySetPrototypeOf (c .store) o r v)
   unfolding ordinarySetPrototypeOf
   setPrototypeOf-written o r v m = go (sameValue v (r .prototype)) (not (r .extensible)) (reaches (length (c .store .objects)) (c .store) o v)
     where
-      go : (same fixed cyclic : Bool) → WrittenBy Wr (cond same (true, c .store) (cond fixed (false, c .store) (cond cyclic (false, c .store) (true, put (c .store) o (withPrototype r v)))))
+      go : (same fixed cyclic : Bool) → WrittenBy OfStore (cond same (true, c .store) (cond fixed (false, c .store) (cond cyclic (false, c .store) (true, put (c .store) o (withPrototype r v)))))
       go true fixed cyclic = known .idle
       go false true cyclic = known .idle
       go false false true = known .idle
       go false false false = known .puts o _ m
 
-  applyValidation-by : (o : ℕ) (k : PropertyKey) (current : OwnProperty) (v : Validation) → J Written (applyValidation c o k current v) (applyValidation c o k current v) (WrittenBy Wr)
+  applyValidation-by : (o : ℕ) (k : PropertyKey) (current : OwnProperty) (v : Validation) → J Written (applyValidation c o k current v) (applyValidation c o k current v) (WrittenBy OfStore)
   unfolding applyValidation
   applyValidation-by o k current Rejected = law .yields _ (known .idle)
   applyValidation-by o k current Unchanged = law .yields _ (known .idle)
@@ -276,16 +276,16 @@ module _ {c : Context} {J : Judgement} {Obj : ℕ → Type 0} {Val : Value → T
       (λ _. law .yields _ (known .with o k p))
   applyValidation-by o k (Present q) (Becomes p) = law .yields _ (known .with o k p)
 
-  module _ (call call′ : Methods) (h : MethodsBy J Obj Val Wr call call′) where
-    defineOwnProperty-ordinary : (o : ℕ) (k : PropertyKey) (d : PropertyDescriptor) → Obj o
-        → J Written (ordinaryDefineOwnProperty c call o k d) (ordinaryDefineOwnProperty c call′ o k d) (WrittenBy Wr)
+  module _ (call call′ : Methods) (h : MethodsBy J OfObject OfValue OfStore call call′) where
+    defineOwnProperty-ordinary : (o : ℕ) (k : PropertyKey) (d : PropertyDescriptor) → OfObject o
+        → J Written (ordinaryDefineOwnProperty c call o k d) (ordinaryDefineOwnProperty c call′ o k d) (WrittenBy OfStore)
     unfolding ordinaryDefineOwnProperty
     defineOwnProperty-ordinary o k d m =
         law .binds (h .getOwnProperty o k m) λ current.
         law .binds (h .isExtensible o m) λ extensible.
         applyValidation-by o k current _
 
-    hasProperty-ordinary : (o : ℕ) (k : PropertyKey) → Obj o
+    hasProperty-ordinary : (o : ℕ) (k : PropertyKey) → OfObject o
         → J Bool (ordinaryHasProperty call o k) (ordinaryHasProperty call′ o k) (λ _. Unit {0})
     unfolding ordinaryHasProperty
     hasProperty-ordinary o k m =
@@ -296,7 +296,7 @@ module _ {c : Context} {J : Judgement} {Obj : ℕ → Type 0} {Val : Value → T
               by-object parent mp (law .yields _ tt) λ q mq. h .hasProperty q k mq
         ])
 
-    get-ordinary : (o : ℕ) (k : PropertyKey) (receiver : Value) → Obj o
+    get-ordinary : (o : ℕ) (k : PropertyKey) (receiver : Value) → OfObject o
         → J Value (ordinaryGet call o k receiver) (ordinaryGet call′ o k receiver) (λ _. Unit {0})
     unfolding ordinaryGet
     get-ordinary o k receiver m =
@@ -308,8 +308,8 @@ module _ {c : Context} {J : Judgement} {Obj : ℕ → Type 0} {Val : Value → T
           | Present (Accessor g s e f) ↦ by-if law _ (λ _. law .yields _ tt) (λ _. law .any (askValue-by law))
         ])
 
-    setOnReceiver-by : (k : PropertyKey) (v : Value) (receiver : ℕ) → Obj receiver
-        → J Written (setOnReceiver c call k v receiver) (setOnReceiver c call′ k v receiver) (WrittenBy Wr)
+    setOnReceiver-by : (k : PropertyKey) (v : Value) (receiver : ℕ) → OfObject receiver
+        → J Written (setOnReceiver c call k v receiver) (setOnReceiver c call′ k v receiver) (WrittenBy OfStore)
     unfolding setOnReceiver
     setOnReceiver-by k v receiver m =
         law .binds (h .getOwnProperty receiver k m) (elim [
@@ -318,15 +318,15 @@ module _ {c : Context} {J : Judgement} {Obj : ℕ → Type 0} {Val : Value → T
           | Absent ↦ h .defineOwnProperty receiver k _ m
         ])
 
-    setData-by : (k : PropertyKey) (v : Value) (writable : Bool) (receiver : Value) → Val receiver
-        → J Written (setData c call k v writable receiver) (setData c call′ k v writable receiver) (WrittenBy Wr)
+    setData-by : (k : PropertyKey) (v : Value) (writable : Bool) (receiver : Value) → OfValue receiver
+        → J Written (setData c call k v writable receiver) (setData c call′ k v writable receiver) (WrittenBy OfStore)
     unfolding setData
     setData-by k v writable receiver mr =
         by-if law _ (λ _. law .yields _ (known .idle))
         (λ _. by-object receiver mr (law .yields _ (known .idle)) λ q m. setOnReceiver-by k v q m)
 
-    set-ordinary : (o : ℕ) (k : PropertyKey) (v receiver : Value) → Obj o → Val receiver
-        → J Written (ordinarySet c call o k v receiver) (ordinarySet c call′ o k v receiver) (WrittenBy Wr)
+    set-ordinary : (o : ℕ) (k : PropertyKey) (v receiver : Value) → OfObject o → OfValue receiver
+        → J Written (ordinarySet c call o k v receiver) (ordinarySet c call′ o k v receiver) (WrittenBy OfStore)
     unfolding ordinarySet
     set-ordinary o k v receiver m mr =
         law .binds (h .getOwnProperty o k m) (elim [
@@ -339,8 +339,8 @@ module _ {c : Context} {J : Judgement} {Obj : ℕ → Type 0} {Val : Value → T
               (λ _. law .binds-value (askValue-by law) λ _ _. law .yields _ (known .idle))
         ])
 
-    delete-ordinary : (o : ℕ) (k : PropertyKey) → Obj o
-        → J Written (ordinaryDelete c call o k) (ordinaryDelete c call′ o k) (WrittenBy Wr)
+    delete-ordinary : (o : ℕ) (k : PropertyKey) → OfObject o
+        → J Written (ordinaryDelete c call o k) (ordinaryDelete c call′ o k) (WrittenBy OfStore)
     unfolding ordinaryDelete
     delete-ordinary o k m =
         law .binds (h .getOwnProperty o k m) (elim [
@@ -348,8 +348,8 @@ module _ {c : Context} {J : Judgement} {Obj : ℕ → Type 0} {Val : Value → T
           | Present p ↦ by-if law _ (λ _. law .yields _ (known .without o k)) (λ _. law .yields _ (known .idle))
         ])
 
-    module _ (p : ProxyObject) (m : Obj (p .target)) where
-      getPrototypeOf-proxy : J Value (proxyGetPrototypeOf call p) (proxyGetPrototypeOf call′ p) Val
+    module _ (p : ProxyObject) (m : OfObject (p .target)) where
+      getPrototypeOf-proxy : J Value (proxyGetPrototypeOf call p) (proxyGetPrototypeOf call′ p) OfValue
       unfolding proxyGetPrototypeOf
       getPrototypeOf-proxy =
           by-if law _ (λ _. h .getPrototypeOf (p .target) m)
@@ -360,7 +360,7 @@ module _ {c : Context} {J : Judgement} {Obj : ℕ → Type 0} {Val : Value → T
           throw-if law _ _ tt λ _.
           law .yields _ mh))
 
-      setPrototypeOf-proxy : (v : Value) → Val v → J Written (proxySetPrototypeOf c call p v) (proxySetPrototypeOf c call′ p v) (WrittenBy Wr)
+      setPrototypeOf-proxy : (v : Value) → OfValue v → J Written (proxySetPrototypeOf c call p v) (proxySetPrototypeOf c call′ p v) (WrittenBy OfStore)
       unfolding proxySetPrototypeOf
       setPrototypeOf-proxy v mv =
           by-if law _ (λ _. h .setPrototypeOf (p .target) v m mv)
@@ -381,7 +381,7 @@ module _ {c : Context} {J : Judgement} {Obj : ℕ → Type 0} {Val : Value → T
           throw-if law _ _ tt λ _.
           law .yields _ tt)
 
-      preventExtensions-proxy : J Written (proxyPreventExtensions c call p) (proxyPreventExtensions c call′ p) (WrittenBy Wr)
+      preventExtensions-proxy : J Written (proxyPreventExtensions c call p) (proxyPreventExtensions c call′ p) (WrittenBy OfStore)
       unfolding proxyPreventExtensions
       preventExtensions-proxy =
           by-if law _ (λ _. h .preventExtensions (p .target) m)
@@ -417,7 +417,7 @@ module _ {c : Context} {J : Judgement} {Obj : ℕ → Type 0} {Val : Value → T
                 law .yields _ tt
           ])
 
-      defineOwnProperty-proxy : (k : PropertyKey) (d : PropertyDescriptor) → J Written (proxyDefineOwnProperty c call p k d) (proxyDefineOwnProperty c call′ p k d) (WrittenBy Wr)
+      defineOwnProperty-proxy : (k : PropertyKey) (d : PropertyDescriptor) → J Written (proxyDefineOwnProperty c call p k d) (proxyDefineOwnProperty c call′ p k d) (WrittenBy OfStore)
       unfolding proxyDefineOwnProperty
       defineOwnProperty-proxy k d =
           by-if law _ (λ _. h .defineOwnProperty (p .target) k d m)
@@ -462,7 +462,7 @@ module _ {c : Context} {J : Judgement} {Obj : ℕ → Type 0} {Val : Value → T
           throw-if law _ _ tt λ _.
           law .yields _ tt)
 
-      set-proxy : (k : PropertyKey) (v receiver : Value) → Val receiver → J Written (proxySet c call p k v receiver) (proxySet c call′ p k v receiver) (WrittenBy Wr)
+      set-proxy : (k : PropertyKey) (v receiver : Value) → OfValue receiver → J Written (proxySet c call p k v receiver) (proxySet c call′ p k v receiver) (WrittenBy OfStore)
       unfolding proxySet
       set-proxy k v receiver mr =
           by-if law _ (λ _. h .set (p .target) k v receiver m mr)
@@ -473,7 +473,7 @@ module _ {c : Context} {J : Judgement} {Obj : ℕ → Type 0} {Val : Value → T
           throw-if law _ _ tt λ _.
           law .yields _ (known .idle)))
 
-      delete-proxy : (k : PropertyKey) → J Written (proxyDelete c call p k) (proxyDelete c call′ p k) (WrittenBy Wr)
+      delete-proxy : (k : PropertyKey) → J Written (proxyDelete c call p k) (proxyDelete c call′ p k) (WrittenBy OfStore)
       unfolding proxyDelete
       delete-proxy k =
           by-if law _ (λ _. h .delete (p .target) k m)
@@ -500,7 +500,7 @@ module _ {c : Context} {J : Judgement} {Obj : ℕ → Type 0} {Val : Value → T
           law .throws-any _ (rejected-messages extensibleTarget target trapResult) λ _.
           law .yields _ tt)
 
-    pub level-by : (J⁺ : Judgement) → Enters c J J⁺ Obj → MethodsBy J⁺ Obj Val Wr (level c call) (level c call′)
+    pub level-by : (J⁺ : Judgement) → Enters c J J⁺ OfObject → MethodsBy J⁺ OfObject OfValue OfStore (level c call) (level c call′)
     level-by J⁺ into = record {
       getPrototypeOf = λ o m. into .enters o m (λ r e. law .yields _ (known .prototype o r e)) (λ p e. getPrototypeOf-proxy p (known .target o p e));
       setPrototypeOf = λ o v m mv. into .enters o m (λ r e. law .yields _ (setPrototypeOf-written o r v mv)) (λ p e. setPrototypeOf-proxy p (known .target o p e) v mv);
