@@ -16,7 +16,8 @@ use Rattle.store.specs.declared.Object.{Object}
 use Rattle.store.specs.declared.Object.the-variants.{Ordinary, Proxy}
 use Rattle.store.specs.Store.{lookup, own}
 use Rattle.store.specs.Words.{storeOf, isStore, wordAt}
-use Rattle.store_read.proofs.ReadLaws.{sized, lookup-missing}
+use Rattle.store.proofs.WordLaws.{sized}
+use Rattle.store_read.proofs.ReadLaws.{lookup-missing}
 use Rattle.internal_methods.specs.Monad.{State, Out, done, M, pure}
 use Rattle.internal_methods.specs.Methods.{Context}
 use Rattle.internal_methods.specs.Ordinary.{ordinaryGetOwnProperty, applyValidation}

@@ -9,7 +9,8 @@ use Rattle.value.specs.declared.PropertyKey.{PropertyKey}
 use Rattle.store.specs.declared.Object.{Object}
 use Rattle.store.specs.Store.{lookup}
 use Rattle.store.specs.Words.{isStore, storeOf}
-use Rattle.store_read.proofs.ReadLaws.{sized, lookup-below}
+use Rattle.store.proofs.WordLaws.{sized}
+use Rattle.store_read.proofs.ReadLaws.{lookup-below}
 use Rattle.store_write.specs.declared.write.Write.the-variants as write
 use Rattle.store_write.specs.Write.{fitsIn, Joins, numberIn}
 

@@ -7,6 +7,7 @@ pub mod Writing
 pub mod KeyListLaws
 pub mod Keys
 pub mod Reports
+pub mod Walk
 pub mod Longer
 pub mod StoreClosed
 pub mod Budget

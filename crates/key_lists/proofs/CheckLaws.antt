@@ -4,23 +4,24 @@ use native.Mathlib.Omega.{arith}
 use mathlib.Core.Path.{_≡_, refl, sym, ap, _∙_}
 use mathlib.Core.Bool.{Bool, true, false, not, cond}
 use mathlib.Core.Option.{Option, none, some}
-use mathlib.Core.List.{List, [], _∷_, map}
+use mathlib.Core.List.{List, [], _∷_}
 use lib.Dec.{eqb, ltb}
 use lib.ListN.{length, getD, take, drop, set}
 use lib.Seq.{length-take-le, take-set-lt}
 use borrow.Author.Tests.{eqb-true, eq-eqb, ne-eqb, lt-ltb, le-ltb, not-true, not-false}
 use Rattle.value.specs.declared.PropertyKey.{PropertyKey}
-use Rattle.store_read.specs.Answers.{keyFromWord}
+use Rattle.store_read.specs.Answers.{keyFromWord, firstWhere}
+use Rattle.store_read.proofs.ListLaws.{next-word, no-more}
 use Rattle.internal_methods.specs.KeyList.{hasKey, withoutKey, isEmpty, checkedOff}
 use Rattle.key_lists.specs.KeyWords.{placeOfWord}
-use Rattle.key_lists.proofs.KeyWordLaws.{key-word, ltb-suc, next-word, no-more}
+use Rattle.key_lists.proofs.KeyWordLaws.{key-word, ltb-suc}
 use Rattle.key_lists.specs.Unchecked.{checkedMark, unchecked, unlessMissing, isDue, dueKeys, missingMessage, turnMessage, lastMessage}
 
 -- Steps 19.b and 21.b: one key is checked off -----------------------------------------------------
 
 module _ (word : ℕ) (other : word ≡ checkedMark → ⊥) where
   unchecked-has : (ws : List ℕ) → hasKey (keyFromWord word) (unchecked ws) ≡ ltb (placeOfWord word ws) (length ws)
-  unfolding hasKey unchecked placeOfWord
+  unfolding hasKey unchecked firstWhere
   unchecked-has [] = sym (le-ltb 0 0 (omega arith))
   unchecked-has (w ∷ ws) = go (eqb w checkedMark) refl (eqb w word) refl (unchecked-has ws)
     where
@@ -32,7 +33,7 @@ module _ (word : ℕ) (other : word ≡ checkedMark → ⊥) where
       go false e false f ih = rw (key-word w word ∙ f) (ih ∙ ltb-suc (placeOfWord word ws) (length ws))
 
   unchecked-set : (ws : List ℕ) → placeOfWord word ws < length ws → unchecked (set ws (placeOfWord word ws) checkedMark) ≡ withoutKey (keyFromWord word) (unchecked ws)
-  unfolding withoutKey unchecked placeOfWord
+  unfolding withoutKey unchecked firstWhere
   unchecked-set [] l = absurd (omega arith)
   unchecked-set (w ∷ ws) l = go (eqb w checkedMark) refl (eqb w word) refl (unchecked-set ws) l
     where

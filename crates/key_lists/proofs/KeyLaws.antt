@@ -10,7 +10,7 @@ use mathlib.Core.List.{List, [], _∷_, _++_, map, append-assoc, append-nil}
 use lib.Dec.{eqb, ltb}
 use lib.ListN.{length, getD, take, drop, set, length-append, length-drop, length-map}
 use lib.Seq.{sets, sets-eq, take-suc, take-at, drop-at, drop-drop, length-take-le, getD-set-same, getD-set-other}
-use borrow.Author.Tests.{eq-eqb, ne-eqb, eqb-true, eqb-false, ltb-true}
+use borrow.Author.Tests.{ne-eqb, eqb-true, eqb-false, ltb-true}
 use Rattle.value.specs.declared.Value.{Value}
 use Rattle.value.specs.declared.Value.the-variants as value
 use Rattle.value.specs.declared.PropertyKey.{PropertyKey}
@@ -24,7 +24,7 @@ use Rattle.record.specs.Step.{isSome}
 use Rattle.record.specs.Sheet.{valuesAt, valuesPass}
 use Rattle.byte_records.proofs.ByteLaws.{length-value}
 use Rattle.store_read.specs.Answers.{keyFromWord, Listed}
-use Rattle.store_read.proofs.ListLaws.{Listing, listing-start, listing-more, listing-end}
+use Rattle.store_read.proofs.ListLaws.{map-append, Listing, listing-start, listing-more, listing-end}
 use Rattle.steps.specs.Step.{keysBytes}
 use Rattle.key_lists.specs.Keys.{keysHeld, greatest}
 
@@ -248,10 +248,6 @@ pub length-bytes : (ks : List PropertyKey) → length (keysBytes ks) ≡ 9 * len
 unfolding keysBytes
 length-bytes [] = refl
 length-bytes (k ∷ ks) = length-append (valueBytes (keyValue k)) (keysBytes ks) ∙ rw (length-value (keyValue k), length-bytes ks) (omega arith)
-
-map-append : (xs ys : List ℕ) → map keyFromWord (xs ++ ys) ≡ map keyFromWord xs ++ map keyFromWord ys
-map-append [] ys = refl
-map-append (x ∷ xs) ys = ap (λ (r : List PropertyKey). keyFromWord x ∷ r) (map-append xs ys)
 
 -- the output once the keys of the first i words are written
 abbrev pub written : List ℕ → List ℕ → ℕ → List ℕ

@@ -4,46 +4,38 @@ use native.Mathlib.Omega.{arith}
 use native.Mathlib.Numerals.{add-one}
 use mathlib.Core.Path.{_≡_, refl, sym, ap, _∙_}
 use mathlib.Core.Bool.{Bool, true, false, _||_, cond}
-use mathlib.Core.Option.{Option, none, some}
+use mathlib.Core.Option.{Option, none}
 use mathlib.Core.List.{List, [], _∷_, _++_, map}
 use lib.Dec.{eqb, ltb}
-use lib.ListN.{length, getD, take, drop, drop-of-length-le}
-use lib.Seq.{length-take-le, take-suc, drop-cons, getD-take}
-use borrow.Author.Tests.{eqb-true, eqb-false, eq-eqb, ne-eqb, ltb-true, lt-ltb, le-ltb}
+use lib.ListN.{length, getD, take, drop}
+use lib.Seq.{length-take-le, take-suc}
+use borrow.Author.Tests.{eqb-true, eqb-false, eq-eqb, ltb-true, lt-ltb, le-ltb}
 use Rattle.value.specs.declared.PropertyKey.{PropertyKey}
 use Rattle.value.specs.declared.PropertyKey.the-variants.{String, Symbol}
 use Rattle.value.specs.PropertyKey.{sameKey}
 use Rattle.value.specs.Words.{pick}
 use Rattle.value.proofs.Bools.{bool-ext, or-swap}
-use Rattle.store_read.specs.Answers.{keyFromWord}
+use Rattle.value.proofs.SameKey.{key-refl, key-eq}
+use Rattle.store_read.specs.Answers.{keyFromWord, keyToWord, firstWhere}
+use Rattle.store_read.proofs.ListLaws.{map-append, next-word, no-more}
 use Rattle.internal_methods.specs.KeyList.{hasKey, duplicate, duplicateMessage}
 use Rattle.key_lists.specs.KeyWords.{messageNumber, placeOfWord}
 
 -- One key in a word ---------------------------------------------------------------------------
 
-same-word : (a b : ℕ) (p q : Bool) → eqb (a % 2) 0 ≡ p → eqb (b % 2) 0 ≡ q
-    → sameKey (pick p (String (a / 2)) (Symbol (a / 2))) (pick q (String (b / 2)) (Symbol (b / 2))) ≡ eqb a b
-unfolding sameKey
-same-word a b true true e f =
-    let x : a % 2 ≡ 0 = eqb-true _ _ e in
-    let y : b % 2 ≡ 0 = eqb-true _ _ f in
-    bool-ext _ _ (λ h. let z = eqb-true (a / 2) (b / 2) h in eq-eqb a b (omega arith)) (λ h. let z = eqb-true a b h in eq-eqb (a / 2) (b / 2) (omega arith))
-same-word a b true false e f =
-    let x : a % 2 ≡ 0 = eqb-true _ _ e in
-    let y : b % 2 ≡ 0 → ⊥ = eqb-false _ _ f in
-    sym (ne-eqb a b (λ z. y (omega arith)))
-same-word a b false true e f =
-    let x : a % 2 ≡ 0 → ⊥ = eqb-false _ _ e in
-    let y : b % 2 ≡ 0 = eqb-true _ _ f in
-    sym (ne-eqb a b (λ z. x (omega arith)))
-same-word a b false false e f =
-    let x : a % 2 ≡ 0 → ⊥ = eqb-false _ _ e in
-    let y : b % 2 ≡ 0 → ⊥ = eqb-false _ _ f in
-    bool-ext _ _ (λ h. let z = eqb-true (a / 2) (b / 2) h in eq-eqb a b (omega arith)) (λ h. let z = eqb-true a b h in eq-eqb (a / 2) (b / 2) (omega arith))
+word-again : (a : ℕ) → keyToWord (keyFromWord a) ≡ a
+unfolding keyFromWord
+word-again a = go (eqb (a % 2) 0) refl
+  where
+    go : (b : Bool) → eqb (a % 2) 0 ≡ b → keyToWord (pick b (String (a / 2)) (Symbol (a / 2))) ≡ a
+    go true e = let z = eqb-true (a % 2) 0 e in omega arith
+    go false e = let z = eqb-false (a % 2) 0 e in omega arith
 
 pub key-word : (a b : ℕ) → sameKey (keyFromWord a) (keyFromWord b) ≡ eqb a b
-unfolding keyFromWord
-key-word a b = same-word a b _ _ refl refl
+key-word a b =
+    bool-ext _ _
+    (λ h. eq-eqb a b (sym (word-again a) ∙ ap keyToWord (key-eq (keyFromWord a) (keyFromWord b) h) ∙ word-again b))
+    (λ h. rw (eqb-true a b h) (key-refl (keyFromWord b)))
 
 message-word : (w : ℕ) → duplicateMessage (keyFromWord w) ≡ 22 + w % 2
 unfolding keyFromWord
@@ -56,34 +48,11 @@ message-word w = go (eqb (w % 2) 0) refl
 pub ltb-suc : (a b : ℕ) → ltb a b ≡ ltb (suc a) (suc b)
 ltb-suc a b = bool-ext _ _ (λ h. lt-ltb (suc a) (suc b) (omega (arith, ltb-true a b h))) (λ h. lt-ltb a b (omega (arith, ltb-true (suc a) (suc b) h)))
 
--- Where a word stands -----------------------------------------------------------------------
-
-pub next-word : (ws : List ℕ) (n i : ℕ) → n ≤ length ws → i < n → drop i (take n ws) ≡ getD ws i 0 ∷ drop (i + 1) (take n ws)
-next-word ws n i h l =
-    let s : i < length (take n ws) = omega (arith, length-take-le n ws h) in
-    rw (drop-cons (take n ws) i 0 s, getD-take n ws i 0 l, add-one i)
-
-pub no-more : (ws : List ℕ) (n i : ℕ) → n ≤ length ws → n ≤ i → drop i (take n ws) ≡ []
-no-more ws n i h l = drop-of-length-le (take n ws) {i = i} (omega (arith, length-take-le n ws h))
-
-module _ (word : ℕ) (ws : List ℕ) (i n : ℕ) (h : n ≤ length ws) where
-  pub place-hit : i < n → getD ws i 0 ≡ word → i ≡ i + placeOfWord word (drop i (take n ws))
-  unfolding placeOfWord
-  place-hit l e = rw (next-word ws n i h l, eq-eqb _ _ e) (omega arith)
-
-  pub place-step : i < n → (getD ws i 0 ≡ word → ⊥) → i + placeOfWord word (drop i (take n ws)) ≡ i + 1 + placeOfWord word (drop (i + 1) (take n ws))
-  unfolding placeOfWord
-  place-step l e = rw (next-word ws n i h l, ne-eqb _ _ e) (omega arith)
-
-  pub place-end : n ≤ i → i ≡ i + placeOfWord word (drop i (take n ws))
-  unfolding placeOfWord
-  place-end l = rw (no-more ws n i h l) (omega arith)
-
 -- Step 9 --------------------------------------------------------------------------------------
 
 -- a word stands among others where its key does
 pub place-has : (word : ℕ) (ws : List ℕ) → hasKey (keyFromWord word) (map keyFromWord ws) ≡ ltb (placeOfWord word ws) (length ws)
-unfolding hasKey placeOfWord
+unfolding hasKey firstWhere
 place-has word [] = sym (le-ltb 0 0 (omega arith))
 place-has word (w ∷ ws) = rw (key-word w word) (go (eqb w word) (place-has word ws))
   where
@@ -104,10 +73,6 @@ duplicate-same before others [] h = refl
 duplicate-same before others (k ∷ ks) h =
     rw (h k, duplicate-same (k ∷ before) (k ∷ others) ks (λ l. ap (λ (x : Bool). sameKey k l || x) (h l)))
 
-map-append : (ws vs : List ℕ) → map keyFromWord (ws ++ vs) ≡ map keyFromWord ws ++ map keyFromWord vs
-map-append [] vs = refl
-map-append (w ∷ ws) vs = ap (λ (l : List PropertyKey). keyFromWord w ∷ l) (map-append ws vs)
-
 -- of the words from i on, with those before it
 abbrev pub duplicateFrom : List ℕ → ℕ → ℕ → Option ℕ
 duplicateFrom ws n i = duplicate (map keyFromWord (take i ws)) (map keyFromWord (drop i (take n ws)))
@@ -125,7 +90,7 @@ module _ (ws : List ℕ) (n i : ℕ) (h : n ≤ length ws) (l : i < n) where
   grown =
       duplicate-same _ _ _ (λ k. sym (snoc-has k (keyFromWord (getD ws i 0)) (map keyFromWord (take i ws))))
       ∙ ap (λ (ks : List PropertyKey). duplicate ks (map keyFromWord (drop (i + 1) (take n ws))))
-      (sym (rw (add-one i, take-suc ws i 0 (omega arith)) (map-append (take i ws) (getD ws i 0 ∷ []))))
+      (sym (rw (add-one i, take-suc ws i 0 (omega arith)) (map-append keyFromWord (take i ws) (getD ws i 0 ∷ []))))
 
   pub duplicate-step : i ≤ placeOfWord (getD ws i 0) (take i ws) → duplicateFrom ws n i ≡ duplicateFrom ws n (i + 1)
   unfolding duplicate

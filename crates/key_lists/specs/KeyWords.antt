@@ -1,10 +1,9 @@
 -- Keys, each in one word. Assumes nothing.
-use Prim.Native.Nat.{ℕ, suc}
-use mathlib.Core.Bool.{cond}
+use Prim.Native.Nat.{ℕ}
 use mathlib.Core.Option.{Option, none, some}
 use mathlib.Core.List.{List, [], _∷_}
 use lib.Dec.{eqb}
-use Rattle.store_read.specs.Answers.{keyFromWord}
+use Rattle.store_read.specs.Answers.{keyFromWord, firstWhere}
 use Rattle.internal_methods.specs.KeyList.{Sorted}
 use Rattle.internal_methods.specs.Proxy.{sortedBy}
 
@@ -20,6 +19,5 @@ sortedFrom (w ∷ ws) [] = record { configurable = []; nonconfigurable = [] }
 sortedFrom (w ∷ ws) (mark ∷ marks) = sortedBy (keyFromWord w) (eqb mark 1) (sortedFrom ws marks)
 
 -- where a word stands first, or the length if it is missing
-unfoldable pub placeOfWord : ℕ → List ℕ → ℕ
-placeOfWord word [] = 0
-placeOfWord word (w ∷ ws) = cond (eqb w word) 0 (suc (placeOfWord word ws))
+abbrev pub placeOfWord : ℕ → List ℕ → ℕ
+placeOfWord word ws = firstWhere (λ (w : ℕ). eqb w word) ws

@@ -9,7 +9,7 @@ use Rattle.text.specs.Strings.{Strings}
 use Rattle.store.specs.Words.{isStore, storeOf}
 use Rattle.store.specs.OwnKeys.{ordinaryOwnPropertyKeys}
 use Rattle.store_read.specs.Answers.{Listed}
-use Rattle.store_read.proofs.ReadLaws.{sized}
+use Rattle.store.proofs.WordLaws.{sized}
 use Rattle.store_read.proofs.ListLaws.{listed-length, length-ascending, classes-fit, ordered-keys}
 
 -- a store has no more properties

@@ -66,8 +66,8 @@ trap-longer : (depth : ℕ) (c : Context) (o : ℕ) → Longer (trapKeys (method
 unfolding trapKeys
 trap-longer depth c o =
     longer-bind askKeys-longer λ trapResult.
-    longer-throwAny (duplicate [] trapResult)
-    (longer-bind (methods-longer depth c .isExtensible o) λ extensibleTarget. longer-pure _)
+    longer-throwAny (duplicate [] trapResult) λ _.
+    (longer-bind (methods-longer depth c .isExtensible o tt) λ extensibleTarget. longer-pure _)
 
 pub stays-fit : (depth : ℕ) (c : Context) (o : ℕ) (s t : State) (a : List PropertyKey × Bool)
     → done a t ≡ trapKeys (methods depth c) o .run s → areListsFit (s .answers) ≡ true → areListsFit (t .answers) ≡ true

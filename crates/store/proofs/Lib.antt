@@ -1,2 +1,3 @@
 pub mod StoreLaws
 pub mod FindLaws
+pub mod WordLaws

@@ -1,43 +1,31 @@
 -- Laws of reading the store's words. Assumes nothing.
-use Prim.Native.Nat.{ℕ, zero, suc, _+_, _-_, _*_, _/_, _%_, _^_, _<_, _≤_}
+use Prim.Native.Nat.{ℕ, zero, suc, _+_, _-_, _/_, _%_, _^_, _<_, _≤_}
 use native.Mathlib.Omega.{arith}
 use native.Mathlib.Numerals.{add-one}
 use mathlib.Core.Path.{_≡_, refl, sym, ap, _∙_}
-use mathlib.Core.Bool.{Bool, true, false, _&&_, false≢true}
+use mathlib.Core.Bool.{Bool, true, false, _&&_}
 use mathlib.Core.Option.{none, some}
 use mathlib.Core.List.{List}
 use lib.Dec.{eqb, ltb}
-use lib.ListN.{length, getD, getElem?}
-use borrow.Author.Tests.{eqb-true, eqb-false, leb-true, ltb-true, ltb-false, eq-eqb, ne-eqb}
+use lib.ListN.{getD, getElem?}
+use borrow.Author.Tests.{ltb-true, ltb-false, eq-eqb, ne-eqb}
 use Rattle.value.specs.Bits.{bit}
 use Rattle.value.specs.declared.PropertyKey.{PropertyKey}
 use Rattle.value.specs.declared.PropertyKey.the-variants.{String, Symbol}
 use Rattle.value.specs.PropertyKey.{sameKey}
 use Rattle.value.specs.Words.{pick}
-use Rattle.value.proofs.Bools.{and-true, bool-ext}
+use Rattle.value.proofs.Bools.{refuted}
+use Rattle.value.proofs.SameKey.{key-eq}
 use Rattle.property.specs.declared.OwnProperty.the-variants.{Absent, Present}
 use Rattle.text.specs.Table.{tabulate, stringsOf, isTable}
 use Rattle.text.specs.Answers.{readTable}
-use Rattle.text.proofs.TableLaws.{length-tabulate}
 use Rattle.store.specs.declared.Entry.{Entry}
 use Rattle.store.specs.declared.Object.{Object}
 use Rattle.store_read.specs.declared.Place.the-variants.{Nothing, At}
 use Rattle.store.specs.Store.{isAt, find, own, lookup}
-use Rattle.store.specs.Words.{isStore, storeOf, objectIn, propertyIn, entryIn, keyOf, keyWord, wordAt, keyAt}
+use Rattle.store.specs.Words.{storeOf, objectIn, propertyIn, entryIn, keyOf, keyWord, wordAt, keyAt}
+use Rattle.store.proofs.WordLaws.{at-word}
 use Rattle.store_read.specs.Answers.{firstPlace, findPlace, keyWords}
-
--- what isStore says, as numbers
-pub record Sized (words : List ℕ) : Type 0 where
-  pub size : length words ≡ 1634
-  pub objects : getD words 0 0 ≤ 32
-  pub properties : getD words 1 0 ≤ 256
-
-pub sized : (words : List ℕ) → isStore words ≡ true → Sized words
-unfolding isStore
-sized words h =
-    let (a, b) = and-true _ _ h in
-    let (p, q) = and-true _ _ b in
-    record { size = eqb-true _ _ a; objects = leb-true _ _ p; properties = leb-true _ _ q }
 
 -- Tabulated lists --------------------------------------------------------------------------
 
@@ -84,54 +72,12 @@ first-same p q f g i (suc n) h = rw (h i, first-same p q f g (suc i) n h)
 
 -- Key words ------------------------------------------------------------------------------------
 
-abbrev keyBy : Bool → ℕ → PropertyKey
-keyBy b n = pick b (String n) (Symbol n)
-
--- a word is the key word of an object below 32 exactly where it decodes to them
-module _ (o w s : ℕ) (h : o < 32) where
-  word-string : (b : Bool) → eqb (w / 32 % 2) 0 ≡ b → (eqb (w % 32) o && sameKey (keyBy b (w / 64)) (String s)) ≡ eqb w (o + 64 * s)
-  unfolding sameKey
-  word-string true e =
-      let z : w / 32 % 2 ≡ 0 = eqb-true _ _ e in
-      bool-ext _ _
-      (λ t. let (p, q) = and-true (eqb (w % 32) o) _ t in eq-eqb w (o + 64 * s) (omega (arith, eqb-true (w % 32) o p, eqb-true (w / 64) s q)))
-      (λ t. let y : w ≡ o + 64 * s = eqb-true _ _ t in
-      let a : w % 32 ≡ o = omega arith in
-      let b : w / 64 ≡ s = omega arith in
-      rw (eq-eqb _ _ a, eq-eqb _ _ b))
-  word-string false e =
-      let z : w / 32 % 2 ≡ 0 → ⊥ = eqb-false _ _ e in
-      bool-ext _ _
-      (λ t. let (p, q) = and-true (eqb (w % 32) o) _ t in absurd (false≢true q))
-      (λ t. let y : w ≡ o + 64 * s = eqb-true _ _ t in absurd (omega arith))
-
-  word-symbol : (b : Bool) → eqb (w / 32 % 2) 0 ≡ b → (eqb (w % 32) o && sameKey (keyBy b (w / 64)) (Symbol s)) ≡ eqb w (o + 32 + 64 * s)
-  unfolding sameKey
-  word-symbol true e =
-      let z : w / 32 % 2 ≡ 0 = eqb-true _ _ e in
-      bool-ext _ _
-      (λ t. let (p, q) = and-true (eqb (w % 32) o) _ t in absurd (false≢true q))
-      (λ t. let y : w ≡ o + 32 + 64 * s = eqb-true _ _ t in absurd (omega arith))
-  word-symbol false e =
-      let z : w / 32 % 2 ≡ 0 → ⊥ = eqb-false _ _ e in
-      bool-ext _ _
-      (λ t. let (p, q) = and-true (eqb (w % 32) o) _ t in eq-eqb w (o + 32 + 64 * s) (omega (arith, eqb-true (w % 32) o p, eqb-true (w / 64) s q)))
-      (λ t. let y : w ≡ o + 32 + 64 * s = eqb-true _ _ t in
-      let a : w % 32 ≡ o = omega arith in
-      let b : w / 64 ≡ s = omega arith in
-      rw (eq-eqb _ _ a, eq-eqb _ _ b))
-
 module _ (words : List ℕ) (o : ℕ) where
-  is-word : (k : PropertyKey) (i : ℕ) → o < 32 → isAt (entryIn words i) o k ≡ eqb (wordAt words (keyAt i)) (keyWord o k)
-  unfolding isAt entryIn keyOf
-  is-word (String s) i h = word-string o (wordAt words (keyAt i)) s h (eqb (wordAt words (keyAt i) / 32 % 2) 0) refl
-  is-word (Symbol s) i h = word-symbol o (wordAt words (keyAt i)) s h (eqb (wordAt words (keyAt i) / 32 % 2) 0) refl
-
   -- the place of the key word is that of the property
   pub place-word : (k : PropertyKey) → o < 32
       → firstPlace (λ (w : ℕ). eqb w (keyWord o k)) 0 (keyWords words) ≡ findPlace (storeOf words .properties) o k
   unfolding findPlace storeOf
-  place-word k h = sym (first-same _ _ _ _ 0 (wordAt words 1) (λ i. is-word k i h))
+  place-word k h = sym (first-same _ _ _ _ 0 (wordAt words 1) (λ i. at-word words i o k h))
 
   -- no key word has an owner from 32 on
   pub no-owner : (k : PropertyKey) → 32 ≤ o → Nothing ≡ findPlace (storeOf words .properties) o k
@@ -139,28 +85,29 @@ module _ (words : List ℕ) (o : ℕ) where
   no-owner k h = first-none _ _ 0 (wordAt words 1) (λ i. let e : eqb (wordAt words (keyAt i) % 32) o ≡ false = ne-eqb _ _ (λ (z : wordAt words (keyAt i) % 32 ≡ o). omega arith) in rw e)
 
 -- nor, below 2 ^ 64, a number from 2 ^ 58 on
-no-string : (w s : ℕ) → w < 2 ^ 64 → 288230376151711744 ≤ s → (b : Bool) → sameKey (keyBy b (w / 64)) (String s) ≡ false
-unfolding sameKey
-no-string w s l h true = ne-eqb _ _ (λ (z : w / 64 ≡ s). omega arith)
-no-string w s l h false = refl
+abbrev numberIn : PropertyKey → ℕ
+numberIn (String s) = s
+numberIn (Symbol s) = s
 
-no-symbol : (w s : ℕ) → w < 2 ^ 64 → 288230376151711744 ≤ s → (b : Bool) → sameKey (keyBy b (w / 64)) (Symbol s) ≡ false
-unfolding sameKey
-no-symbol w s l h true = refl
-no-symbol w s l h false = ne-eqb _ _ (λ (z : w / 64 ≡ s). omega arith)
+number-in : (b : Bool) (n : ℕ) → numberIn (pick b (String n) (Symbol n)) ≡ n
+number-in true n = refl
+number-in false n = refl
+
+no-number : (w : ℕ) (k : PropertyKey) → w < 2 ^ 64 → 288230376151711744 ≤ numberIn k → sameKey (keyOf w) k ≡ false
+unfolding keyOf
+no-number w k l h = refuted _ λ same.
+    let e : w / 64 ≡ numberIn k = sym (number-in (eqb (w / 32 % 2) 0) (w / 64)) ∙ ap numberIn (key-eq (keyOf w) k same) in
+    omega arith
 
 and-none : (a b : Bool) → b ≡ false → (a && b) ≡ false
 and-none true b h = h
 and-none false b h = refl
 
-module _ (words : List ℕ) (fits : (i : ℕ) → getD words i 0 < 2 ^ 64) (o s : ℕ) (h : 288230376151711744 ≤ s) where
-  pub no-string-key : Nothing ≡ findPlace (storeOf words .properties) o (String s)
-  unfolding findPlace storeOf isAt entryIn keyOf
-  no-string-key = first-none _ _ 0 (wordAt words 1) (λ i. and-none (eqb (wordAt words (keyAt i) % 32) o) _ (no-string (wordAt words (keyAt i)) s (fits _) h (eqb (wordAt words (keyAt i) / 32 % 2) 0)))
-
-  pub no-symbol-key : Nothing ≡ findPlace (storeOf words .properties) o (Symbol s)
-  unfolding findPlace storeOf isAt entryIn keyOf
-  no-symbol-key = first-none _ _ 0 (wordAt words 1) (λ i. and-none (eqb (wordAt words (keyAt i) % 32) o) _ (no-symbol (wordAt words (keyAt i)) s (fits _) h (eqb (wordAt words (keyAt i) / 32 % 2) 0)))
+pub no-key : (words : List ℕ) → ((i : ℕ) → getD words i 0 < 2 ^ 64) → (o : ℕ) (k : PropertyKey) → 288230376151711744 ≤ numberIn k
+    → Nothing ≡ findPlace (storeOf words .properties) o k
+unfolding findPlace storeOf isAt entryIn
+no-key words fits o k h =
+    first-none _ _ 0 (wordAt words 1) λ i. and-none (eqb (wordAt words (keyAt i) % 32) o) _ (no-number (wordAt words (keyAt i)) k (fits _) h)
 
 -- What stands at the place ------------------------------------------------------------------------
 
@@ -223,14 +170,6 @@ module _ (words : List ℕ) (o : ℕ) where
           let missing : lookup (storeOf words) o ≡ none = lookup-missing (ltb-false _ _ q) in
           let z : _≡_ {A = ℕ} 0 1 = cc in
           absurd (omega arith)
-
-pub object-length : (words : List ℕ) → length (storeOf words .objects) ≡ wordAt words 0
-unfolding storeOf
-object-length words = length-tabulate _ _ _
-
-pub property-length : (words : List ℕ) → length (storeOf words .properties) ≡ wordAt words 1
-unfolding storeOf
-property-length words = length-tabulate _ _ _
 
 -- Flags ---------------------------------------------------------------------------------------------
 

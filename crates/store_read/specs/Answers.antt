@@ -1,7 +1,7 @@
 -- What reading the store answers, as the code's own enums. Assumes nothing.
 use Prim.Native.Nat.{ℕ, suc, _+_, _*_, _/_, _%_, _≤_}
 use mathlib.Core.Path.{_≡_}
-use mathlib.Core.Bool.{Bool, _&&_}
+use mathlib.Core.Bool.{Bool, true, false, _&&_, cond}
 use mathlib.Core.Option.{Option, none, some}
 use mathlib.Core.List.{List, [], _∷_, map}
 use lib.Dec.{eqb, ltb}
@@ -20,7 +20,7 @@ use Rattle.store_read.specs.declared.Place.the-variants.{Nothing, At}
 use Rattle.store_read.specs.declared.IndexWord.{IndexWord}
 use Rattle.store_read.specs.declared.IndexWord.the-variants.{Other, Joined}
 use Rattle.store.specs.Store.{Store, isAt}
-use Rattle.store.specs.OwnKeys.{KeyClass, index, string, symbol, classOf, keysIn, ofClass}
+use Rattle.store.specs.OwnKeys.{KeyClass, index, string, symbol, classOf, isString, isSymbol, keysIn, ofClass}
 use Rattle.store.specs.Words.{wordAt, keyAt}
 
 abbrev pub objectFound : Option Object → ObjectFound
@@ -60,6 +60,11 @@ pub record Listed (before after : List ℕ) (n : ℕ) (keys : List PropertyKey) 
   pub fits : n ≤ length before
   pub size : length after ≡ length before
 
+-- the class of the keys that are listed by creation: symbols, or strings that are no indices
+abbrev pub listedClass : Bool → KeyClass → Bool
+listedClass true = isSymbol
+listedClass false = isString
+
 -- is it a key of the object o, and of the class?
 abbrev pub isOwn : (KeyClass → Bool) → Strings → Entry → ℕ → Bool
 isOwn test strings e o = eqb (e .owner) o && test (classOf strings (e .key))
@@ -77,10 +82,14 @@ joinedBy symbol word = Other
 unfoldable pub indexWord : Strings → Entry → ℕ → IndexWord
 indexWord strings e o = pick (eqb (e .owner) o) (joinedBy (classOf strings (e .key)) (keyToWord (e .key))) Other
 
+-- where the first word stands that passes the test, or the length if none does
+unfoldable pub firstWhere : (ℕ → Bool) → List ℕ → ℕ
+firstWhere test [] = 0
+firstWhere test (w ∷ ws) = cond (test w) 0 (suc (firstWhere test ws))
+
 -- before which of the words it is to stand: the first of a greater index
-unfoldable pub placeOf : ℕ → List ℕ → ℕ
-placeOf word [] = 0
-placeOf word (w ∷ ws) = pick (ltb (word / 512) (w / 512)) 0 (suc (placeOf word ws))
+abbrev pub placeOf : ℕ → List ℕ → ℕ
+placeOf word ws = firstWhere (λ (w : ℕ). ltb (word / 512) (w / 512)) ws
 
 unfoldable pub insertWord : ℕ → List ℕ → List ℕ
 insertWord word [] = word ∷ []

@@ -1,37 +1,33 @@
 -- What each write to the words makes of the store that they hold. Assumes nothing.
-use Prim.Native.Nat.{ℕ, zero, suc, _+_, _-_, _*_, _/_, _%_, _<_, _≤_}
+use Prim.Native.Nat.{ℕ, zero, suc, _+_, _-_, _<_, _≤_}
 use native.Mathlib.Omega.{arith}
 use native.Mathlib.Numerals.{add-one}
 use mathlib.Core.Path.{_≡_, refl, sym, ap, _∙_}
-use mathlib.Core.Bool.{Bool, true, false, _&&_, cond}
+use mathlib.Core.Bool.{Bool, true, false, cond}
 use mathlib.Core.List.{List, [], _∷_, _++_, append-assoc, append-nil}
-use lib.Dec.{eqb}
 use lib.ListN.{length, set, length-set}
 use lib.Seq.{sets, length-sets, getD-set-same, getD-set-other}
-use borrow.Author.Tests.{eqb-true, eqb-false, eq-eqb, ne-eqb, leb-true, le-leb}
+use borrow.Author.Tests.{eq-eqb, ne-eqb}
 use Rattle.value.specs.Bits.{weight}
 use Rattle.value.specs.declared.Value.{Value}
 use Rattle.value.specs.declared.Value.the-variants.{Undefined}
 use Rattle.value.specs.declared.PropertyKey.{PropertyKey}
-use Rattle.value.specs.declared.PropertyKey.the-variants.{String, Symbol}
-use Rattle.value.specs.PropertyKey.{sameKey}
 use Rattle.value.specs.Words.{pick, kindOf, payloadOf, valueOf}
-use Rattle.value.proofs.Bools.{and-true, bool-ext}
-use Rattle.value.proofs.SameKey.{key-refl, key-eq}
 use Rattle.property.specs.declared.Property.{Property}
 use Rattle.property.specs.declared.Property.the-variants.{Data, Accessor}
 use Rattle.property.specs.declared.OwnProperty.the-variants.{Absent}
 use Rattle.text.specs.Table.{tabulate}
+use Rattle.text.proofs.TableLaws.{tabulate-ext, tabulate-last}
 use Rattle.store.specs.declared.Object.{Object}
 use Rattle.store.specs.declared.Object.the-variants.{Ordinary, Proxy}
 use Rattle.store.specs.declared.Entry.{Entry}
 use Rattle.store_write.specs.declared.write.ObjectWords.{ObjectWords}
 use Rattle.store_write.specs.declared.write.PropertyWords.{PropertyWords}
 use Rattle.store.specs.Store.{Store, empty, entry, isAt, remove, put, add, own, withProperty, withoutProperty, replaceAt, withChange}
-use Rattle.store.specs.Words.{objectAt, keyAt, rowAt, wordAt, objectOf, objectIn, headOf, firstOf, secondOf, keyWord, ownerOf, keyOf, propertyOf, flagsOf, primary, secondary, propertyIn, entryIn, storeOf, isStore, withObject, withNewObject, withRow, withNewRow, moved, swept, withoutRow}
-use Rattle.store_write.specs.Write.{Fits, FitsObject, FitsProperty, ObjectCells, PropertyCells, New, Becomes}
-use Rattle.store.proofs.FindLaws.{First, first-replaced, absent-appended}
-use Rattle.store.proofs.FindLaws.First.{here, later}
+use Rattle.store.specs.Words.{objectAt, keyAt, rowAt, wordAt, objectOf, objectIn, headOf, firstOf, secondOf, keyWord, propertyOf, flagsOf, primary, secondary, propertyIn, entryIn, storeOf, isStore, withObject, withNewObject, withRow, withNewRow, moved, swept, withoutRow}
+use Rattle.store_write.specs.Write.{Fits, FitsObject, FitsProperty, cellsOf, ObjectCells, PropertyCells, New, Becomes}
+use Rattle.store.proofs.WordLaws.{Sized, sized, is-store, word-owner, word-key, at-word}
+use Rattle.store.proofs.FindLaws.{absent-appended}
 
 -- Words ---------------------------------------------------------------------------------
 
@@ -56,29 +52,22 @@ sets-in (u ∷ us) w i (suc m) l h =
     let e : i + suc m ≡ suc i + m = omega arith in
     rw e (sets-in us (set w i u) (suc i) m (simp length-set (omega arith)) (omega arith))
 
+-- words that are stored one by one
+pub three-set : (w : List ℕ) (i a b c : ℕ) → set (set (set w i a) (i + 1) b) (i + 2) c ≡ sets w i (a ∷ b ∷ c ∷ [])
+three-set w i a b c =
+    let p : i + 1 ≡ suc i = omega arith in
+    let q : i + 2 ≡ suc (suc i) = omega arith in
+    rw (p, q)
+
+pub five-set : (w u : List ℕ) (i a b c d e : ℕ) → u ≡ sets w i (a ∷ b ∷ c ∷ []) → set (set u (i + 3) d) (i + 4) e ≡ sets w i (a ∷ b ∷ c ∷ d ∷ e ∷ [])
+five-set w u i a b c d e h =
+    let p : i + 3 ≡ suc (suc (suc i)) = omega arith in
+    let q : i + 4 ≡ suc (suc (suc (suc i))) = omega arith in
+    rw (h, p, q)
+
 -- Tables --------------------------------------------------------------------------------
 
 module _ {A : Type 0} where
-  pub length-tabulate : (f : ℕ → A) (i n : ℕ) → length (tabulate f i n) ≡ n
-  unfolding tabulate
-  length-tabulate f i zero = refl
-  length-tabulate f i (suc n) = ap suc (length-tabulate f (suc i) n)
-
-  pub tabulate-ext : (f g : ℕ → A) (s n : ℕ) → ((i : ℕ) → s ≤ i → i < s + n → f i ≡ g i) → tabulate f s n ≡ tabulate g s n
-  unfolding tabulate
-  tabulate-ext f g s zero h = refl
-  tabulate-ext f g s (suc n) h =
-      let e : f s ≡ g s = h s (omega arith) (omega arith) in
-      let r : tabulate f (suc s) n ≡ tabulate g (suc s) n = tabulate-ext f g (suc s) n (λ i a b. h i (omega arith) (omega arith)) in
-      cc
-
-  last-from : (f : ℕ → A) (s n : ℕ) → tabulate f s (suc n) ≡ tabulate f s n ++ (f (s + n) ∷ [])
-  unfolding tabulate
-  last-from f s zero = let e : s + 0 ≡ s = omega arith in rw e
-  last-from f s (suc n) =
-      let e : s + suc n ≡ suc s + n = omega arith in
-      rw e (ap (λ (l : List A). f s ∷ l) (last-from f (suc s) n))
-
   -- the tables agree but for one element
   set-from : (f g : ℕ → A) (s n i : ℕ) → i < n → ((j : ℕ) → s ≤ j → j < s + n → (j ≡ s + i → ⊥) → f j ≡ g j)
       → tabulate f s n ≡ set (tabulate g s n) i (f (s + i))
@@ -95,31 +84,13 @@ module _ {A : Type 0} where
       set-from f g (suc s) n i (omega arith) (λ j a b q. h j (omega arith) (omega arith) (λ p. q (omega arith))) in
       rw (e, d, r)
 
-  pub tabulate-last : (f : ℕ → A) (n : ℕ) → tabulate f 0 (suc n) ≡ tabulate f 0 n ++ (f n ∷ [])
-  tabulate-last f n = let e : 0 + n ≡ n = omega arith in rw e at (last-from f 0 n)
+  one-more : (f : ℕ → A) (n : ℕ) → tabulate f 0 (suc n) ≡ tabulate f 0 n ++ (f n ∷ [])
+  one-more f n = let e : 0 + n ≡ n = omega arith in rw e at (tabulate-last f 0 n)
 
   pub tabulate-set : (f g : ℕ → A) (n i : ℕ) → i < n → ((j : ℕ) → j < n → (j ≡ i → ⊥) → f j ≡ g j) → tabulate f 0 n ≡ set (tabulate g 0 n) i (f i)
   tabulate-set f g n i l h =
       let e : 0 + i ≡ i = omega arith in
       rw e at (set-from f g 0 n i l (λ j a b r. h j (omega arith) (λ q. r (omega arith))))
-
--- A store -------------------------------------------------------------------------------
-
-pub record Sized (w : List ℕ) : Type 0 where
-  pub size : length w ≡ 1634
-  pub objects : wordAt w 0 ≤ 32
-  pub properties : wordAt w 1 ≤ 256
-
-pub sized : (w : List ℕ) → isStore w ≡ true → Sized w
-unfolding isStore
-sized w h =
-    let (a, b) = and-true _ _ h in
-    let (c, d) = and-true _ _ b in
-    record { size = eqb-true _ _ a; objects = leb-true _ _ c; properties = leb-true _ _ d }
-
-pub is-store : (w : List ℕ) → Sized w → isStore w ≡ true
-unfolding isStore
-is-store w s = rw (eq-eqb _ _ (s .size), le-leb _ _ (s .objects), le-leb _ _ (s .properties))
 
 -- Objects -------------------------------------------------------------------------------
 
@@ -128,10 +99,7 @@ objectWords x = headOf x ∷ firstOf x ∷ secondOf x ∷ []
 
 pub object-sets : (w : List ℕ) (o : ℕ) (x : Object) → withObject w o x ≡ sets w (objectAt o) (objectWords x)
 unfolding withObject
-object-sets w o x =
-    let a : objectAt o + 1 ≡ suc (objectAt o) = omega arith in
-    let b : objectAt o + 2 ≡ suc (suc (objectAt o)) = omega arith in
-    rw (a, b)
+object-sets w o x = three-set w (objectAt o) _ _ _
 
 pub object-same : (u w : List ℕ) (o : ℕ) → ((m : ℕ) → m < 3 → wordAt u (objectAt o + m) ≡ wordAt w (objectAt o + m)) → objectIn u o ≡ objectIn w o
 unfolding objectIn
@@ -248,7 +216,7 @@ module _ (w : List ℕ) (s : Sized w) (x : Object) (h : wordAt w 0 < 32) where
       object-same u (withObject w n x) n (λ m t. made-out _ (λ e. omega arith)) ∙ object-made w n x (omega (arith, s .size)) f in
       let before : tabulate (objectIn u) 0 n ≡ tabulate (objectIn w) 0 n =
       tabulate-ext (objectIn u) (objectIn w) 0 n (λ j p q. object-same u w j (λ m t. out _ (λ e. omega arith) (λ k l e. omega arith))) in
-      let a : objectsOf u ≡ objectsOf w ++ (x ∷ []) = rw (count, tabulate-last (objectIn u) n, before, made) in
+      let a : objectsOf u ≡ objectsOf w ++ (x ∷ []) = rw (count, one-more (objectIn u) n, before, made) in
       let b : propertiesOf u ≡ propertiesOf w =
       properties-same u w (out 1 (λ e. omega arith) (λ m t e. omega arith)) (λ m l. out m (λ e. omega arith) (λ k t e. omega arith)) in
       store-by u _ a b
@@ -260,15 +228,13 @@ rowWords p = flagsOf p ∷ kindOf (primary p) ∷ payloadOf (primary p) ∷ kind
 
 pub row-sets : (w : List ℕ) (i : ℕ) (p : Property) → withRow w i p ≡ sets w (rowAt i) (rowWords p)
 unfolding withRow
-row-sets w i p =
-    let a : rowAt i + 1 ≡ suc (rowAt i) = omega arith in
-    let b : rowAt i + 2 ≡ suc (suc (rowAt i)) = omega arith in
-    let c : rowAt i + 3 ≡ suc (suc (suc (rowAt i))) = omega arith in
-    let d : rowAt i + 4 ≡ suc (suc (suc (suc (rowAt i)))) = omega arith in
-    rw (a, b, c, d)
+row-sets w i p = five-set w _ (rowAt i) _ _ _ _ _ (three-set w (rowAt i) _ _ _)
 
 pub length-row : (w : List ℕ) (i : ℕ) (p : Property) → length (withRow w i p) ≡ length w
 length-row w i p = ap length (row-sets w i p) ∙ length-sets w (rowAt i) (rowWords p)
+
+pub length-keyed : (w : List ℕ) (i key : ℕ) (p : Property) → length (withRow (set w (keyAt i) key) i p) ≡ length w
+length-keyed w i key p = length-row (set w (keyAt i) key) i p ∙ length-set w (keyAt i) key
 
 -- a word that is none of the row's
 pub row-out : (w : List ℕ) (i : ℕ) (p : Property) (j : ℕ) → ((m : ℕ) → m < 5 → j ≡ rowAt i + m → ⊥) → wordAt (withRow w i p) j ≡ wordAt w j
@@ -306,52 +272,6 @@ property-made w i p l f =
     rw (row-sets w i p, a, at 1 l (omega arith), at 2 l (omega arith), at 3 l (omega arith), at 4 l (omega arith), f .first .again, f .second .again)
     (property-again p)
 
--- Key words -----------------------------------------------------------------------------
-
--- a key word holds its owner and its key
-pub word-owner : (o : ℕ) (k : PropertyKey) → o < 32 → ownerOf (keyWord o k) ≡ o
-word-owner o (String s) h = omega arith
-word-owner o (Symbol s) h = omega arith
-
-pub word-key : (o : ℕ) (k : PropertyKey) → o < 32 → keyOf (keyWord o k) ≡ k
-unfolding keyOf
-word-key o (String s) h =
-    let a : (o + 64 * s) / 32 % 2 ≡ 0 = omega arith in
-    let b : (o + 64 * s) / 64 ≡ s = omega arith in
-    rw (a, b)
-word-key o (Symbol s) h =
-    let a : (o + 32 + 64 * s) / 32 % 2 ≡ 1 = omega arith in
-    let b : (o + 32 + 64 * s) / 64 ≡ s = omega arith in
-    rw (a, b)
-
--- and nothing else
-word-parts : (n : ℕ) → keyWord (ownerOf n) (keyOf n) ≡ n
-unfolding keyOf
-word-parts n = go (eqb (n / 32 % 2) 0) refl
-  where
-    go : (b : Bool) → eqb (n / 32 % 2) 0 ≡ b → keyWord (ownerOf n) (keyOf n) ≡ n
-    go true e = let h = eqb-true (n / 32 % 2) 0 e in rw e (omega arith)
-    go false e = let h = eqb-false (n / 32 % 2) 0 e in rw e (omega arith)
-
--- one comparison of key words tells whether an entry is a property
-pub at-word : (w : List ℕ) (i o : ℕ) (k : PropertyKey) → o < 32 → isAt (entryIn w i) o k ≡ eqb (wordAt w (keyAt i)) (keyWord o k)
-unfolding isAt entryIn
-at-word w i o k h = bool-ext _ _ there back
-  where
-    n : ℕ
-    n = wordAt w (keyAt i)
-
-    there : (eqb (ownerOf n) o && sameKey (keyOf n) k) ≡ true → eqb n (keyWord o k) ≡ true
-    there t =
-        let (a, b) = and-true _ _ t in
-        let e : keyWord o k ≡ n = rw (sym (eqb-true (ownerOf n) o a), sym (key-eq (keyOf n) k b)) (word-parts n) in
-        eq-eqb n (keyWord o k) (sym e)
-
-    back : eqb n (keyWord o k) ≡ true → (eqb (ownerOf n) o && sameKey (keyOf n) k) ≡ true
-    back t =
-        let e = eqb-true n (keyWord o k) t in
-        rw (e, word-owner o k h, word-key o k h, eq-eqb o o refl) (key-refl k)
-
 -- Rows ----------------------------------------------------------------------------------
 
 row-made : (w : List ℕ) (i : ℕ) (p : Property) → rowAt i + 5 ≤ length w → i < 256 → FitsProperty p
@@ -369,24 +289,6 @@ replace-from f s (suc n) (suc i) p h =
 
 pub replaced : (f : ℕ → Entry) (n i : ℕ) (p : Property) → i < n → replaceAt (tabulate f 0 n) i p ≡ set (tabulate f 0 n) i (entry (f i .owner) (f i .key) p)
 replaced f n i p h = let e : 0 + i ≡ i = omega arith in rw e at (replace-from f 0 n i p h)
-
-first-from : (f : ℕ → Entry) (s n i o : ℕ) (k : PropertyKey) → i < n → isAt (f (s + i)) o k ≡ true → ((j : ℕ) → j < i → isAt (f (s + j)) o k ≡ false)
-    → First o k (tabulate f s n) i
-unfolding tabulate
-first-from f s zero i o k l h b = absurd (omega arith)
-first-from f s (suc n) zero o k l h b = let e : s + 0 ≡ s = omega arith in here (rw e at h)
-first-from f s (suc n) (suc i) o k l h b =
-    let e : s + suc i ≡ suc s + i = omega arith in
-    let z : s + 0 ≡ s = omega arith in
-    later (rw z at (b 0 (omega arith)))
-    (first-from f (suc s) n i o k (omega arith) (rw e at h)
-    (λ j t. let d : s + suc j ≡ suc s + j = omega arith in rw d at (b (suc j) (omega arith))))
-
-pub first-at : (f : ℕ → Entry) (n i o : ℕ) (k : PropertyKey) → i < n → isAt (f i) o k ≡ true → ((j : ℕ) → j < i → isAt (f j) o k ≡ false)
-    → First o k (tabulate f 0 n) i
-first-at f n i o k l h b =
-    let e : 0 + i ≡ i = omega arith in
-    first-from f 0 n i o k l (rw e h) (λ j t. let d : 0 + j ≡ j = omega arith in rw d (b j t))
 
 module _ (w : List ℕ) (s : Sized w) (i : ℕ) (p : Property) (h : i < wordAt w 1) where
   low : (j : ℕ) → j < 354 → wordAt (withRow w i p) j ≡ wordAt w j
@@ -414,13 +316,6 @@ module _ (w : List ℕ) (s : Sized w) (i : ℕ) (p : Property) (h : i < wordAt w
       let b : propertiesOf u ≡ replaceAt (propertiesOf w) i p = properties-row f ∙ sym (replaced (entryIn w) (wordAt w 1) i p h) in
       store-by u _ a b
 
-  -- where row i is the first of the property, its replacement is an insertion
-  pub store-replaced : (o : ℕ) (k : PropertyKey) → FitsProperty p → isAt (entryIn w i) o k ≡ true → ((j : ℕ) → j < i → isAt (entryIn w j) o k ≡ false)
-      → storeOf (withRow w i p) ≡ withProperty (storeOf w) o k p
-  unfolding withChange withProperty storeOf
-  store-replaced o k f a b =
-      store-row f ∙ rw (first-replaced o k (propertiesOf w) i p (first-at (entryIn w) (wordAt w 1) i o k h a b))
-
 -- the words with the next key word
 abbrev keyedBy : List ℕ → ℕ → PropertyKey → List ℕ
 keyedBy w o k = set w (keyAt (wordAt w 1)) (keyWord o k)
@@ -438,13 +333,12 @@ module _ (w : List ℕ) (s : Sized w) (o : ℕ) (k : PropertyKey) (p : Property)
   unfolding withNewRow
   new-count =
       same (withRow (keyedBy w o k) (wordAt w 1) p) 1 (suc (wordAt w 1))
-      (omega (arith, length-row (keyedBy w o k) (wordAt w 1) p, length-set w (keyAt (wordAt w 1)) (keyWord o k), s .size))
+      (omega (arith, length-keyed w (wordAt w 1) (keyWord o k) p, s .size))
 
   pub sized-new-row : Sized (withNewRow w o k p)
   unfolding withNewRow
   sized-new-row = record {
-    size = length-set (withRow (keyedBy w o k) (wordAt w 1) p) 1 (suc (wordAt w 1)) ∙ length-row (keyedBy w o k) (wordAt w 1) p
-        ∙ length-set w (keyAt (wordAt w 1)) (keyWord o k) ∙ s .size;
+    size = length-set (withRow (keyedBy w o k) (wordAt w 1) p) 1 (suc (wordAt w 1)) ∙ length-keyed w (wordAt w 1) (keyWord o k) p ∙ s .size;
     objects = rw (new-out 0 (λ e. omega arith) (λ e. omega arith) (λ m t e. omega arith)) (s .objects);
     properties = rw new-count (omega arith);
   }
@@ -472,27 +366,22 @@ module _ (w : List ℕ) (s : Sized w) (o : ℕ) (k : PropertyKey) (p : Property)
       tabulate-ext (entryIn u) (entryIn w) 0 n (λ j t l. entry-same u w j j
       (new-out _ (λ e. omega arith) (λ e. omega arith) (λ q r e. omega arith))
       (λ m r. new-out _ (λ e. omega arith) (λ e. omega arith) (λ q z e. omega arith))) in
-      let y : propertiesOf u ≡ propertiesOf w ++ (entry o k p ∷ []) = rw (new-count, tabulate-last (entryIn u) n, before, entry-new b f) in
+      let y : propertiesOf u ≡ propertiesOf w ++ (entry o k p ∷ []) = rw (new-count, one-more (entryIn u) n, before, entry-new b f) in
       store-by u _ x (y ∙ sym (absent-appended (propertiesOf w) o k p a))
 
 -- Removal -------------------------------------------------------------------------------
 
 -- five words of row i stored as row j
-abbrev rowOf : List ℕ → ℕ → List ℕ
+abbrev pub rowOf : List ℕ → ℕ → List ℕ
 rowOf w i = wordAt w (rowAt i) ∷ wordAt w (rowAt i + 1) ∷ wordAt w (rowAt i + 2) ∷ wordAt w (rowAt i + 3) ∷ wordAt w (rowAt i + 4) ∷ []
 
-abbrev movedKey : List ℕ → ℕ → ℕ → List ℕ
+abbrev pub movedKey : List ℕ → ℕ → ℕ → List ℕ
 movedKey w i j = set w (keyAt j) (wordAt w (keyAt i))
 
 module _ (w : List ℕ) (i j : ℕ) where
-  moved-sets : moved w i j ≡ sets (movedKey w i j) (rowAt j) (rowOf w i)
+  pub moved-sets : moved w i j ≡ sets (movedKey w i j) (rowAt j) (rowOf w i)
   unfolding moved
-  moved-sets =
-      let a : rowAt j + 1 ≡ suc (rowAt j) = omega arith in
-      let b : rowAt j + 2 ≡ suc (suc (rowAt j)) = omega arith in
-      let c : rowAt j + 3 ≡ suc (suc (suc (rowAt j))) = omega arith in
-      let d : rowAt j + 4 ≡ suc (suc (suc (suc (rowAt j)))) = omega arith in
-      rw (a, b, c, d)
+  moved-sets = five-set (movedKey w i j) _ (rowAt j) _ _ _ _ _ (three-set (movedKey w i j) (rowAt j) _ _ _)
 
   pub length-moved : length (moved w i j) ≡ length w
   length-moved = rw moved-sets (length-sets (movedKey w i j) (rowAt j) (rowOf w i) ∙ length-set w (keyAt j) (wordAt w (keyAt i)))
@@ -579,7 +468,7 @@ swept-all (suc n) w o k i j l h b =
     go false t a c =
         let v = moved w i j in
         let first : tabulate (entryIn v) 0 (suc j) ≡ tabulate (entryIn w) 0 j ++ (entryIn w i ∷ []) =
-        tabulate-last (entryIn v) j
+        one-more (entryIn v) j
         ∙ rw (tabulate-ext (entryIn v) (entryIn w) 0 j (λ m x y. entry-same v w m m (moved-out w i j _ (λ e. omega arith) (λ r q e. omega arith)) (λ r q. moved-out w i j _ (λ e. omega arith) (λ s u e. omega arith))), moved-entry w i j l (omega arith)) in
         let rest : tabulate (entryIn v) (suc i) n ≡ tabulate (entryIn w) (suc i) n =
         tabulate-ext (entryIn v) (entryIn w) (suc i) n (λ m x y. entry-same v w m m (moved-out w i j _ (λ e. omega arith) (λ r q e. omega arith)) (λ r q. moved-out w i j _ (λ e. omega arith) (λ s u e. omega arith))) in
@@ -671,16 +560,11 @@ pub undefined-payload : 0 ≡ payloadOf Undefined
 unfolding payloadOf
 undefined-payload = refl
 
-pub object-stored : (w : List ℕ) (o : ℕ) (x : Object) (r : ObjectWords) → ObjectCells x r
-    → set (set (set w (objectAt o) (r .head)) (objectAt o + 1) (r .first)) (objectAt o + 2) (r .second) ≡ withObject w o x
-unfolding withObject
-object-stored w o x r h = rw (h .head, h .first, h .second)
+pub object-stored : (w u : List ℕ) (o : ℕ) (x : Object) (r : ObjectWords) → ObjectCells x r → u ≡ sets w (objectAt o) (r .head ∷ r .first ∷ r .second ∷ []) → u ≡ withObject w o x
+object-stored w u o x r h e = e ∙ rw (h .head, h .first, h .second) (sym (object-sets w o x))
 
-pub row-stored : (w : List ℕ) (i : ℕ) (p : Property) (r : PropertyWords) → PropertyCells p r
-    → set (set (set (set (set w (rowAt i) (r .flags)) (rowAt i + 1) (r .kind)) (rowAt i + 2) (r .payload)) (rowAt i + 3) (r .«second_kind»)) (rowAt i + 4) (r .«second_payload»)
-    ≡ withRow w i p
-unfolding withRow
-row-stored w i p r h = rw (h .flags, h .kind, h .payload, h .second-kind, h .second-payload)
+pub row-stored : (w u : List ℕ) (i : ℕ) (p : Property) (r : PropertyWords) → PropertyCells p r → u ≡ sets w (rowAt i) (cellsOf r) → u ≡ withRow w i p
+row-stored w u i p r h e = e ∙ rw (h .flags, h .kind, h .payload, h .second-kind, h .second-payload) (sym (row-sets w i p))
 
 pub new-object-stored : (w u : List ℕ) (x : Object) → u ≡ withObject w (wordAt w 0) x → set u 0 (wordAt w 0 + 1) ≡ withNewObject w x
 unfolding withNewObject
@@ -690,10 +574,6 @@ pub new-row-stored : (w u : List ℕ) (o : ℕ) (k : PropertyKey) (p : Property)
     → u ≡ withRow (set w (keyAt (wordAt w 1)) key) (wordAt w 1) p → set u 1 (wordAt w 1 + 1) ≡ withNewRow w o k p
 unfolding withNewRow
 new-row-stored w u o k p key d e = rw (e, d, add-one)
-
-pub properties-counted : (w : List ℕ) → length (storeOf w .properties) ≡ wordAt w 1
-unfolding storeOf
-properties-counted w = length-tabulate (entryIn w) 0 (wordAt w 1)
 
 -- a turn of the sweep, and its end
 module _ (w : List ℕ) (o : ℕ) (k : PropertyKey) (i n j key : ℕ) where

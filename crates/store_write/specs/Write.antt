@@ -51,6 +51,9 @@ pub record PropertyCells (p : Property) (r : PropertyWords) : Type 0 where
   pub second-payload : r .«second_payload» ≡ payloadOf (secondary p)
   pub fits : FitsProperty p
 
+abbrev pub cellsOf : PropertyWords → List ℕ
+cellsOf r = r .flags ∷ r .kind ∷ r .payload ∷ r .«second_kind» ∷ r .«second_payload» ∷ []
+
 -- the number of the string or the symbol that a key is
 abbrev pub numberIn : PropertyKey → ℕ
 numberIn (String s) = s

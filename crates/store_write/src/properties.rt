@@ -1,5 +1,6 @@
 // Writing a property into the store's words.
 use crate::PropertyWords;
+use crate::write;
 use property::Property;
 use value::PropertyKey;
 use value_operations::bits;
@@ -8,9 +9,10 @@ ghost use mathlib.Core.Path.{_≡_};
 ghost use mathlib.Core.Bool.{true};
 ghost use Prim.Native.Nat.{_<_};
 ghost use lib.ListN.{length};
+ghost use lib.Seq.{sets};
 ghost use Rattle.store.specs.Store.{withProperty, withChange};
-ghost use Rattle.store.specs.Words.{storeSize, wordAt, keyWord, storeOf, isStore, withRow, withNewRow};
-ghost use Rattle.store_write.specs.Write.{PropertyCells, FitsProperty, Joins, New, Becomes};
+ghost use Rattle.store.specs.Words.{storeSize, wordAt, rowAt, keyWord, storeOf, isStore, withRow, withNewRow};
+ghost use Rattle.store_write.specs.Write.{cellsOf, PropertyCells, FitsProperty, Joins, New, Becomes};
 
 pub fn key_word(o: u64, k: PropertyKey) -> u64
     requires { ⌜ Joins o k ⌝ }
@@ -50,17 +52,23 @@ fn property_words(p: Property) -> PropertyWords
     }
 }
 
+// The words of row i.
+pub fn put_row(words: &mut [u64], i: usize, w: PropertyWords)
+    requires { ⌜ (length (now words) ≡ storeSize) × (i < 256) ⌝ }
+    ensures { λ _. ⌜ now (words .exit) ≡ sets (now (words .entry)) (rowAt i) (cellsOf w) ⌝ }
+{
+    let at = 354 + 5 * i;
+    write::put_three(words, at, w.flags, w.kind, w.payload);
+    words[at + 3] = w.second_kind;
+    words[at + 4] = w.second_payload;
+}
+
 fn write_row(words: &mut [u64], i: usize, p: Property)
     requires { ⌜ (length (now words) ≡ storeSize) × (i < 256) ⌝ }
     ensures { λ _. ⌜ (now (words .exit) ≡ withRow (now (words .entry)) i p) × FitsProperty p ⌝ }
 {
     let w = property_words(p);
-    let b = 354 + 5 * i;
-    words[b] = w.flags;
-    words[b + 1] = w.kind;
-    words[b + 2] = w.payload;
-    words[b + 3] = w.second_kind;
-    words[b + 4] = w.second_payload;
+    put_row(words, i, w);
 }
 
 // The property of entry i is p.

@@ -1,4 +1,5 @@
 // Removing a property from the store's words.
+use crate::PropertyWords;
 use crate::properties;
 use value::PropertyKey;
 ghost use mathlib.Core.Path.{_≡_};
@@ -15,19 +16,16 @@ fn move_entry(words: &mut [u64], i: usize, j: usize)
     ensures { λ _. ⌜ now (words .exit) ≡ moved (now (words .entry)) i j ⌝ }
 {
     let a = 354 + 5 * i;
-    let b = 354 + 5 * j;
     let key = words[98 + i];
-    let flags = words[a];
-    let kind = words[a + 1];
-    let payload = words[a + 2];
-    let second_kind = words[a + 3];
-    let second_payload = words[a + 4];
+    let row = PropertyWords {
+        flags: words[a],
+        kind: words[a + 1],
+        payload: words[a + 2],
+        second_kind: words[a + 3],
+        second_payload: words[a + 4],
+    };
     words[98 + j] = key;
-    words[b] = flags;
-    words[b + 1] = kind;
-    words[b + 2] = payload;
-    words[b + 3] = second_kind;
-    words[b + 4] = second_payload;
+    properties::put_row(words, j, row);
 }
 
 // One pass: what is not the property goes down over what was.

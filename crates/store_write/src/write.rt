@@ -6,9 +6,11 @@ use value_operations::bits;
 use value_operations::encoding;
 ghost use mathlib.Core.Path.{_≡_};
 ghost use mathlib.Core.Bool.{true};
-ghost use Prim.Native.Nat.{_<_};
+ghost use mathlib.Core.List.{_∷_, []};
+ghost use Prim.Native.Nat.{_+_, _<_, _≤_};
 ghost use lib.Dec.{eqb, ltb};
 ghost use lib.ListN.{length};
+ghost use lib.Seq.{sets};
 ghost use Rattle.store.specs.Store.{empty, put, add};
 ghost use Rattle.store.specs.Words.{storeSize, wordAt, storeOf, isStore, withObject, withNewObject};
 ghost use Rattle.store_write.specs.Write.{ObjectCells, FitsObject, Becomes, emptied};
@@ -60,15 +62,22 @@ fn object_words(x: Object) -> ObjectWords
     }
 }
 
+// The three words from `at` on.
+pub fn put_three(words: &mut [u64], at: usize, a: u64, b: u64, c: u64)
+    requires { ⌜ at + 3 ≤ length (now words) ⌝ }
+    ensures { λ _. ⌜ now (words .exit) ≡ sets (now (words .entry)) at (a ∷ b ∷ c ∷ []) ⌝ }
+{
+    words[at] = a;
+    words[at + 1] = b;
+    words[at + 2] = c;
+}
+
 fn write_object(words: &mut [u64], o: usize, x: Object)
     requires { ⌜ (length (now words) ≡ storeSize) × (o < 32) ⌝ }
     ensures { λ _. ⌜ (now (words .exit) ≡ withObject (now (words .entry)) o x) × FitsObject x ⌝ }
 {
     let w = object_words(x);
-    let b = 2 + 3 * o;
-    words[b] = w.head;
-    words[b + 1] = w.first;
-    words[b + 2] = w.second;
+    put_three(words, 2 + 3 * o, w.head, w.first, w.second);
 }
 
 // Words of the right length become an empty store; others are left.

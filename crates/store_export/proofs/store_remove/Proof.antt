@@ -1,7 +1,7 @@
 use denote.Ref.{now}
 use mathlib.Core.Path.{sym, _∙_}
 use native.Mathlib.Omega.{arith}
-use Rattle.store_read.proofs.ReadLaws.{sized}
+use Rattle.store.proofs.WordLaws.{sized}
 use Rattle.store_export.proofs.ExportLaws.{removable, remove-words, remove-count}
 use Rattle.store_export.specs.Export.{removed, removeAnswer}
 use borrow.Author.Needs.{needs}

@@ -7,7 +7,8 @@ use borrow.Author.Tests.{ltb-true}
 use denote.Ref.{now}
 use Rattle.internal_methods.specs.Monad.{pure, fails, if_then_else_}
 use Rattle.internal_methods.specs.Ordinary.{applyValidation}
-use Rattle.store_read.proofs.ReadLaws.{own-found, own-missed, place-below, property-length}
+use Rattle.store.proofs.WordLaws.{property-length}
+use Rattle.store_read.proofs.ReadLaws.{own-found, own-missed, place-below}
 use Rattle.definition.proofs.PlaceLaws.{place-changed}
 use borrow.Author.Needs.{needs}
 use Rattle.definition.proofs.writing.write_property.Statement.{statement}

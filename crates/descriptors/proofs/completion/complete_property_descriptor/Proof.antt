@@ -6,28 +6,13 @@ use Rattle.descriptors.proofs.completion.complete_property_descriptor.T
 
 returns : tie.Need-returns
 unfolding complete
-returns c = rw (sym (c .before .before .before .before .before .before .before .is-accessor-descriptor .ensures) ∙ c .before .before .before .before .before .before .if1 .taken, c .before .before .before .before .or-else .ensures, c .before .before .before .before .before .get-field .ensures, c .before .before .or-else2 .ensures, c .before .before .before .set-field .ensures, c .before .or-else-flag .ensures, c .or-else-flag2 .ensures)
+returns c = rw (sym (c .before .before .is-accessor-descriptor .ensures) ∙ c .before .if1 .taken) (c .accessor-with .ensures)
 
 returns-2 : tie.Need-returns-2
 unfolding complete
-returns-2 c = rw (sym (c .before .before .before .before .before .before .before .is-accessor-descriptor .ensures) ∙ c .before .before .before .before .before .before .if1 .left, c .before .before .before .before .or-else3 .ensures, c .before .before .before .before .before .value-field .ensures, c .before .before .or-else-flag3 .ensures, c .before .before .before .writable-field .ensures, c .before .or-else-flag4 .ensures, c .or-else-flag5 .ensures)
+returns-2 c = rw (sym (c .before .before .is-accessor-descriptor .ensures) ∙ c .before .if1 .left) (c .data-with .ensures)
 
 pub complete-property-descriptor-spec : {M : Type 1} → statement M
 complete-property-descriptor-spec =
     tie.close
-    (tie.spec
-    (λ c κs. search needs)
-    (λ c κs. search needs)
-    (λ c κs. search needs)
-    (λ c κs. search needs)
-    (λ c κs. search needs)
-    (λ c κs. search needs)
-    (λ c κs. search needs)
-    returns
-    (λ c κs. search needs)
-    (λ c κs. search needs)
-    (λ c κs. search needs)
-    (λ c κs. search needs)
-    (λ c κs. search needs)
-    (λ c κs. search needs)
-    returns-2)
+    (tie.spec (λ c κs. search needs) (λ c κs. search needs) returns (λ c κs. search needs) returns-2)

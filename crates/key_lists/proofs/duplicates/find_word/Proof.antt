@@ -1,16 +1,16 @@
-use Prim.Native.Nat.{_≤_, _-_, _+_}
-use mathlib.Core.Path.{_≡_, sym, _∙_}
+use Prim.Native.Nat.{ℕ, _≤_, _-_}
+use mathlib.Core.Path.{sym}
 use native.Mathlib.Omega.{arith}
 use native.Mathlib.Nat.{zero-add}
-use lib.ListN.{take, drop}
-use Rattle.key_lists.specs.KeyWords.{placeOfWord}
-use Rattle.key_lists.proofs.KeyWordLaws.{place-hit, place-step, place-end}
+use lib.Dec.{eqb}
+use borrow.Author.Tests.{eq-eqb, ne-eqb}
+use Rattle.store_read.proofs.ListLaws.{Passed, passed-hit, passed-more, passed-all}
 use Rattle.key_lists.proofs.duplicates.find_word.Statement.{statement}
 use Rattle.key_lists.proofs.duplicates.find_word.Tie as tie
 
 abbrev Inv-loop : tie.InvT-loop
 Inv-loop list n word i₀ i =
-    (i ≤ n) × (placeOfWord word (take n list) ≡ i + placeOfWord word (drop i (take n list)))
+    (i ≤ n) × Passed (λ (w : ℕ). eqb w word) list n i
 
 abbrev μ-loop : tie.MeasureT-loop
 μ-loop list n word i₀ i = n - i
@@ -19,13 +19,13 @@ loop-holds : tie.Need-loop-holds Inv-loop μ-loop
 loop-holds c = (omega arith, sym (zero-add _))
 
 returns : tie.Need-returns Inv-loop μ-loop
-returns c = place-hit _ _ _ _ (c .before .before .before .before .pre) (c .before .before .loop-test .taken) (c .if1 .taken) ∙ sym (c .before .before .before .loop .inv .1)
+returns c = passed-hit _ _ _ (c .before .before .before .before .pre) _ (c .before .before .before .loop .inv .1) (c .before .before .loop-test .taken) (eq-eqb _ _ (c .if1 .taken))
 
 loop-again : tie.Need-loop-again Inv-loop μ-loop
-loop-again c = (omega arith, c .before .before .before .loop .inv .1 ∙ place-step _ _ _ _ (c .before .before .before .before .pre) (c .before .before .loop-test .taken) (c .if1 .left))
+loop-again c = (omega arith, passed-more _ _ _ (c .before .before .before .before .pre) _ (c .before .before .before .loop .inv .1) (c .before .before .loop-test .taken) (ne-eqb _ _ (c .if1 .left)))
 
 returns-2 : tie.Need-returns-2 Inv-loop μ-loop
-returns-2 c = place-end _ _ _ _ (c .before .before .pre) (c .loop-test .left) ∙ sym (c .before .loop .inv .1)
+returns-2 c = passed-all _ _ _ (c .before .before .pre) _ (c .before .loop .inv .1) (c .loop-test .left)
 
 pub find-word-spec : {M : Type 1} → statement M
 find-word-spec =

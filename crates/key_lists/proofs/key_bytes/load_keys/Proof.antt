@@ -1,6 +1,5 @@
 use Prim.Native.Nat.{_-_}
 use native.Mathlib.Omega.{arith}
-use borrow.Author.Needs.{needs}
 use Rattle.key_lists.proofs.KeyLaws.{Loading, loading-start, loading-key, loading-known, loading-more, loading-end}
 use Rattle.key_lists.proofs.key_bytes.load_keys.Statement.{statement}
 use Rattle.key_lists.proofs.key_bytes.load_keys.Tie as tie
@@ -17,18 +16,6 @@ loop-holds c = loading-start _ _ _ _ (c .before .before .pre .1 .1 .0) (c .befor
 key-word-at-requires : tie.Need-key-word-at-requires Inv-loop μ-loop
 key-word-at-requires c κs = (omega (arith, c .before .loop .inv .place), (loading-key _ _ _ _ _ _ _ (c .before .loop .inv) (c .loop-test .taken), loading-known _ _ _ _ _ _ _ (c .before .loop .inv) (c .loop-test .taken)))
 
-mul-out : tie.Need-mul-out Inv-loop μ-loop
-mul-out c = omega (arith, c .before .before .loop .inv .listing .size)
-
-slice-write-out : tie.Need-slice-write-out Inv-loop μ-loop
-slice-write-out c = omega (arith, c .before .before .loop .inv .listing .size)
-
-add-at : tie.Need-add-at Inv-loop μ-loop
-add-at c = omega (arith, c .before .before .loop .inv .place)
-
-add-i : tie.Need-add-i Inv-loop μ-loop
-add-i c = omega arith
-
 loop-again : tie.Need-loop-again Inv-loop μ-loop
 loop-again c = loading-more _ _ _ _ _ _ _ (c .before .before .loop .inv) _ (c .before .loop-test .taken) (c .before .before .before .before .before .pre .1 .0) (c .before .before .before .before .before .pre .1 .1 .0) (c .key-word-at .ensures .0) (c .key-word-at .ensures .1)
 
@@ -39,4 +26,18 @@ returns : tie.Need-returns Inv-loop μ-loop
 returns c = loading-end _ _ _ _ _ _ _ (c .before .loop .inv) (c .loop-test .left)
 
 pub load-keys-spec : {M : Type 1} → statement M
-load-keys-spec = tie.close (tie.spec Inv-loop μ-loop loop-holds key-word-at-requires mul-out slice-write-out add-at add-i (λ c. omega arith) loop-again same-length returns)
+load-keys-spec =
+    tie.close
+    (tie.spec
+    Inv-loop
+    μ-loop
+    loop-holds
+    key-word-at-requires
+    (λ c. omega (arith, c .before .before .loop .inv .listing .size))
+    (λ c. omega (arith, c .before .before .loop .inv .listing .size))
+    (λ c. omega (arith, c .before .before .loop .inv .place))
+    (λ c. omega arith)
+    (λ c. omega arith)
+    loop-again
+    same-length
+    returns)

@@ -1,6 +1,6 @@
-use Prim.Native.Nat.{_*_, _-_, _≤_}
+use Prim.Native.Nat.{_-_, _≤_}
 use native.Mathlib.Omega.{arith}
-use mathlib.Core.Path.{_≡_, refl, sym, ap, _∙_}
+use mathlib.Core.Path.{_≡_, refl, ap, _∙_}
 use lib.ListN.{length}
 use lib.Seq.{length-sets}
 use denote.Ref.{now}
@@ -17,24 +17,6 @@ abbrev μ-loop : tie.MeasureT-loop
 
 loop-holds : tie.Need-loop-holds Inv-loop μ-loop
 loop-holds c = (omega arith, (refl, write-start (now (c .before .before .args .list)) _))
-
-mul-key-from-word : tie.Need-mul-key-from-word Inv-loop μ-loop
-mul-key-from-word c = search needs
-
-shared-slice-read-key-from-word : tie.Need-shared-slice-read-key-from-word Inv-loop μ-loop
-shared-slice-read-key-from-word c = search needs
-
-mul-put-value : tie.Need-mul-put-value Inv-loop μ-loop
-mul-put-value c = search needs
-
-put-value-requires : tie.Need-put-value-requires Inv-loop μ-loop
-put-value-requires c κs = omega (arith, c .before .before .before .before .before .loop .inv .1 .0, c .before .before .before .before .before .before .before .before .pre .1)
-
-add-i : tie.Need-add-i Inv-loop μ-loop
-add-i c = search needs
-
-loop-less : tie.Need-loop-less Inv-loop μ-loop
-loop-less c = search needs
 
 loop-again : tie.Need-loop-again Inv-loop μ-loop
 loop-again c = (
@@ -54,4 +36,20 @@ returns : tie.Need-returns Inv-loop μ-loop
 returns c = write-end _ _ _ (c .before .loop .i) (c .before .before .before .before .args .n) (omega arith) (c .before .loop .inv .1 .1)
 
 pub write-keys-spec : {M : Type 1} → statement M
-write-keys-spec = tie.close (tie.spec Inv-loop μ-loop loop-holds mul-key-from-word shared-slice-read-key-from-word (λ c κs. search needs) mul-put-value (λ c κs. search needs) put-value-requires add-i loop-less loop-again same-length returns)
+write-keys-spec =
+    tie.close
+    (tie.spec
+    Inv-loop
+    μ-loop
+    loop-holds
+    (λ c. search needs)
+    (λ c. search needs)
+    (λ c κs. search needs)
+    (λ c. search needs)
+    (λ c κs. search needs)
+    (λ c κs. omega (arith, c .before .before .before .before .before .loop .inv .1 .0, c .before .before .before .before .before .before .before .before .pre .1))
+    (λ c. search needs)
+    (λ c. search needs)
+    loop-again
+    same-length
+    returns)

@@ -1,5 +1,5 @@
 use native.Mathlib.Omega.{arith}
-use Rattle.store_read.proofs.ReadLaws.{object-length}
+use Rattle.store.proofs.WordLaws.{object-length}
 use denote.Ref.{now}
 use mathlib.Core.Path.{refl, sym, _∙_}
 use borrow.Author.Tests.{lt-ltb, le-ltb}

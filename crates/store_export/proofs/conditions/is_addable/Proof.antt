@@ -1,7 +1,7 @@
 use mathlib.Core.Path.{sym, _∙_}
 use native.Mathlib.Omega.{arith}
 use borrow.Author.Tests.{lt-ltb, le-ltb}
-use Rattle.store_read.proofs.ReadLaws.{sized}
+use Rattle.store.proofs.WordLaws.{sized}
 use Rattle.store_export.specs.Export.{isAddable}
 use borrow.Author.Needs.{needs}
 use Rattle.store_export.proofs.conditions.is_addable.Statement.{statement}

@@ -8,7 +8,8 @@ use borrow.Author.Tests.{eq-eqb, ne-eqb}
 use Rattle.text.specs.Table.{tabulate}
 use Rattle.store.specs.Words.{wordAt}
 use Rattle.store_read.specs.Answers.{firstPlace, keyWords, keyIn}
-use Rattle.store_read.proofs.ReadLaws.{sized, property-length, first-hit, first-step, first-end}
+use Rattle.store.proofs.WordLaws.{sized, property-length}
+use Rattle.store_read.proofs.ReadLaws.{first-hit, first-step, first-end}
 use Rattle.store_read.proofs.finding.find_word.Statement.{statement}
 use Rattle.store_read.proofs.finding.find_word.Tie as tie
 

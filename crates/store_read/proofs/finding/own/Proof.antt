@@ -1,6 +1,7 @@
 use mathlib.Core.Path.{sym, _∙_}
 use native.Mathlib.Omega.{arith}
-use Rattle.store_read.proofs.ReadLaws.{sized, place-below, own-found, own-missed}
+use Rattle.store.proofs.WordLaws.{sized}
+use Rattle.store_read.proofs.ReadLaws.{place-below, own-found, own-missed}
 use borrow.Author.Needs.{needs}
 use Rattle.store_read.proofs.finding.own.Statement.{statement}
 use Rattle.store_read.proofs.finding.own.Tie as tie

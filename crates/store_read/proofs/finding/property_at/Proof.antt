@@ -1,5 +1,6 @@
 use native.Mathlib.Omega.{arith}
-use Rattle.store_read.proofs.ReadLaws.{sized, odd-flag, even-flag}
+use Rattle.store.proofs.WordLaws.{sized}
+use Rattle.store_read.proofs.ReadLaws.{odd-flag, even-flag}
 use Rattle.store.specs.Words.{propertyIn, propertyOf}
 use borrow.Author.Needs.{needs}
 use Rattle.store_read.proofs.finding.property_at.Statement.{statement}

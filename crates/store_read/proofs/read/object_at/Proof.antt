@@ -1,5 +1,6 @@
 use native.Mathlib.Omega.{arith}
-use Rattle.store_read.proofs.ReadLaws.{sized, lookup-made, lookup-missing}
+use Rattle.store.proofs.WordLaws.{sized}
+use Rattle.store_read.proofs.ReadLaws.{lookup-made, lookup-missing}
 use Rattle.store.specs.Words.{objectIn}
 use borrow.Author.Needs.{needs}
 use Rattle.store_read.proofs.read.object_at.Statement.{statement}

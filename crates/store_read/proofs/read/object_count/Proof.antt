@@ -1,6 +1,6 @@
 use native.Mathlib.Omega.{arith}
 use mathlib.Core.Path.{sym}
-use Rattle.store_read.proofs.ReadLaws.{sized, object-length}
+use Rattle.store.proofs.WordLaws.{sized, object-length}
 use Rattle.store_read.proofs.read.object_count.Statement.{statement}
 use Rattle.store_read.proofs.read.object_count.Tie as tie
 

@@ -1,6 +1,6 @@
 use native.Mathlib.Omega.{arith}
 use mathlib.Core.Path.{sym}
-use Rattle.store_read.proofs.ReadLaws.{sized, property-length}
+use Rattle.store.proofs.WordLaws.{sized, property-length}
 use Rattle.store_read.proofs.read.property_count.Statement.{statement}
 use Rattle.store_read.proofs.read.property_count.Tie as tie
 

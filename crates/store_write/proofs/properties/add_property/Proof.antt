@@ -1,49 +1,31 @@
-use Rattle.store_write.proofs.WriteLaws.{sized, length-row, became, becomes-new-row, new-row-stored}
-use Rattle.store.specs.Words.{wordAt, keyAt, withRow}
-use lib.ListN.{length, set, length-set}
+use Rattle.store.proofs.WordLaws.{sized}
+use Rattle.store_write.proofs.WriteLaws.{length-keyed, became, becomes-new-row, new-row-stored}
+use Rattle.store.specs.Words.{wordAt, keyAt}
+use lib.ListN.{length, length-set}
 use denote.Ref.{now}
-use mathlib.Core.Path.{_≡_, ap, _∙_}
+use mathlib.Core.Path.{ap, _∙_}
 use native.Mathlib.Omega.{arith}
 use borrow.Author.Needs.{needs}
 use Rattle.store_write.proofs.properties.add_property.Statement.{statement}
 use Rattle.store_write.proofs.properties.add_property.Tie as tie
 
-slice-read-n : tie.Need-slice-read-n
-slice-read-n c = let s = sized (now (c .before .before .args .words)) (c .before .before .pre .0) in omega arith
-
 key-word-requires : tie.Need-key-word-requires
 key-word-requires c κs = c .before .before .pre .1 .joins
-
-add-words : tie.Need-add-words
-add-words c = let s = sized (now (c .before .before .before .args .words)) (c .before .before .before .pre .0) in omega arith
-
-slice-write-words : tie.Need-slice-write-words
-slice-write-words c = let s = sized (now (c .before .before .before .args .words)) (c .before .before .before .pre .0) in omega arith
 
 write-row-requires : tie.Need-write-row-requires
 write-row-requires c κs =
     let s = sized (now (c .before .before .before .before .args .words)) (c .before .before .before .before .pre .0) in (length-set (now (c .before .before .before .before .args .words)) (keyAt (wordAt (now (c .before .before .before .before .args .words)) 1)) (c .before .key-word .result) ∙ s .size, c .before .before .before .before .pre .1 .room)
 
-add-words-2 : tie.Need-add-words-2
-add-words-2 c = let s = sized (now (c .before .before .before .before .before .before .before .args .words)) (c .before .before .before .before .before .before .before .pre .0) in omega arith
-
 slice-write-words-2 : tie.Need-slice-write-words-2
 slice-write-words-2 c =
     let a = c .before .before .before .before .before .before .before .args in
-    let w = now (a .words) in
-    let s = sized w (c .before .before .before .before .before .before .before .pre .0) in
-    let v = set w (keyAt (wordAt w 1)) (c .before .before .before .before .key-word .result) in
-    let l : length (withRow v (wordAt w 1) (a .p)) ≡ length w = length-row v (wordAt w 1) (a .p) ∙ length-set w (keyAt (wordAt w 1)) (c .before .before .before .before .key-word .result) in
-    omega (arith, ap length (c .before .before .write-row .ensures .0))
+    let s = sized (now (a .words)) (c .before .before .before .before .before .before .before .pre .0) in
+    omega (arith, ap length (c .before .before .write-row .ensures .0), length-keyed (now (a .words)) (wordAt (now (a .words)) 1) (c .before .before .before .before .key-word .result) (a .p))
 
 same-length : tie.Need-same-length
 same-length c =
     let a = c .before .before .before .before .before .before .before .args in
-    let w = now (a .words) in
-    let s = sized w (c .before .before .before .before .before .before .before .pre .0) in
-    let v = set w (keyAt (wordAt w 1)) (c .before .before .before .before .key-word .result) in
-    let l : length (withRow v (wordAt w 1) (a .p)) ≡ length w = length-row v (wordAt w 1) (a .p) ∙ length-set w (keyAt (wordAt w 1)) (c .before .before .before .before .key-word .result) in
-    simp length-set (ap length (c .before .before .write-row .ensures .0) ∙ l)
+    simp length-set (ap length (c .before .before .write-row .ensures .0) ∙ length-keyed (now (a .words)) (wordAt (now (a .words)) 1) (c .before .before .before .before .key-word .result) (a .p))
 
 returns : tie.Need-returns
 returns c =
@@ -56,13 +38,13 @@ pub add-property-spec : {M : Type 1} → statement M
 add-property-spec =
     tie.close
     (tie.spec
-    slice-read-n
+    (λ c. let s = sized (now (c .before .before .args .words)) (c .before .before .pre .0) in omega arith)
     key-word-requires
-    add-words
+    (λ c. let s = sized (now (c .before .before .before .args .words)) (c .before .before .before .pre .0) in omega arith)
     (λ c. search needs)
-    slice-write-words
+    (λ c. let s = sized (now (c .before .before .before .args .words)) (c .before .before .before .pre .0) in omega arith)
     write-row-requires
-    add-words-2
+    (λ c. let s = sized (now (c .before .before .before .before .before .before .before .args .words)) (c .before .before .before .before .before .before .before .pre .0) in omega arith)
     slice-write-words-2
     same-length
     returns)

@@ -1,4 +1,5 @@
-use Rattle.store_write.proofs.WriteLaws.{sized, became, becomes-row}
+use Rattle.store.proofs.WordLaws.{sized}
+use Rattle.store_write.proofs.WriteLaws.{became, becomes-row}
 use denote.Ref.{now}
 use native.Mathlib.Omega.{arith}
 use borrow.Author.Needs.{needs}
@@ -8,9 +9,6 @@ use Rattle.store_write.proofs.properties.set_property.Tie as tie
 write-row-requires : tie.Need-write-row-requires
 write-row-requires c κs = let s = sized (now (c .before .before .args .words)) (c .before .before .pre .0) in (s .size, omega arith)
 
-same-length : tie.Need-same-length
-same-length c = search needs
-
 returns : tie.Need-returns
 returns c =
     let a = c .before .before .before .before .before .args in
@@ -18,4 +16,4 @@ returns c =
     became (h .0) (becomes-row (now (a .words)) (c .before .before .before .before .before .pre .0) (a .i) (a .p) (c .before .before .before .before .before .pre .1) (h .1))
 
 pub set-property-spec : {M : Type 1} → statement M
-set-property-spec = tie.close (tie.spec write-row-requires same-length returns)
+set-property-spec = tie.close (tie.spec write-row-requires (λ c. search needs) returns)

@@ -1,32 +1,18 @@
-use Rattle.store.specs.Words.{moved}
-use mathlib.Core.Path.{refl}
-use lib.ListN.{length-set}
-use native.Mathlib.Omega.{arith}
+use Rattle.store_write.proofs.WriteLaws.{moved-sets, length-moved}
+use denote.Ref.{now}
+use lib.ListN.{length}
+use mathlib.Core.Path.{sym, ap, _∙_}
 use borrow.Author.Needs.{needs}
 use Rattle.store_write.proofs.removal.move_entry.Statement.{statement}
 use Rattle.store_write.proofs.removal.move_entry.Tie as tie
 
-slice-write-words-2 : tie.Need-slice-write-words-2
-slice-write-words-2 c = simp length-set (omega (arith, c .before .before .before .before .before .before .pre .0))
-
-slice-write-words-3 : tie.Need-slice-write-words-3
-slice-write-words-3 c = simp length-set (omega (arith, c .before .before .before .before .before .before .pre .0))
-
-slice-write-words-4 : tie.Need-slice-write-words-4
-slice-write-words-4 c = simp length-set (omega (arith, c .before .before .before .before .before .before .pre .0))
-
-slice-write-words-5 : tie.Need-slice-write-words-5
-slice-write-words-5 c = simp length-set (omega (arith, c .before .before .before .before .before .before .pre .0))
-
-slice-write-words-6 : tie.Need-slice-write-words-6
-slice-write-words-6 c = simp length-set (omega (arith, c .before .before .before .before .before .before .pre .0))
-
 same-length : tie.Need-same-length
-same-length c = simp length-set
+same-length c = let a = c .before .before .before .before .before .before .before .before .before .before .before .args in ap length (c .before .before .put-row .ensures ∙ sym (moved-sets (now (a .words)) (a .i) (a .j))) ∙ length-moved (now (a .words)) (a .i) (a .j)
 
 returns : tie.Need-returns
-unfolding moved
-returns c = refl
+returns c =
+    let a = c .before .before .before .before .before .before .before .before .before .before .before .args in
+    c .before .before .put-row .ensures ∙ sym (moved-sets (now (a .words)) (a .i) (a .j))
 
 pub move-entry-spec : {M : Type 1} → statement M
 move-entry-spec =
@@ -54,21 +40,6 @@ move-entry-spec =
     (λ c. search needs)
     (λ c. search needs)
     (λ c. search needs)
-    (λ c. search needs)
-    (λ c. search needs)
-    (λ c. search needs)
-    slice-write-words-2
-    (λ c. search needs)
-    (λ c. search needs)
-    slice-write-words-3
-    (λ c. search needs)
-    (λ c. search needs)
-    slice-write-words-4
-    (λ c. search needs)
-    (λ c. search needs)
-    slice-write-words-5
-    (λ c. search needs)
-    (λ c. search needs)
-    slice-write-words-6
+    (λ c κs. search needs)
     same-length
     returns)

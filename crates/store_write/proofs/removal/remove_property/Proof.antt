@@ -1,4 +1,5 @@
-use Rattle.store_write.proofs.WriteLaws.{sized, length-moved, became, becomes-without, turn-hit, turn-miss, turn-end}
+use Rattle.store.proofs.WordLaws.{sized}
+use Rattle.store_write.proofs.WriteLaws.{length-moved, became, becomes-without, turn-hit, turn-miss, turn-end}
 use Rattle.store.specs.Words.{keyWord, swept, withoutRow}
 use Rattle.value.specs.declared.PropertyKey.{PropertyKey}
 use lib.ListN.{length, length-set}
@@ -17,9 +18,6 @@ Inv-loop words₀ o n key i₀ j₀ words i j =
 abbrev μ-loop : tie.MeasureT-loop
 μ-loop words₀ o n key i₀ j₀ words i j = n - i
 
-slice-read-n : tie.Need-slice-read-n Inv-loop μ-loop
-slice-read-n c = let s = sized (now (c .before .before .args .words)) (c .before .before .pre .0) in omega arith
-
 key-word-requires : tie.Need-key-word-requires Inv-loop μ-loop
 key-word-requires c κs = c .before .before .pre .1
 
@@ -27,18 +25,6 @@ loop-holds : tie.Need-loop-holds Inv-loop μ-loop
 unfolding withoutRow
 loop-holds c =
     let s = sized (now (c .before .before .before .args .words)) (c .before .before .before .pre .0) in (omega arith, (omega arith, (s .size, λ k e. rw sub-zero)))
-
-add-if1 : tie.Need-add-if1 Inv-loop μ-loop
-add-if1 c = let s = sized (now (c .before .before .before .before .before .args .words)) (c .before .before .before .before .before .pre .0) in omega arith
-
-mul-if1 : tie.Need-mul-if1 Inv-loop μ-loop
-mul-if1 c = let s = sized (now (c .before .before .before .before .before .args .words)) (c .before .before .before .before .before .pre .0) in omega arith
-
-slice-read-if1 : tie.Need-slice-read-if1 Inv-loop μ-loop
-slice-read-if1 c = let s = sized (now (c .before .before .before .before .before .before .args .words)) (c .before .before .before .before .before .before .pre .0) in omega arith
-
-add-i : tie.Need-add-i Inv-loop μ-loop
-add-i c = let s = sized (now (c .before .before .before .before .before .before .before .args .words)) (c .before .before .before .before .before .before .before .pre .0) in omega arith
 
 loop-again : tie.Need-loop-again Inv-loop μ-loop
 loop-again c =
@@ -58,12 +44,6 @@ move-entry-requires : tie.Need-move-entry-requires Inv-loop μ-loop
 move-entry-requires c κs =
     let s = sized (now (c .before .before .before .before .before .before .before .before .args .words)) (c .before .before .before .before .before .before .before .before .pre .0) in (c .before .before .before .before .loop .inv .1 .1 .0, (omega arith, omega arith))
 
-add-i-2 : tie.Need-add-i-2 Inv-loop μ-loop
-add-i-2 c = let s = sized (now (c .before .before .before .before .before .before .before .before .before .before .before .args .words)) (c .before .before .before .before .before .before .before .before .before .before .before .pre .0) in omega arith
-
-add-j : tie.Need-add-j Inv-loop μ-loop
-add-j c = let s = sized (now (c .before .before .before .before .before .before .before .before .before .before .before .args .words)) (c .before .before .before .before .before .before .before .before .before .before .before .pre .0) in omega arith
-
 loop-again-2 : tie.Need-loop-again-2 Inv-loop μ-loop
 loop-again-2 c =
     let g = c .before .before .before .before .before .before .before .loop .inv in
@@ -78,9 +58,6 @@ loop-again-2 c =
         ),
       ),
     )
-
-slice-write-words : tie.Need-slice-write-words Inv-loop μ-loop
-slice-write-words c = omega (arith, c .before .loop .inv .1 .1 .0)
 
 same-length : tie.Need-same-length Inv-loop μ-loop
 same-length c = let s = sized (now (c .before .before .before .before .before .args .words)) (c .before .before .before .before .before .pre .0) in simp length-set (c .before .loop .inv .1 .1 .0 ∙ sym (s .size))
@@ -97,20 +74,20 @@ remove-property-spec =
     (tie.spec
     Inv-loop
     μ-loop
-    slice-read-n
+    (λ c. let s = sized (now (c .before .before .args .words)) (c .before .before .pre .0) in omega arith)
     key-word-requires
     loop-holds
-    add-if1
-    mul-if1
-    slice-read-if1
-    add-i
+    (λ c. let s = sized (now (c .before .before .before .before .before .args .words)) (c .before .before .before .before .before .pre .0) in omega arith)
+    (λ c. let s = sized (now (c .before .before .before .before .before .args .words)) (c .before .before .before .before .before .pre .0) in omega arith)
+    (λ c. let s = sized (now (c .before .before .before .before .before .before .args .words)) (c .before .before .before .before .before .before .pre .0) in omega arith)
+    (λ c. let s = sized (now (c .before .before .before .before .before .before .before .args .words)) (c .before .before .before .before .before .before .before .pre .0) in omega arith)
     (λ c. omega arith)
     loop-again
     move-entry-requires
-    add-i-2
-    add-j
+    (λ c. let s = sized (now (c .before .before .before .before .before .before .before .before .before .before .before .args .words)) (c .before .before .before .before .before .before .before .before .before .before .before .pre .0) in omega arith)
+    (λ c. let s = sized (now (c .before .before .before .before .before .before .before .before .before .before .before .args .words)) (c .before .before .before .before .before .before .before .before .before .before .before .pre .0) in omega arith)
     (λ c. omega arith)
     loop-again-2
-    slice-write-words
+    (λ c. omega (arith, c .before .loop .inv .1 .1 .0))
     same-length
     returns)

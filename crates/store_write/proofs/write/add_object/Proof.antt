@@ -1,6 +1,7 @@
 use Rattle.store.specs.Words.{wordAt}
 use lib.ListN.{length}
-use Rattle.store_write.proofs.WriteLaws.{sized, length-object, became, becomes-new-object, new-object-stored}
+use Rattle.store.proofs.WordLaws.{sized}
+use Rattle.store_write.proofs.WriteLaws.{length-object, became, becomes-new-object, new-object-stored}
 use denote.Ref.{now}
 use mathlib.Core.Path.{ap}
 use native.Mathlib.Omega.{arith}
@@ -8,23 +9,14 @@ use borrow.Author.Needs.{needs}
 use Rattle.store_write.proofs.write.add_object.Statement.{statement}
 use Rattle.store_write.proofs.write.add_object.Tie as tie
 
-slice-read-n : tie.Need-slice-read-n
-slice-read-n c = let s = sized (now (c .before .before .args .words)) (c .before .before .pre .0) in omega arith
-
 write-object-requires : tie.Need-write-object-requires
 write-object-requires c κs = let s = sized (now (c .before .before .before .args .words)) (c .before .before .before .pre .0) in (s .size, omega arith)
-
-add-words : tie.Need-add-words
-add-words c = search needs
 
 slice-write-words : tie.Need-slice-write-words
 slice-write-words c =
     let a = c .before .before .before .before .before .before .args in
     let s = sized (now (a .words)) (c .before .before .before .before .before .before .pre .0) in
     omega (arith, ap length (c .before .before .write-object .ensures .0), length-object (now (a .words)) (wordAt (now (a .words)) 0) (a .x))
-
-same-length : tie.Need-same-length
-same-length c = search needs
 
 returns : tie.Need-returns
 returns c =
@@ -35,4 +27,10 @@ returns c =
 pub add-object-spec : {M : Type 1} → statement M
 add-object-spec =
     tie.close
-    (tie.spec slice-read-n write-object-requires add-words slice-write-words same-length returns)
+    (tie.spec
+    (λ c. let s = sized (now (c .before .before .args .words)) (c .before .before .pre .0) in omega arith)
+    write-object-requires
+    (λ c. search needs)
+    slice-write-words
+    (λ c. search needs)
+    returns)

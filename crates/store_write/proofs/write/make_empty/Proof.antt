@@ -1,4 +1,5 @@
-use Rattle.store_write.proofs.WriteLaws.{store-empty, sized-empty, is-store}
+use Rattle.store.proofs.WordLaws.{is-store}
+use Rattle.store_write.proofs.WriteLaws.{store-empty, sized-empty}
 use borrow.Author.Tests.{eq-eqb, ne-eqb}
 use mathlib.Core.Bool.{false≢true}
 use denote.Ref.{now}
@@ -6,15 +7,6 @@ use mathlib.Core.Path.{sym}
 use borrow.Author.Needs.{needs}
 use Rattle.store_write.proofs.write.make_empty.Statement.{statement}
 use Rattle.store_write.proofs.write.make_empty.Tie as tie
-
-slice-write-words : tie.Need-slice-write-words
-slice-write-words c = search needs
-
-slice-write-words-2 : tie.Need-slice-write-words-2
-slice-write-words-2 c = search needs
-
-same-length : tie.Need-same-length
-same-length c = search needs
 
 returns : tie.Need-returns
 returns c =
@@ -30,4 +22,4 @@ returns-2 c =
 
 pub make-empty-spec : {M : Type 1} → statement M
 make-empty-spec =
-    tie.close (tie.spec slice-write-words slice-write-words-2 same-length returns returns-2)
+    tie.close (tie.spec (λ c. search needs) (λ c. search needs) (λ c. search needs) returns returns-2)

@@ -1,14 +1,11 @@
-use Rattle.store_write.proofs.WriteLaws.{sized, properties-counted}
+use Rattle.store.proofs.WordLaws.{sized, property-length}
 use denote.Ref.{now}
 use native.Mathlib.Omega.{arith}
 use Rattle.store_write.proofs.write.room.Statement.{statement}
 use Rattle.store_write.proofs.write.room.Tie as tie
 
-shared-slice-read-result : tie.Need-shared-slice-read-result
-shared-slice-read-result c = let s = sized (now (c .before .args .words)) (c .before .pre) in omega arith
-
 returns : tie.Need-returns
-returns c = rw (properties-counted (now (c .before .args .words)))
+returns c = rw (property-length (now (c .before .args .words)))
 
 pub room-spec : {M : Type 1} → statement M
-room-spec = tie.close (tie.spec shared-slice-read-result returns)
+room-spec = tie.close (tie.spec (λ c. let s = sized (now (c .before .args .words)) (c .before .pre) in omega arith) returns)

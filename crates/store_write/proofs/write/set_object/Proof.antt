@@ -1,4 +1,5 @@
-use Rattle.store_write.proofs.WriteLaws.{sized, became, becomes-object}
+use Rattle.store.proofs.WordLaws.{sized}
+use Rattle.store_write.proofs.WriteLaws.{became, becomes-object}
 use denote.Ref.{now}
 use native.Mathlib.Omega.{arith}
 use borrow.Author.Needs.{needs}
@@ -8,9 +9,6 @@ use Rattle.store_write.proofs.write.set_object.Tie as tie
 write-object-requires : tie.Need-write-object-requires
 write-object-requires c κs = let s = sized (now (c .before .before .args .words)) (c .before .before .pre .0) in (s .size, omega arith)
 
-same-length : tie.Need-same-length
-same-length c = search needs
-
 returns : tie.Need-returns
 returns c =
     let a = c .before .before .before .before .before .args in
@@ -18,4 +16,4 @@ returns c =
     became (h .0) (becomes-object (now (a .words)) (c .before .before .before .before .before .pre .0) (a .o) (a .x) (c .before .before .before .before .before .pre .1) (h .1))
 
 pub set-object-spec : {M : Type 1} → statement M
-set-object-spec = tie.close (tie.spec write-object-requires same-length returns)
+set-object-spec = tie.close (tie.spec write-object-requires (λ c. search needs) returns)
