@@ -7,7 +7,10 @@ pub mod Writing
 pub mod KeyListLaws
 pub mod Keys
 pub mod Reports
+pub mod Related
 pub mod Longer
+pub mod Reader
+pub mod TableHolds
 pub mod StoreClosed
 pub mod Budget
 pub mod Chain

@@ -24,10 +24,10 @@ use Rattle.internal_methods.specs.declared.Failure.{Failure}
 use Rattle.internal_methods.specs.declared.Failure.the-variants.{Refused}
 use Rattle.internal_methods.specs.Monad.{Answer, State, state, Out, M, pure, fails, next, _>>=_, _>>_, throwIf, throwAny, answered, ask, counted, tick, if_then_else_, dispatched, dispatch}
 use Rattle.internal_methods.specs.Answers.{asValue, askValue, askBoolean, asPrototype, askPrototype, undefinedDescriptor, asDescriptor, askDescriptor, keysOf, listed, unlisted, asKeys, askKeys}
-use Rattle.internal_methods.specs.Methods.{Context, Methods}
-use Rattle.internal_methods.specs.Ordinary.{applyValidation, ordinaryDefineOwnProperty, ordinaryHasProperty, ordinaryGet, setOnReceiver, setData, ordinarySet, ordinaryDelete}
-use Rattle.internal_methods.specs.Proxy.{sorted, proxyGetPrototypeOf, proxySetPrototypeOf, proxyIsExtensible, proxyPreventExtensions, proxyGetOwnProperty, proxyDefineOwnProperty, proxyHasProperty, proxyGet, proxySet, proxyDelete, proxyOwnPropertyKeys}
-use Rattle.internal_methods.specs.Internal.{level, methods}
+use Rattle.internal_methods.specs.Methods.{Context}
+use Rattle.internal_methods.specs.Ordinary.{applyValidation}
+use Rattle.internal_methods.specs.Internal.{methods}
+use Rattle.internal_methods.proofs.Related.{allowing, Relation, RelatedMethods, methods-related}
 
 -- the first is a tail of the second
 pub data Suffix : List Answer → List Answer → Type 0 where
@@ -150,11 +150,6 @@ module _ {A : Type 0} where
       go (some (Ordinary r)) = hf r
       go (some (Proxy p)) = longer-throwIf 1 (p .revoked) (hg p)
 
-  -- either case of a value that is an object or none
-  pub longer-option : {m : M A} {k : ℕ → M A} (x : Option ℕ) → Longer m → ((q : ℕ) → Longer (k q)) → Longer {A = A} (elim x [ none ↦ m | some q ↦ k q ])
-  longer-option none hm hk = hm
-  longer-option (some q) hm hk = hk q
-
 -- The answers
 
 asValue-longer : (a : Answer) → Longer (asValue a)
@@ -238,279 +233,36 @@ askKeys-longer = longer-bind longer-ask asKeys-longer
 
 -- The methods
 
-pub record LongerMethods (call : Methods) : Type 0 where
-  pub getPrototypeOf : (o : ℕ) → Longer (call .getPrototypeOf o)
-  pub setPrototypeOf : (o : ℕ) (v : Value) → Longer (call .setPrototypeOf o v)
-  pub isExtensible : (o : ℕ) → Longer (call .isExtensible o)
-  pub preventExtensions : (o : ℕ) → Longer (call .preventExtensions o)
-  pub getOwnProperty : (o : ℕ) (k : PropertyKey) → Longer (call .getOwnProperty o k)
-  pub defineOwnProperty : (o : ℕ) (k : PropertyKey) (d : PropertyDescriptor) → Longer (call .defineOwnProperty o k d)
-  pub hasProperty : (o : ℕ) (k : PropertyKey) → Longer (call .hasProperty o k)
-  pub get : (o : ℕ) (k : PropertyKey) (receiver : Value) → Longer (call .get o k receiver)
-  pub set : (o : ℕ) (k : PropertyKey) (v receiver : Value) → Longer (call .set o k v receiver)
-  pub delete : (o : ℕ) (k : PropertyKey) → Longer (call .delete o k)
-  pub ownPropertyKeys : (o : ℕ) → Longer (call .ownPropertyKeys o)
-
-sorted-longer : {getOwn : PropertyKey → M OwnProperty} → ((k : PropertyKey) → Longer (getOwn k)) → (ks : List PropertyKey) → Longer (sorted getOwn ks)
-unfolding sorted
-sorted-longer h [] = longer-pure _
-sorted-longer h (k ∷ ks) =
-    longer-bind (h k) λ desc.
-    longer-bind (sorted-longer h ks) λ rest.
-    longer-pure _
-
-applyValidation-longer : (c : Context) (o : ℕ) (k : PropertyKey) (current : OwnProperty) (v : Validation) → Longer (applyValidation c o k current v)
+pub applyValidation-longer : (c : Context) (o : ℕ) (k : PropertyKey) (current : OwnProperty) (v : Validation) → Longer (applyValidation c o k current v)
 unfolding applyValidation
 applyValidation-longer c o k current Rejected = longer-pure _
 applyValidation-longer c o k current Unchanged = longer-pure _
 applyValidation-longer c o k Absent (Becomes p) = longer-if _ (longer-fails _) (longer-pure _)
 applyValidation-longer c o k (Present q) (Becomes p) = longer-pure _
 
-module _ (c : Context) (call : Methods) (h : LongerMethods call) where
-  defineOwnProperty-ordinary : (o : ℕ) (k : PropertyKey) (d : PropertyDescriptor) → Longer (ordinaryDefineOwnProperty c call o k d)
-  unfolding ordinaryDefineOwnProperty
-  defineOwnProperty-ordinary o k d =
-      longer-bind (h .getOwnProperty o k) λ current.
-      longer-bind (h .isExtensible o) λ extensible.
-      applyValidation-longer c o k current _
-
-  hasProperty-ordinary : (o : ℕ) (k : PropertyKey) → Longer (ordinaryHasProperty call o k)
-  unfolding ordinaryHasProperty
-  hasProperty-ordinary o k =
-      longer-bind (h .getOwnProperty o k) (elim [
-        | Present p ↦ longer-pure _
-        | Absent ↦
-            longer-bind (h .getPrototypeOf o) λ parent.
-            longer-option (objectOf parent) (longer-pure _) λ q. h .hasProperty q k
-      ])
-
-  get-ordinary : (o : ℕ) (k : PropertyKey) (receiver : Value) → Longer (ordinaryGet call o k receiver)
-  unfolding ordinaryGet
-  get-ordinary o k receiver =
-      longer-bind (h .getOwnProperty o k) (elim [
-        | Absent ↦
-            longer-bind (h .getPrototypeOf o) λ parent.
-            longer-option (objectOf parent) (longer-pure _) λ q. h .get q k receiver
-        | Present (Data v w e c) ↦ longer-pure _
-        | Present (Accessor g s e c) ↦ longer-if _ (longer-pure _) askValue-longer
-      ])
-
-  setOnReceiver-longer : (k : PropertyKey) (v : Value) (receiver : ℕ) → Longer (setOnReceiver c call k v receiver)
-  unfolding setOnReceiver
-  setOnReceiver-longer k v receiver =
-      longer-bind (h .getOwnProperty receiver k) (elim [
-        | Present (Accessor g s e f) ↦ longer-pure _
-        | Present (Data w wr e f) ↦ longer-if _ (longer-pure _) (h .defineOwnProperty receiver k _)
-        | Absent ↦ h .defineOwnProperty receiver k _
-      ])
-
-  setData-longer : (k : PropertyKey) (v : Value) (writable : Bool) (receiver : Value) → Longer (setData c call k v writable receiver)
-  unfolding setData
-  setData-longer k v writable receiver =
-      longer-if _ (longer-pure _)
-      (longer-option (objectOf receiver) (longer-pure _) λ r. setOnReceiver-longer k v r)
-
-  set-ordinary : (o : ℕ) (k : PropertyKey) (v receiver : Value) → Longer (ordinarySet c call o k v receiver)
-  unfolding ordinarySet
-  set-ordinary o k v receiver =
-      longer-bind (h .getOwnProperty o k) (elim [
-        | Absent ↦
-            longer-bind (h .getPrototypeOf o) λ parent.
-            longer-option (objectOf parent) (setData-longer k v true receiver) λ q. h .set q k v receiver
-        | Present (Data w wr e f) ↦ setData-longer k v wr receiver
-        | Present (Accessor g s e f) ↦ longer-if _ (longer-pure _) (longer-bind askValue-longer λ _. longer-pure _)
-      ])
-
-  delete-ordinary : (o : ℕ) (k : PropertyKey) → Longer (ordinaryDelete c call o k)
-  unfolding ordinaryDelete
-  delete-ordinary o k =
-      longer-bind (h .getOwnProperty o k) (elim [
-        | Absent ↦ longer-pure _
-        | Present p ↦ longer-if _ (longer-pure _) (longer-pure _)
-      ])
-
-  getPrototypeOf-proxy : (p : ProxyObject) → Longer (proxyGetPrototypeOf call p)
-  unfolding proxyGetPrototypeOf
-  getPrototypeOf-proxy p =
-      longer-if _ (h .getPrototypeOf (p .target))
-      (longer-bind askPrototype-longer λ handlerProto.
-      longer-bind (h .isExtensible (p .target)) λ extensibleTarget.
-      longer-if _ (longer-pure _)
-      (longer-bind (h .getPrototypeOf (p .target)) λ targetProto.
-      longer-throwIf _ _
-      (longer-pure _)))
-
-  setPrototypeOf-proxy : (p : ProxyObject) (v : Value) → Longer (proxySetPrototypeOf c call p v)
-  unfolding proxySetPrototypeOf
-  setPrototypeOf-proxy p v =
-      longer-if _ (h .setPrototypeOf (p .target) v)
-      (longer-bind (askBoolean-longer (c .strings)) λ booleanTrapResult.
-      longer-if _ (longer-pure _)
-      (longer-bind (h .isExtensible (p .target)) λ extensibleTarget.
-      longer-if _ (longer-pure _)
-      (longer-bind (h .getPrototypeOf (p .target)) λ targetProto.
-      longer-throwIf _ _
-      (longer-pure _))))
-
-  isExtensible-proxy : (p : ProxyObject) → Longer (proxyIsExtensible c call p)
-  unfolding proxyIsExtensible
-  isExtensible-proxy p =
-      longer-if _ (h .isExtensible (p .target))
-      (longer-bind (askBoolean-longer (c .strings)) λ booleanTrapResult.
-      longer-bind (h .isExtensible (p .target)) λ targetResult.
-      longer-throwIf _ _
-      (longer-pure _))
-
-  preventExtensions-proxy : (p : ProxyObject) → Longer (proxyPreventExtensions c call p)
-  unfolding proxyPreventExtensions
-  preventExtensions-proxy p =
-      longer-if _ (h .preventExtensions (p .target))
-      (longer-bind (askBoolean-longer (c .strings)) λ booleanTrapResult.
-      longer-if _ (longer-pure _)
-      (longer-bind (h .isExtensible (p .target)) λ extensibleTarget.
-      longer-throwIf _ _
-      (longer-pure _)))
-
-  getOwnProperty-proxy : (p : ProxyObject) (k : PropertyKey) → Longer (proxyGetOwnProperty call p k)
-  unfolding proxyGetOwnProperty
-  getOwnProperty-proxy p k =
-      longer-if _ (h .getOwnProperty (p .target) k)
-      (longer-bind askDescriptor-longer λ trapResultObj.
-      longer-bind (h .getOwnProperty (p .target) k) λ targetDesc.
-      elim trapResultObj [
-        | none ↦ elim targetDesc [
-          | Absent ↦ longer-pure _
-          | Present target ↦
-              longer-throwIf _ _
-              (longer-bind (h .isExtensible (p .target)) λ extensibleTarget.
-              longer-throwIf _ _
-              (longer-pure _))
-        ]
-        | some object ↦
-            longer-bind (h .isExtensible (p .target)) λ extensibleTarget.
-            longer-throwIf _ _
-            (longer-throwIf _ _
-            (longer-throwIf _ _
-            (longer-throwIf _ _
-            (longer-throwIf _ _
-            (longer-throwIf _ _
-            (longer-pure _))))))
-      ])
-
-  defineOwnProperty-proxy : (p : ProxyObject) (k : PropertyKey) (d : PropertyDescriptor) → Longer (proxyDefineOwnProperty c call p k d)
-  unfolding proxyDefineOwnProperty
-  defineOwnProperty-proxy p k d =
-      longer-if _ (h .defineOwnProperty (p .target) k d)
-      (longer-bind (askBoolean-longer (c .strings)) λ booleanTrapResult.
-      longer-if _ (longer-pure _)
-      (longer-bind (h .getOwnProperty (p .target) k) λ targetDesc.
-      longer-bind (h .isExtensible (p .target)) λ extensibleTarget.
-      elim targetDesc [
-        | Absent ↦
-            longer-throwIf _ _
-            (longer-throwIf _ _
-            (longer-pure _))
-        | Present target ↦
-            longer-throwIf _ _
-            (longer-throwIf _ _
-            (longer-throwIf _ _
-            (longer-pure _)))
-      ]))
-
-  hasProperty-proxy : (p : ProxyObject) (k : PropertyKey) → Longer (proxyHasProperty c call p k)
-  unfolding proxyHasProperty
-  hasProperty-proxy p k =
-      longer-if _ (h .hasProperty (p .target) k)
-      (longer-bind (askBoolean-longer (c .strings)) λ booleanTrapResult.
-      longer-if _ (longer-pure _)
-      (longer-bind (h .getOwnProperty (p .target) k) (elim [
-        | Absent ↦ longer-pure _
-        | Present target ↦
-            longer-throwIf _ _
-            (longer-bind (h .isExtensible (p .target)) λ extensibleTarget.
-            longer-throwIf _ _
-            (longer-pure _))
-      ])))
-
-  get-proxy : (p : ProxyObject) (k : PropertyKey) (receiver : Value) → Longer (proxyGet call p k receiver)
-  unfolding proxyGet
-  get-proxy p k receiver =
-      longer-if _ (h .get (p .target) k receiver)
-      (longer-bind askValue-longer λ trapResult.
-      longer-bind (h .getOwnProperty (p .target) k) λ targetDesc.
-      longer-throwIf _ _
-      (longer-throwIf _ _
-      (longer-pure _)))
-
-  set-proxy : (p : ProxyObject) (k : PropertyKey) (v receiver : Value) → Longer (proxySet c call p k v receiver)
-  unfolding proxySet
-  set-proxy p k v receiver =
-      longer-if _ (h .set (p .target) k v receiver)
-      (longer-bind (askBoolean-longer (c .strings)) λ booleanTrapResult.
-      longer-if _ (longer-pure _)
-      (longer-bind (h .getOwnProperty (p .target) k) λ targetDesc.
-      longer-throwIf _ _
-      (longer-throwIf _ _
-      (longer-pure _))))
-
-  delete-proxy : (p : ProxyObject) (k : PropertyKey) → Longer (proxyDelete c call p k)
-  unfolding proxyDelete
-  delete-proxy p k =
-      longer-if _ (h .delete (p .target) k)
-      (longer-bind (askBoolean-longer (c .strings)) λ booleanTrapResult.
-      longer-if _ (longer-pure _)
-      (longer-bind (h .getOwnProperty (p .target) k) (elim [
-        | Absent ↦ longer-pure _
-        | Present target ↦
-            longer-throwIf _ _
-            (longer-bind (h .isExtensible (p .target)) λ extensibleTarget.
-            longer-throwIf _ _
-            (longer-pure _))
-      ])))
-
-  ownPropertyKeys-proxy : (p : ProxyObject) → Longer (proxyOwnPropertyKeys call p)
-  unfolding proxyOwnPropertyKeys
-  ownPropertyKeys-proxy p =
-      longer-if _ (h .ownPropertyKeys (p .target))
-      (longer-bind askKeys-longer λ trapResult.
-      longer-throwAny _
-      (longer-bind (h .isExtensible (p .target)) λ extensibleTarget.
-      longer-bind (h .ownPropertyKeys (p .target)) λ targetKeys.
-      longer-bind (sorted-longer (λ k. h .getOwnProperty (p .target) k) targetKeys) λ target.
-      longer-throwAny _
-      (longer-pure _)))
-
-  level-longer : LongerMethods (level c call)
-  level-longer = record {
-    getPrototypeOf = λ o. longer-dispatch (c .store) o (λ r. longer-pure _) (λ p. getPrototypeOf-proxy p);
-    setPrototypeOf = λ o v. longer-dispatch (c .store) o (λ r. longer-pure _) (λ p. setPrototypeOf-proxy p v);
-    isExtensible = λ o. longer-dispatch (c .store) o (λ r. longer-pure _) (λ p. isExtensible-proxy p);
-    preventExtensions = λ o. longer-dispatch (c .store) o (λ r. longer-pure _) (λ p. preventExtensions-proxy p);
-    getOwnProperty = λ o k. longer-dispatch (c .store) o (λ r. longer-pure _) (λ p. getOwnProperty-proxy p k);
-    defineOwnProperty = λ o k d. longer-dispatch (c .store) o (λ r. defineOwnProperty-ordinary o k d) (λ p. defineOwnProperty-proxy p k d);
-    hasProperty = λ o k. longer-dispatch (c .store) o (λ r. hasProperty-ordinary o k) (λ p. hasProperty-proxy p k);
-    get = λ o k receiver. longer-dispatch (c .store) o (λ r. get-ordinary o k receiver) (λ p. get-proxy p k receiver);
-    set = λ o k v receiver. longer-dispatch (c .store) o (λ r. set-ordinary o k v receiver) (λ p. set-proxy p k v receiver);
-    delete = λ o k. longer-dispatch (c .store) o (λ r. delete-ordinary o k) (λ p. delete-proxy p k);
-    ownPropertyKeys = λ o. longer-dispatch (c .store) o (λ r. longer-pure _) (λ p. ownPropertyKeys-proxy p);
-  }
-
-pub methods-longer : (n : ℕ) (c : Context) → LongerMethods (methods n c)
-unfolding methods
-methods-longer zero c = record {
-  getPrototypeOf = λ o. longer-fails _;
-  setPrototypeOf = λ o v. longer-fails _;
-  isExtensible = λ o. longer-fails _;
-  preventExtensions = λ o. longer-fails _;
-  getOwnProperty = λ o k. longer-fails _;
-  defineOwnProperty = λ o k d. longer-fails _;
-  hasProperty = λ o k. longer-fails _;
-  get = λ o k receiver. longer-fails _;
-  set = λ o k v receiver. longer-fails _;
-  delete = λ o k. longer-fails _;
-  ownPropertyKeys = λ o. longer-fails _;
+abbrev pub longer-relation : (c : Context) → Relation c (c .allowance)
+longer-relation c = record {
+  reads = λ m m′. Longer m;
+  writes = λ m m′. Longer m;
+  reads-pure = λ a. longer-pure a;
+  reads-throw = λ n. longer-fails _;
+  reads-bind = λ h k. longer-bind h k;
+  writes-pure = λ w. longer-pure w;
+  writes-bind = λ h k. longer-bind h k;
+  askValue-reads = askValue-longer;
+  askPrototype-reads = askPrototype-longer;
+  askDescriptor-reads = askDescriptor-longer;
+  askKeys-reads = askKeys-longer;
+  applied = λ o k current v. applyValidation-longer c o k current v;
 }
-methods-longer (suc n) c = level-longer c (methods n c) (methods-longer n c)
+
+abbrev pub LongerMethods : Context → ℕ → Type 0
+LongerMethods c n = RelatedMethods (longer-relation c) (methods n c) (methods n (allowing c (c .allowance)))
+
+pub methods-longer : (n : ℕ) (c : Context) → LongerMethods c n
+methods-longer n c = methods-related c (c .allowance) (longer-relation c)
+    (record { reads = longer-fails _; writes = longer-fails _ })
+    (record { reads = λ o f g. longer-dispatch (c .store) o f g; writes = λ o f g. longer-dispatch (c .store) o f g }) n
 
 -- The consequence
 
