@@ -7,7 +7,7 @@ pub mod Writing
 pub mod KeyListLaws
 pub mod Keys
 pub mod Reports
-pub mod Related
+pub mod Walk
 pub mod Longer
 pub mod Reader
 pub mod TableHolds

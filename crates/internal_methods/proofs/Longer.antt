@@ -4,17 +4,12 @@ use mathlib.Core.Path.{_≡_, refl, subst}
 use mathlib.Core.Bool.{Bool, true, false}
 use mathlib.Core.Option.{Option, none, some}
 use mathlib.Core.List.{List, [], _∷_, _++_}
-use Rattle.value.specs.declared.Value.{Value}
 use Rattle.value.specs.declared.Value.the-variants as value
 use Rattle.value.specs.declared.PropertyKey.{PropertyKey}
-use Rattle.value.specs.Value.{objectOf}
-use Rattle.property.specs.declared.PropertyDescriptor.{PropertyDescriptor}
-use Rattle.property.specs.declared.Property.the-variants.{Data, Accessor}
 use Rattle.property.specs.declared.OwnProperty.{OwnProperty}
 use Rattle.property.specs.declared.OwnProperty.the-variants.{Absent, Present}
 use Rattle.property.specs.declared.Validation.{Validation}
 use Rattle.property.specs.declared.Validation.the-variants.{Rejected, Unchanged, Becomes}
-use Rattle.text.specs.Strings.{Strings}
 use Rattle.store.specs.declared.OrdinaryObject.{OrdinaryObject}
 use Rattle.store.specs.declared.ProxyObject.{ProxyObject}
 use Rattle.store.specs.declared.Object.{Object}
@@ -23,11 +18,11 @@ use Rattle.store.specs.Store.{Store, lookup}
 use Rattle.internal_methods.specs.declared.Failure.{Failure}
 use Rattle.internal_methods.specs.declared.Failure.the-variants.{Refused}
 use Rattle.internal_methods.specs.Monad.{Answer, State, state, Out, M, pure, fails, next, _>>=_, _>>_, throwIf, throwAny, answered, ask, counted, tick, if_then_else_, dispatched, dispatch}
-use Rattle.internal_methods.specs.Answers.{asValue, askValue, askBoolean, asPrototype, askPrototype, undefinedDescriptor, asDescriptor, askDescriptor, keysOf, listed, unlisted, asKeys, askKeys}
+use Rattle.internal_methods.specs.Answers.{askKeys}
 use Rattle.internal_methods.specs.Methods.{Context}
 use Rattle.internal_methods.specs.Ordinary.{applyValidation}
 use Rattle.internal_methods.specs.Internal.{methods}
-use Rattle.internal_methods.proofs.Related.{allowing, Relation, RelatedMethods, methods-related}
+use Rattle.internal_methods.proofs.Walk.{Any, allowing, Relation, RelatedMethods, AnswerBy, Asking, askValue-by, askPrototype-by, askDescriptor-by, askKeys-by, methods-by}
 
 -- the first is a tail of the second
 pub data Suffix : List Answer → List Answer → Type 0 where
@@ -92,16 +87,21 @@ module _ {A B : Type 0} where
     shrinks = λ s. suffix-trans (next-shrinks hk (m .run s)) (hm .shrinks s);
   }
 
-module _ {A : Type 0} {k : M A} where
-  pub longer-throwIf : (n : ℕ) (b : Bool) → Longer k → Longer (throwIf n b >> k)
-  unfolding throwIf
-  longer-throwIf n true h = longer-bind (longer-fails _) (λ _. h)
-  longer-throwIf n false h = longer-bind (longer-pure _) (λ _. h)
+-- what is thrown ends the run
+longer-thrown : {A : Type 0} (k : M A) (f : Failure) → Longer (fails {A = Unit {0}} f >> k)
+unfolding fails next _>>=_
+longer-thrown k f = record { follows = λ x s. failed; shrinks = λ s. same }
 
-  pub longer-throwAny : (x : Option ℕ) → Longer k → Longer (throwAny x >> k)
+module _ {A : Type 0} {k : M A} where
+  pub longer-throwIf : (n : ℕ) (b : Bool) → (b ≡ false → Longer k) → Longer (throwIf n b >> k)
+  unfolding throwIf
+  longer-throwIf n true h = longer-thrown k _
+  longer-throwIf n false h = longer-bind (longer-pure _) (λ _. h refl)
+
+  pub longer-throwAny : (x : Option ℕ) → (x ≡ none → Longer k) → Longer (throwAny x >> k)
   unfolding throwAny
-  longer-throwAny none h = longer-bind (longer-pure _) (λ _. h)
-  longer-throwAny (some n) h = longer-bind (longer-fails _) (λ _. h)
+  longer-throwAny none h = longer-bind (longer-pure _) (λ _. h refl)
+  longer-throwAny (some n) h = longer-thrown k _
 
 ask-shrinks : (n : ℕ) (a : List Answer) → Suffix (left (answered n a)) a
 ask-shrinks n [] = same
@@ -141,97 +141,36 @@ longer-tick = record {
 
 module _ {A : Type 0} where
   pub longer-dispatch : {f : OrdinaryObject → M A} {g : ProxyObject → M A} (σ : Store) (o : ℕ)
-      → ((r : OrdinaryObject) → Longer (f r)) → ((p : ProxyObject) → Longer (g p)) → Longer (dispatch σ o f g)
+      → ((r : OrdinaryObject) → lookup σ o ≡ some (Ordinary r) → Longer (f r)) → ((p : ProxyObject) → lookup σ o ≡ some (Proxy p) → Longer (g p))
+      → Longer (dispatch σ o f g)
   unfolding dispatch dispatched
-  longer-dispatch {f} {g} σ o hf hg = longer-bind longer-tick (λ _. go (lookup σ o))
+  longer-dispatch {f} {g} σ o hf hg = longer-bind longer-tick (λ _. go (lookup σ o) refl)
     where
-      go : (x : Option Object) → Longer (dispatched x f g)
-      go none = longer-fails _
-      go (some (Ordinary r)) = hf r
-      go (some (Proxy p)) = longer-throwIf 1 (p .revoked) (hg p)
+      go : (x : Option Object) → lookup σ o ≡ x → Longer (dispatched x f g)
+      go none e = longer-fails _
+      go (some (Ordinary r)) e = hf r e
+      go (some (Proxy p)) e = longer-throwIf 1 (p .revoked) (λ _. hg p e)
 
--- The answers
+-- The methods: of their objects and values nothing need be known
 
-asValue-longer : (a : Answer) → Longer (asValue a)
-unfolding asValue
-asValue-longer (Answer.value v) = longer-pure _
-asValue-longer (Answer.descriptor d) = longer-fails _
-asValue-longer (Answer.keys ks) = longer-fails _
-asValue-longer (Answer.throw v) = longer-fails _
+pub any-answer : (a : Answer) → AnswerBy Any a
+any-answer (Answer.value v) = tt
+any-answer (Answer.descriptor d) = tt
+any-answer (Answer.keys ks) = tt
+any-answer (Answer.throw v) = tt
 
-pub askValue-longer : Longer askValue
-unfolding askValue
-askValue-longer = longer-bind longer-ask asValue-longer
-
-pub askBoolean-longer : (strings : Strings) → Longer (askBoolean strings)
-unfolding askBoolean
-askBoolean-longer strings = longer-bind askValue-longer λ v. longer-pure _
-
-asPrototype-longer : (v : Value) → Longer (asPrototype v)
-unfolding asPrototype
-asPrototype-longer value.Null = longer-pure _
-asPrototype-longer (value.Object o) = longer-pure _
-asPrototype-longer (value.Function f) = longer-fails _
-asPrototype-longer value.Undefined = longer-fails _
-asPrototype-longer (value.Boolean b) = longer-fails _
-asPrototype-longer (value.Integer32 n) = longer-fails _
-asPrototype-longer (value.Float64 x) = longer-fails _
-asPrototype-longer (value.String s) = longer-fails _
-asPrototype-longer (value.Symbol s) = longer-fails _
-
-pub askPrototype-longer : Longer askPrototype
-unfolding askPrototype
-askPrototype-longer = longer-bind askValue-longer asPrototype-longer
-
-undefinedDescriptor-longer : (v : Value) → Longer (undefinedDescriptor v)
-undefinedDescriptor-longer value.Undefined = longer-pure _
-undefinedDescriptor-longer (value.Object o) = longer-fails _
-undefinedDescriptor-longer (value.Function f) = longer-fails _
-undefinedDescriptor-longer value.Null = longer-fails _
-undefinedDescriptor-longer (value.Boolean b) = longer-fails _
-undefinedDescriptor-longer (value.Integer32 n) = longer-fails _
-undefinedDescriptor-longer (value.Float64 x) = longer-fails _
-undefinedDescriptor-longer (value.String s) = longer-fails _
-undefinedDescriptor-longer (value.Symbol s) = longer-fails _
-
-asDescriptor-longer : (a : Answer) → Longer (asDescriptor a)
-unfolding asDescriptor
-asDescriptor-longer (Answer.value v) = undefinedDescriptor-longer v
-asDescriptor-longer (Answer.descriptor d) = longer-pure _
-asDescriptor-longer (Answer.keys ks) = longer-fails _
-asDescriptor-longer (Answer.throw v) = longer-fails _
-
-pub askDescriptor-longer : Longer askDescriptor
-unfolding askDescriptor
-askDescriptor-longer = longer-bind longer-ask asDescriptor-longer
-
-listed-longer : (x : Option (List PropertyKey)) → Longer (listed x)
-listed-longer none = longer-fails _
-listed-longer (some ks) = longer-pure _
-
-unlisted-longer : (v : Value) → Longer (unlisted v)
-unlisted-longer (value.Object o) = longer-fails _
-unlisted-longer (value.Function f) = longer-fails _
-unlisted-longer value.Undefined = longer-fails _
-unlisted-longer value.Null = longer-fails _
-unlisted-longer (value.Boolean b) = longer-fails _
-unlisted-longer (value.Integer32 n) = longer-fails _
-unlisted-longer (value.Float64 x) = longer-fails _
-unlisted-longer (value.String s) = longer-fails _
-unlisted-longer (value.Symbol s) = longer-fails _
-
-asKeys-longer : (a : Answer) → Longer (asKeys a)
-unfolding asKeys
-asKeys-longer (Answer.value v) = unlisted-longer v
-asKeys-longer (Answer.descriptor d) = longer-fails _
-asKeys-longer (Answer.keys vs) = listed-longer (keysOf vs)
-asKeys-longer (Answer.throw v) = longer-fails _
+abbrev pub longer-asking : Asking Any
+longer-asking = record {
+  reads = λ Q m m′. Longer m;
+  gives = λ a _. longer-pure a;
+  throws = λ i _. longer-fails _;
+  unreadable = longer-fails _;
+  binds-value = λ h k. longer-bind h (λ v. k v tt);
+  asks = λ k. longer-bind longer-ask (λ a. k a (any-answer a));
+}
 
 pub askKeys-longer : Longer askKeys
-unfolding askKeys
-askKeys-longer = longer-bind longer-ask asKeys-longer
-
--- The methods
+askKeys-longer = askKeys-by longer-asking
 
 pub applyValidation-longer : (c : Context) (o : ℕ) (k : PropertyKey) (current : OwnProperty) (v : Validation) → Longer (applyValidation c o k current v)
 unfolding applyValidation
@@ -240,29 +179,34 @@ applyValidation-longer c o k current Unchanged = longer-pure _
 applyValidation-longer c o k Absent (Becomes p) = longer-if _ (longer-fails _) (longer-pure _)
 applyValidation-longer c o k (Present q) (Becomes p) = longer-pure _
 
-abbrev pub longer-relation : (c : Context) → Relation c (c .allowance)
+abbrev pub longer-relation : (c : Context) → Relation c (c .allowance) Any Any
 longer-relation c = record {
-  reads = λ m m′. Longer m;
+  reads = λ Q m m′. Longer m;
   writes = λ m m′. Longer m;
-  reads-pure = λ a. longer-pure a;
-  reads-throw = λ n. longer-fails _;
-  reads-bind = λ h k. longer-bind h k;
-  writes-pure = λ w. longer-pure w;
-  writes-bind = λ h k. longer-bind h k;
-  askValue-reads = askValue-longer;
-  askPrototype-reads = askPrototype-longer;
-  askDescriptor-reads = askDescriptor-longer;
-  askKeys-reads = askKeys-longer;
-  applied = λ o k current v. applyValidation-longer c o k current v;
+  any = λ h. h;
+  gives = λ a _. longer-pure a;
+  throws = λ i _. longer-fails _;
+  binds = λ h k. longer-bind h k;
+  binds-value = λ h k. longer-bind h (λ v. k v tt);
+  writes-binds = λ h k. longer-bind h k;
+  writes-binds-value = λ h k. longer-bind h (λ v. k v tt);
+  asks-value = askValue-by longer-asking;
+  asks-prototype = askPrototype-by longer-asking;
+  asks-descriptor = askDescriptor-by longer-asking;
+  asks-keys = askKeys-by longer-asking;
+  idle = λ b. longer-pure _;
+  puts = λ o r _. longer-pure _;
+  removes = λ o k. longer-pure _;
+  applies = λ o k current v. applyValidation-longer c o k current v;
+  object = λ v _ q _. tt;
+  prototype = λ o r _. tt;
+  target = λ o p _. tt;
 }
 
-abbrev pub LongerMethods : Context → ℕ → Type 0
-LongerMethods c n = RelatedMethods (longer-relation c) (methods n c) (methods n (allowing c (c .allowance)))
-
-pub methods-longer : (n : ℕ) (c : Context) → LongerMethods c n
-methods-longer n c = methods-related c (c .allowance) (longer-relation c)
+pub methods-longer : (n : ℕ) (c : Context) → RelatedMethods (longer-relation c) (methods n c) (methods n (allowing c (c .allowance)))
+methods-longer n c = methods-by (longer-relation c)
     (record { reads = longer-fails _; writes = longer-fails _ })
-    (record { reads = λ o f g. longer-dispatch (c .store) o f g; writes = λ o f g. longer-dispatch (c .store) o f g }) n
+    (record { reads = λ o _ f g. longer-dispatch (c .store) o f g; writes = λ o _ f g. longer-dispatch (c .store) o f g }) n
 
 -- The consequence
 

@@ -25,7 +25,7 @@ use Rattle.internal_methods.specs.Readable.{Reading, anyValue, prototype
 use Rattle.internal_methods.specs.Methods.{Context}
 use Rattle.internal_methods.specs.Ordinary.{applyValidation}
 use Rattle.internal_methods.specs.Internal.{methods}
-use Rattle.internal_methods.proofs.Related.{allowing, Relation, RelatedMethods, methods-related}
+use Rattle.internal_methods.proofs.Walk.{Any, allowing, Relation, RelatedMethods, methods-by}
 
 abbrev pub isNine : Failure → Bool
 isNine (Refused n) = eqb n 9
@@ -93,18 +93,18 @@ reader-tick = record { ended = λ s. go (s .answers) (s .calls) }
 
 module _ {A : Type 0} where
   pub reader-dispatch : {f : OrdinaryObject → M A} {g : ProxyObject → M A} (σ : Store) (o : ℕ)
-      → ((r : OrdinaryObject) → Reader (f r)) → ((p : ProxyObject) → Reader (g p)) → Reader (dispatch σ o f g)
+      → ((r : OrdinaryObject) → lookup σ o ≡ some (Ordinary r) → Reader (f r)) → ((p : ProxyObject) → lookup σ o ≡ some (Proxy p) → Reader (g p)) → Reader (dispatch σ o f g)
   unfolding dispatch dispatched throwIf
-  reader-dispatch {f} {g} σ o hf hg = reader-bind reader-tick (λ _. go (lookup σ o))
+  reader-dispatch {f} {g} σ o hf hg = reader-bind reader-tick (λ _. go (lookup σ o) refl)
     where
-      revoked : (b : Bool) (p : ProxyObject) → Reader (throwIf 1 b >> g p)
-      revoked true p = reader-bind (reader-fails _ refl) (λ _. hg p)
-      revoked false p = reader-bind (reader-pure _) (λ _. hg p)
+      revoked : (b : Bool) (p : ProxyObject) → Reader (g p) → Reader (throwIf 1 b >> g p)
+      revoked true p h = reader-bind (reader-fails _ refl) (λ _. h)
+      revoked false p h = reader-bind (reader-pure _) (λ _. h)
 
-      go : (x : Option Object) → Reader (dispatched x f g)
-      go none = reader-fails _ refl
-      go (some (Ordinary r)) = hf r
-      go (some (Proxy p)) = revoked (p .revoked) p
+      go : (x : Option Object) → lookup σ o ≡ x → Reader (dispatched x f g)
+      go none e = reader-fails _ refl
+      go (some (Ordinary r)) e = hf r e
+      go (some (Proxy p)) e = revoked (p .revoked) p (hg p e)
 
 -- The answers
 
@@ -194,23 +194,31 @@ applyValidation-reader c o k current Unchanged = reader-pure _
 applyValidation-reader c o k Absent (Becomes p) = reader-if _ (reader-fails _ refl) (reader-pure _)
 applyValidation-reader c o k (Present q) (Becomes p) = reader-pure _
 
-abbrev pub reader-relation : (c : Context) → Relation c (c .allowance)
+abbrev pub reader-relation : (c : Context) → Relation c (c .allowance) Any Any
 reader-relation c = record {
-  reads = λ m m′. Reader m;
+  reads = λ Q m m′. Reader m;
   writes = λ m m′. Reader m;
-  reads-pure = λ a. reader-pure a;
-  reads-throw = λ n. reader-fails _ refl;
-  reads-bind = λ h k. reader-bind h k;
-  writes-pure = λ w. reader-pure w;
-  writes-bind = λ h k. reader-bind h k;
-  askValue-reads = askValue-reader;
-  askPrototype-reads = askPrototype-reader;
-  askDescriptor-reads = askDescriptor-reader;
-  askKeys-reads = askKeys-reader;
-  applied = λ o k current v. applyValidation-reader c o k current v;
+  any = λ h. h;
+  gives = λ a _. reader-pure a;
+  throws = λ i _. reader-fails _ refl;
+  binds = λ h k. reader-bind h k;
+  binds-value = λ h k. reader-bind h (λ v. k v tt);
+  writes-binds = λ h k. reader-bind h k;
+  writes-binds-value = λ h k. reader-bind h (λ v. k v tt);
+  asks-value = askValue-reader;
+  asks-prototype = askPrototype-reader;
+  asks-descriptor = askDescriptor-reader;
+  asks-keys = askKeys-reader;
+  idle = λ b. reader-pure _;
+  puts = λ o r _. reader-pure _;
+  removes = λ o k. reader-pure _;
+  applies = λ o k current v. applyValidation-reader c o k current v;
+  object = λ v _ q _. tt;
+  prototype = λ o r _. tt;
+  target = λ o p _. tt;
 }
 
 pub methods-reader : (n : ℕ) (c : Context) → RelatedMethods (reader-relation c) (methods n c) (methods n (allowing c (c .allowance)))
-methods-reader n c = methods-related c (c .allowance) (reader-relation c)
+methods-reader n c = methods-by (reader-relation c)
     (record { reads = reader-fails _ refl; writes = reader-fails _ refl })
-    (record { reads = λ o f g. reader-dispatch (c .store) o f g; writes = λ o f g. reader-dispatch (c .store) o f g }) n
+    (record { reads = λ o _ f g. reader-dispatch (c .store) o f g; writes = λ o _ f g. reader-dispatch (c .store) o f g }) n

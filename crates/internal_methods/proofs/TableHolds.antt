@@ -25,8 +25,8 @@ use Rattle.internal_methods.specs.Ordinary.{ordinaryGet, ordinarySet}
 use Rattle.internal_methods.specs.Proxy.{hasTrap}
 use Rattle.internal_methods.specs.Internal.{level, methods}
 use Rattle.internal_methods.specs.Readable.{Reading, anyValue, prototype, descriptor, keyList, isUnreadable, ReadsAs, HasTrap, HasAccessor, TableHolds}
-use Rattle.internal_methods.proofs.Related.{allowing, Trapped, trapped, TrappedWrite, getPrototypeOf-proxy, setPrototypeOf-proxy, isExtensible-proxy, preventExtensions-proxy, getOwnProperty-proxy, defineOwnProperty-proxy, hasProperty-proxy, get-proxy, set-proxy, delete-proxy, ownPropertyKeys-proxy}
-use Rattle.internal_methods.proofs.Related as related
+use Rattle.internal_methods.proofs.Walk.{Any, allowing, Trapped, TrappedWrite, getPrototypeOf-proxy, setPrototypeOf-proxy, isExtensible-proxy, preventExtensions-proxy, getOwnProperty-proxy, defineOwnProperty-proxy, hasProperty-proxy, get-proxy, set-proxy, delete-proxy, ownPropertyKeys-proxy}
+use Rattle.internal_methods.proofs.Walk as walk
 use Rattle.internal_methods.proofs.Reader.{isNine, Ended, Reader, reader-pure, reader-relation, methods-reader}
 use Rattle.internal_methods.proofs.Reader as reader
 
@@ -140,15 +140,15 @@ module _ {r : Reading} {A B : Type 0} {ask : M A} (asks : Asks r ask) (k : A →
 
 -- a proxy that has the trap takes its answer first
 module _ {c : Context} {r : Reading} {A : Type 0} {ask : M A} (asks : Asks r ask) (n : ℕ) where
-  trapped-first : (b : Bool) {B : Type 0} {m m′ : M B} → Trapped c (c .allowance) (reader-relation c) b ask m m′ → b ≡ false → ReadsAs r m n
+  trapped-first : (b : Bool) {B : Type 0} {m m′ : M B} → Trapped (reader-relation c) b Any Any ask m m′ → b ≡ false → ReadsAs r m n
   unfolding if_then_else_
   trapped-first true t e = absurd (false≢true (sym e))
-  trapped-first false (related.trapped {k = k} hm hk) e = first asks k hk n
+  trapped-first false (walk.trapped {k = k} ha hm hk) e = first asks k (λ x. hk x tt) n
 
-  trapped-write-first : (b : Bool) {m m′ : M Written} → TrappedWrite c (c .allowance) (reader-relation c) b ask m m′ → b ≡ false → ReadsAs r m n
+  trapped-write-first : (b : Bool) {m m′ : M Written} → TrappedWrite (reader-relation c) b Any ask m m′ → b ≡ false → ReadsAs r m n
   unfolding if_then_else_
   trapped-write-first true t e = absurd (false≢true (sym e))
-  trapped-write-first false (related.TrappedWrite.trapped {k = k} hm hk) e = first asks k hk n
+  trapped-write-first false (walk.TrappedWrite.trapped {k = k} ha hm hk) e = first asks k (λ x. hk x tt) n
 
 -- The table
 
@@ -210,17 +210,17 @@ module _ (c : Context) (n calls o : ℕ) where
   pub table-holds : TableHolds c n calls o
   unfolding methods
   table-holds = let h = methods-reader n c in let c′ = allowing c (c .allowance) in let R = reader-relation c in record {
-    getPrototypeOf = λ t. of-trap _ _ t (λ p i. trapped-first (record { asked = prototype-asked }) calls _ (getPrototypeOf-proxy c (c .allowance) R call (methods n c′) h p) (no-forward p 0 i));
-    setPrototypeOf = λ t v. of-trap _ _ t (λ p i. trapped-write-first asks-boolean calls _ (setPrototypeOf-proxy c (c .allowance) R call (methods n c′) h p v) (no-forward p 1 i));
-    isExtensible = λ t. of-trap _ _ t (λ p i. trapped-first asks-boolean calls _ (isExtensible-proxy c (c .allowance) R call (methods n c′) h p) (no-forward p 2 i));
-    preventExtensions = λ t. of-trap _ _ t (λ p i. trapped-write-first asks-boolean calls _ (preventExtensions-proxy c (c .allowance) R call (methods n c′) h p) (no-forward p 3 i));
-    getOwnProperty = λ t k. of-trap _ _ t (λ p i. trapped-first (record { asked = descriptor-asked }) calls _ (getOwnProperty-proxy c (c .allowance) R call (methods n c′) h p k) (no-forward p 4 i));
-    defineOwnProperty = λ t k d. of-trap _ _ t (λ p i. trapped-write-first asks-boolean calls _ (defineOwnProperty-proxy c (c .allowance) R call (methods n c′) h p k d) (no-forward p 5 i));
-    hasProperty = λ t k. of-trap _ _ t (λ p i. trapped-first asks-boolean calls _ (hasProperty-proxy c (c .allowance) R call (methods n c′) h p k) (no-forward p 6 i));
-    get = λ t k receiver. of-trap _ _ t (λ p i. trapped-first asks-value calls _ (get-proxy c (c .allowance) R call (methods n c′) h p k receiver) (no-forward p 7 i));
-    set = λ t k v receiver. of-trap _ _ t (λ p i. trapped-write-first asks-boolean calls _ (set-proxy c (c .allowance) R call (methods n c′) h p k v receiver) (no-forward p 8 i));
-    delete = λ t k. of-trap _ _ t (λ p i. trapped-write-first asks-boolean calls _ (delete-proxy c (c .allowance) R call (methods n c′) h p k) (no-forward p 9 i));
-    ownPropertyKeys = λ t. of-trap _ _ t (λ p i. trapped-first (record { asked = keys-asked }) calls _ (ownPropertyKeys-proxy c (c .allowance) R call (methods n c′) h p) (no-forward p 10 i));
+    getPrototypeOf = λ t. of-trap _ _ t (λ p i. trapped-first (record { asked = prototype-asked }) calls _ (getPrototypeOf-proxy R call (methods n c′) h p tt) (no-forward p 0 i));
+    setPrototypeOf = λ t v. of-trap _ _ t (λ p i. trapped-write-first asks-boolean calls _ (setPrototypeOf-proxy R call (methods n c′) h p tt v tt) (no-forward p 1 i));
+    isExtensible = λ t. of-trap _ _ t (λ p i. trapped-first asks-boolean calls _ (isExtensible-proxy R call (methods n c′) h p tt) (no-forward p 2 i));
+    preventExtensions = λ t. of-trap _ _ t (λ p i. trapped-write-first asks-boolean calls _ (preventExtensions-proxy R call (methods n c′) h p tt) (no-forward p 3 i));
+    getOwnProperty = λ t k. of-trap _ _ t (λ p i. trapped-first (record { asked = descriptor-asked }) calls _ (getOwnProperty-proxy R call (methods n c′) h p tt k) (no-forward p 4 i));
+    defineOwnProperty = λ t k d. of-trap _ _ t (λ p i. trapped-write-first asks-boolean calls _ (defineOwnProperty-proxy R call (methods n c′) h p tt k d) (no-forward p 5 i));
+    hasProperty = λ t k. of-trap _ _ t (λ p i. trapped-first asks-boolean calls _ (hasProperty-proxy R call (methods n c′) h p tt k) (no-forward p 6 i));
+    get = λ t k receiver. of-trap _ _ t (λ p i. trapped-first asks-value calls _ (get-proxy R call (methods n c′) h p tt k receiver) (no-forward p 7 i));
+    set = λ t k v receiver. of-trap _ _ t (λ p i. trapped-write-first asks-boolean calls _ (set-proxy R call (methods n c′) h p tt k v receiver tt) (no-forward p 8 i));
+    delete = λ t k. of-trap _ _ t (λ p i. trapped-write-first asks-boolean calls _ (delete-proxy R call (methods n c′) h p tt k) (no-forward p 9 i));
+    ownPropertyKeys = λ t. of-trap _ _ t (λ p i. trapped-first (record { asked = keys-asked }) calls _ (ownPropertyKeys-proxy R call (methods n c′) h p tt) (no-forward p 10 i));
     getter = λ k g s receiver t u. same-run (λ a. accessor-got k g s t a receiver u) alone;
     setter = λ k g s v receiver t u. same-run (λ a. accessor-set k g s t a v receiver u) (first asks-value _ (λ _. reader-pure _) calls);
   }
