@@ -102,13 +102,13 @@ module _ {c : Context} {n : ℕ} {A B : Type 0} {P : A → Type 0} {Q : B → Ty
   unfolding _>>=_
   steady-bind hm hk = record { runs = λ s le ms. next-steady hk le (hm .runs s le ms) }
 
-module _ {c : Context} {n : ℕ} {A : Type 0} {P : A → Type 0} where
-  -- of the result nothing need be known
-  pub steady-any : {m m′ : M A} → Steady c n m m′ P → Steady c n m m′ (λ _. Unit {0})
-  steady-any h = record { runs = λ s le ms. go (h .runs s le ms) }
+module _ {c : Context} {n : ℕ} {A : Type 0} {P Q : A → Type 0} where
+  -- of the result less may be known
+  pub steady-weaken : {m m′ : M A} → ((a : A) → P a → Q a) → Steady c n m m′ P → Steady c n m m′ Q
+  steady-weaken f h = record { runs = λ s le ms. go (h .runs s le ms) }
     where
-      go : {s : State} {o p : Out A} → Agree c s P o p → Agree c s (λ _. Unit {0}) o p
-      go (done q le ms) = done tt le ms
+      go : {s : State} {o p : Out A} → Agree c s P o p → Agree c s Q o p
+      go (done {a} q le ms) = done (f a q) le ms
       go (failed m) = failed m
 
 module _ {c : Context} {n : ℕ} {A : Type 0} {Q : A → Type 0} where
@@ -207,17 +207,18 @@ applyValidation-steady c n closed o k current Unchanged = steady-pure _ (kept-sa
 applyValidation-steady c n closed o k Absent (Becomes p) = steady-room c n (isFull c) refl _ (kept-with (c .store) o k p closed)
 applyValidation-steady c n closed o k (Present q) (Becomes p) = steady-pure _ (kept-with (c .store) o k p closed)
 
-abbrev pub steady-relation : (c : Context) (n : ℕ) → Closed (c .store) → Relation c (c .allowance) (Made (c .store)) (MadeValue (c .store))
+abbrev pub steady-relation : (c : Context) (n : ℕ) → Closed (c .store) → Relation c (c .allowance) (Made (c .store)) (MadeValue (c .store)) (λ _ _. Any)
 steady-relation c n closed = record {
   reads = λ Q m m′. Steady c n m m′ Q;
   writes = λ m m′. Steady c n m m′ (KeptBy c);
-  any = steady-any;
+  weaken = steady-weaken;
   gives = steady-pure;
   throws = steady-error;
   binds = λ h k. steady-bind h (λ a _. k a);
   binds-value = steady-bind;
   writes-binds = λ h k. steady-bind h (λ a _. k a);
   writes-binds-value = steady-bind;
+  writes-binds-own = steady-bind;
   asks-value = askValue-by (steady-asking c n);
   asks-prototype = askPrototype-by (steady-asking c n);
   asks-descriptor = askDescriptor-by (steady-asking c n);
@@ -225,18 +226,20 @@ steady-relation c n closed = record {
   idle = λ b. steady-pure _ (kept-same (c .store) closed);
   puts = λ o r m. steady-pure _ (kept-put (c .store) o (Ordinary r) closed m);
   removes = λ o k. steady-pure _ (kept-without (c .store) o k closed);
-  applies = λ o k current v. applyValidation-steady c n closed o k current v;
+  applies = λ o r e k current _ v. applyValidation-steady c n closed o k current v;
   object = λ v m. m .made;
   prototype = closed .ordinary;
   target = closed .proxy;
+  own-found = λ o r e k. tt;
+  own-answered = λ o p e k x. tt;
 }
 
 abbrev pub SteadyMethods : Context → ℕ → Methods → Methods → Type 0
-SteadyMethods c n call call′ = MethodsBy (λ A Q m m′. Steady c n m m′ Q) (λ m m′. Steady c n m m′ (KeptBy c)) (Made (c .store)) (MadeValue (c .store)) call call′
+SteadyMethods c n call call′ = MethodsBy (λ A Q m m′. Steady c n m m′ Q) (λ m m′. Steady c n m m′ (KeptBy c)) (Made (c .store)) (MadeValue (c .store)) (λ _ _. Any) call call′
 
 -- with no call left each method is refused, whatever the fuel
 abbrev StopsMethods : Methods → Type 0
-StopsMethods call = MethodsBy (λ A Q m m′. Stops m) (λ m m′. Stops m) Any Any call call
+StopsMethods call = MethodsBy (λ A Q m m′. Stops m) (λ m m′. Stops m) Any Any (λ _ _. Any) call call
 
 methods-stop : (n : ℕ) (c : Context) → StopsMethods (methods n c)
 unfolding methods

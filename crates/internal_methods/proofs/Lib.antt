@@ -11,6 +11,7 @@ pub mod Walk
 pub mod Longer
 pub mod Reader
 pub mod TableHolds
+pub mod Room
 pub mod StoreClosed
 pub mod Budget
 pub mod Chain

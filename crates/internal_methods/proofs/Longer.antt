@@ -179,17 +179,18 @@ applyValidation-longer c o k current Unchanged = longer-pure _
 applyValidation-longer c o k Absent (Becomes p) = longer-if _ (longer-fails _) (longer-pure _)
 applyValidation-longer c o k (Present q) (Becomes p) = longer-pure _
 
-abbrev pub longer-relation : (c : Context) → Relation c (c .allowance) Any Any
+abbrev pub longer-relation : (c : Context) → Relation c (c .allowance) Any Any (λ _ _. Any)
 longer-relation c = record {
   reads = λ Q m m′. Longer m;
   writes = λ m m′. Longer m;
-  any = λ h. h;
+  weaken = λ f h. h;
   gives = λ a _. longer-pure a;
   throws = λ i _. longer-fails _;
   binds = λ h k. longer-bind h k;
   binds-value = λ h k. longer-bind h (λ v. k v tt);
   writes-binds = λ h k. longer-bind h k;
   writes-binds-value = λ h k. longer-bind h (λ v. k v tt);
+  writes-binds-own = λ h k. longer-bind h (λ x. k x tt);
   asks-value = askValue-by longer-asking;
   asks-prototype = askPrototype-by longer-asking;
   asks-descriptor = askDescriptor-by longer-asking;
@@ -197,10 +198,12 @@ longer-relation c = record {
   idle = λ b. longer-pure _;
   puts = λ o r _. longer-pure _;
   removes = λ o k. longer-pure _;
-  applies = λ o k current v. applyValidation-longer c o k current v;
+  applies = λ o r e k current _ v. applyValidation-longer c o k current v;
   object = λ v _ q _. tt;
   prototype = λ o r _. tt;
   target = λ o p _. tt;
+  own-found = λ o r e k. tt;
+  own-answered = λ o p e k x. tt;
 }
 
 pub methods-longer : (n : ℕ) (c : Context) → RelatedMethods (longer-relation c) (methods n c) (methods n (allowing c (c .allowance)))

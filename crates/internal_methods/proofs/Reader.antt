@@ -194,17 +194,18 @@ applyValidation-reader c o k current Unchanged = reader-pure _
 applyValidation-reader c o k Absent (Becomes p) = reader-if _ (reader-fails _ refl) (reader-pure _)
 applyValidation-reader c o k (Present q) (Becomes p) = reader-pure _
 
-abbrev pub reader-relation : (c : Context) → Relation c (c .allowance) Any Any
+abbrev pub reader-relation : (c : Context) → Relation c (c .allowance) Any Any (λ _ _. Any)
 reader-relation c = record {
   reads = λ Q m m′. Reader m;
   writes = λ m m′. Reader m;
-  any = λ h. h;
+  weaken = λ f h. h;
   gives = λ a _. reader-pure a;
   throws = λ i _. reader-fails _ refl;
   binds = λ h k. reader-bind h k;
   binds-value = λ h k. reader-bind h (λ v. k v tt);
   writes-binds = λ h k. reader-bind h k;
   writes-binds-value = λ h k. reader-bind h (λ v. k v tt);
+  writes-binds-own = λ h k. reader-bind h (λ x. k x tt);
   asks-value = askValue-reader;
   asks-prototype = askPrototype-reader;
   asks-descriptor = askDescriptor-reader;
@@ -212,10 +213,12 @@ reader-relation c = record {
   idle = λ b. reader-pure _;
   puts = λ o r _. reader-pure _;
   removes = λ o k. reader-pure _;
-  applies = λ o k current v. applyValidation-reader c o k current v;
+  applies = λ o r e k current _ v. applyValidation-reader c o k current v;
   object = λ v _ q _. tt;
   prototype = λ o r _. tt;
   target = λ o p _. tt;
+  own-found = λ o r e k. tt;
+  own-answered = λ o p e k x. tt;
 }
 
 pub methods-reader : (n : ℕ) (c : Context) → RelatedMethods (reader-relation c) (methods n c) (methods n (allowing c (c .allowance)))

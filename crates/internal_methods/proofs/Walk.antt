@@ -20,7 +20,7 @@ use Rattle.text.specs.Strings.{Strings}
 use Rattle.store.specs.declared.OrdinaryObject.{OrdinaryObject}
 use Rattle.store.specs.declared.ProxyObject.{ProxyObject}
 use Rattle.store.specs.declared.Object.the-variants.{Ordinary, Proxy}
-use Rattle.store.specs.Store.{lookup, put, withoutProperty}
+use Rattle.store.specs.Store.{lookup, put, own, withoutProperty}
 use Rattle.internal_methods.specs.declared.Failure.the-variants.{Refused, TypeError}
 use Rattle.property.specs.declared.DescriptorObject.{DescriptorObject}
 use Rattle.internal_methods.specs.Monad.{Answer, M, pure, fails, _>>=_, _>>_, throwIf, throwAny, ask, if_then_else_, dispatch}
@@ -91,18 +91,20 @@ Any a = Unit {0}
 abbrev pub allowing : Context → ℕ → Context
 allowing c allowance = record { store = c .store; strings = c .strings; allowance = allowance }
 
--- A relation of two computations, the second under another allowance; Obj and Val are what is known of an object that is called, and of a value
-pub record Relation (c : Context) (allowance : ℕ) (Obj : ℕ → Type 0) (Val : Value → Type 0) : Type 1 where
+-- A relation of two computations, the second under another allowance; Obj, Val and Own are what is known of an object that is called, of a value,
+-- and of what [[GetOwnProperty]] tells
+pub record Relation (c : Context) (allowance : ℕ) (Obj : ℕ → Type 0) (Val : Value → Type 0) (Own : ℕ → PropertyKey → OwnProperty → Type 0) : Type 1 where
   -- of computations that read, with what is known of their result, and of those that end in a write
   pub reads : {A : Type 0} → (A → Type 0) → M A → M A → Type 0
   pub writes : M Written → M Written → Type 0
-  pub any : {A : Type 0} {P : A → Type 0} {m m′ : M A} → reads P m m′ → reads Any m m′
+  pub weaken : {A : Type 0} {P Q : A → Type 0} {m m′ : M A} → ((a : A) → P a → Q a) → reads P m m′ → reads Q m m′
   pub gives : {A : Type 0} {Q : A → Type 0} (a : A) → Q a → reads Q (pure a) (pure a)
   pub throws : {A : Type 0} {Q : A → Type 0} (i : ℕ) → Message i → reads Q (fails (TypeError i)) (fails (TypeError i))
   pub binds : {A B : Type 0} {Q : B → Type 0} {m m′ : M A} {k k′ : A → M B} → reads Any m m′ → ((a : A) → reads Q (k a) (k′ a)) → reads Q (m >>= k) (m′ >>= k′)
   pub binds-value : {B : Type 0} {Q : B → Type 0} {m m′ : M Value} {k k′ : Value → M B} → reads Val m m′ → ((v : Value) → Val v → reads Q (k v) (k′ v)) → reads Q (m >>= k) (m′ >>= k′)
   pub writes-binds : {A : Type 0} {m m′ : M A} {k k′ : A → M Written} → reads Any m m′ → ((a : A) → writes (k a) (k′ a)) → writes (m >>= k) (m′ >>= k′)
   pub writes-binds-value : {m m′ : M Value} {k k′ : Value → M Written} → reads Val m m′ → ((v : Value) → Val v → writes (k v) (k′ v)) → writes (m >>= k) (m′ >>= k′)
+  pub writes-binds-own : {o : ℕ} {k : PropertyKey} {m m′ : M OwnProperty} {f f′ : OwnProperty → M Written} → reads (Own o k) m m′ → ((x : OwnProperty) → Own o k x → writes (f x) (f′ x)) → writes (m >>= f) (m′ >>= f′)
   -- what is asked for
   pub asks-value : reads Val askValue askValue
   pub asks-prototype : reads Val askPrototype askPrototype
@@ -112,19 +114,22 @@ pub record Relation (c : Context) (allowance : ℕ) (Obj : ℕ → Type 0) (Val 
   pub idle : (b : Bool) → writes (pure (b, c .store)) (pure (b, c .store))
   pub puts : (o : ℕ) (r : OrdinaryObject) → Val (r .prototype) → writes (pure (true, put (c .store) o (Ordinary r))) (pure (true, put (c .store) o (Ordinary r)))
   pub removes : (o : ℕ) (k : PropertyKey) → writes (pure (true, withoutProperty (c .store) o k)) (pure (true, withoutProperty (c .store) o k))
-  pub applies : (o : ℕ) (k : PropertyKey) (current : OwnProperty) (v : Validation) → writes (applyValidation c o k current v) (applyValidation (allowing c allowance) o k current v)
+  pub applies : (o : ℕ) (r : OrdinaryObject) → lookup (c .store) o ≡ some (Ordinary r) → (k : PropertyKey) (current : OwnProperty) → Own o k current → (v : Validation)
+      → writes (applyValidation c o k current v) (applyValidation (allowing c allowance) o k current v)
   -- what values and objects lead to
   pub object : (v : Value) → Val v → (q : ℕ) → objectOf v ≡ some q → Obj q
   pub prototype : (o : ℕ) (r : OrdinaryObject) → lookup (c .store) o ≡ some (Ordinary r) → Val (r .prototype)
   pub target : (o : ℕ) (p : ProxyObject) → lookup (c .store) o ≡ some (Proxy p) → Obj (p .target)
+  pub own-found : (o : ℕ) (r : OrdinaryObject) → lookup (c .store) o ≡ some (Ordinary r) → (k : PropertyKey) → Own o k (own (c .store) o k)
+  pub own-answered : (o : ℕ) (p : ProxyObject) → lookup (c .store) o ≡ some (Proxy p) → (k : PropertyKey) (x : OwnProperty) → Own o k x
 
 -- a relation of each of the methods
-pub record MethodsBy (reads : (A : Type 0) → (A → Type 0) → M A → M A → Type 0) (writes : M Written → M Written → Type 0) (Obj : ℕ → Type 0) (Val : Value → Type 0) (call call′ : Methods) : Type 0 where
+pub record MethodsBy (reads : (A : Type 0) → (A → Type 0) → M A → M A → Type 0) (writes : M Written → M Written → Type 0) (Obj : ℕ → Type 0) (Val : Value → Type 0) (Own : ℕ → PropertyKey → OwnProperty → Type 0) (call call′ : Methods) : Type 0 where
   pub getPrototypeOf : (o : ℕ) → Obj o → reads Value Val (call .getPrototypeOf o) (call′ .getPrototypeOf o)
   pub setPrototypeOf : (o : ℕ) (v : Value) → Obj o → Val v → writes (call .setPrototypeOf o v) (call′ .setPrototypeOf o v)
   pub isExtensible : (o : ℕ) → Obj o → reads Bool Any (call .isExtensible o) (call′ .isExtensible o)
   pub preventExtensions : (o : ℕ) → Obj o → writes (call .preventExtensions o) (call′ .preventExtensions o)
-  pub getOwnProperty : (o : ℕ) (k : PropertyKey) → Obj o → reads OwnProperty Any (call .getOwnProperty o k) (call′ .getOwnProperty o k)
+  pub getOwnProperty : (o : ℕ) (k : PropertyKey) → Obj o → reads OwnProperty (Own o k) (call .getOwnProperty o k) (call′ .getOwnProperty o k)
   pub defineOwnProperty : (o : ℕ) (k : PropertyKey) (d : PropertyDescriptor) → Obj o → writes (call .defineOwnProperty o k d) (call′ .defineOwnProperty o k d)
   pub hasProperty : (o : ℕ) (k : PropertyKey) → Obj o → reads Bool Any (call .hasProperty o k) (call′ .hasProperty o k)
   pub get : (o : ℕ) (k : PropertyKey) (receiver : Value) → Obj o → reads Value Any (call .get o k receiver) (call′ .get o k receiver)
@@ -132,9 +137,9 @@ pub record MethodsBy (reads : (A : Type 0) → (A → Type 0) → M A → M A �
   pub delete : (o : ℕ) (k : PropertyKey) → Obj o → writes (call .delete o k) (call′ .delete o k)
   pub ownPropertyKeys : (o : ℕ) → Obj o → reads (List PropertyKey) Any (call .ownPropertyKeys o) (call′ .ownPropertyKeys o)
 
-module _ {c : Context} {allowance : ℕ} {Obj : ℕ → Type 0} {Val : Value → Type 0} where
+module _ {c : Context} {allowance : ℕ} {Obj : ℕ → Type 0} {Val : Value → Type 0} {Own : ℕ → PropertyKey → OwnProperty → Type 0} where
   -- the choice by the object's kind, which counts the call: from a relation of the bodies to one of the methods
-  pub record Enters (R S : Relation c allowance Obj Val) : Type 1 where
+  pub record Enters (R S : Relation c allowance Obj Val Own) : Type 1 where
     pub reads : {A : Type 0} {Q : A → Type 0} {f f′ : OrdinaryObject → M A} {g g′ : ProxyObject → M A} (o : ℕ) → Obj o
         → ((r : OrdinaryObject) → lookup (c .store) o ≡ some (Ordinary r) → R .reads Q (f r) (f′ r))
         → ((p : ProxyObject) → lookup (c .store) o ≡ some (Proxy p) → R .reads Q (g p) (g′ p))
@@ -145,12 +150,12 @@ module _ {c : Context} {allowance : ℕ} {Obj : ℕ → Type 0} {Val : Value →
         → S .writes (dispatch (c .store) o f g) (dispatch (c .store) o f′ g′)
 
   -- methods that may go no deeper
-  pub record Stops (R : Relation c allowance Obj Val) : Type 1 where
+  pub record Stops (R : Relation c allowance Obj Val Own) : Type 1 where
     pub reads : {A : Type 0} {Q : A → Type 0} → R .reads Q (fails {A = A} (Refused 10)) (fails (Refused 10))
     pub writes : R .writes (fails (Refused 10)) (fails (Refused 10))
 
-  abbrev pub RelatedMethods : Relation c allowance Obj Val → Methods → Methods → Type 0
-  RelatedMethods R call call′ = MethodsBy (λ A Q m m′. R .reads Q m m′) (R .writes) Obj Val call call′
+  abbrev pub RelatedMethods : Relation c allowance Obj Val Own → Methods → Methods → Type 0
+  RelatedMethods R call call′ = MethodsBy (λ A Q m m′. R .reads Q m m′) (R .writes) Obj Val Own call call′
 
 -- What follows from asking and from refusal 9 -----------------------------------------------
 
@@ -252,7 +257,7 @@ module _ {Val : Value → Type 0} (J : Asking Val) where
 
 -- The methods -----------------------------------------------------------------------------
 
-module _ {c : Context} {allowance : ℕ} {Obj : ℕ → Type 0} {Val : Value → Type 0} (R : Relation c allowance Obj Val) where
+module _ {c : Context} {allowance : ℕ} {Obj : ℕ → Type 0} {Val : Value → Type 0} {Own : ℕ → PropertyKey → OwnProperty → Type 0} (R : Relation c allowance Obj Val Own) where
   abbrev c′ : Context
   c′ = allowing c allowance
 
@@ -345,19 +350,22 @@ module _ {c : Context} {allowance : ℕ} {Obj : ℕ → Type 0} {Val : Value →
   by-trap-write {b} (trapped ha hm hk) = writes-if b hm (R .writes-binds ha (λ x. hk x tt))
 
   module _ (call call′ : Methods) (h : RelatedMethods R call call′) where
-    defineOwnProperty-ordinary : (o : ℕ) (k : PropertyKey) (d : PropertyDescriptor) → Obj o
+    own-of : (o : ℕ) (k : PropertyKey) → Obj o → R .reads Any (call .getOwnProperty o k) (call′ .getOwnProperty o k)
+    own-of o k m = R .weaken (λ _ _. tt) (h .getOwnProperty o k m)
+
+    defineOwnProperty-ordinary : (o : ℕ) (k : PropertyKey) (d : PropertyDescriptor) → Obj o → (r : OrdinaryObject) → lookup (c .store) o ≡ some (Ordinary r)
         → R .writes (ordinaryDefineOwnProperty c call o k d) (ordinaryDefineOwnProperty c′ call′ o k d)
     unfolding ordinaryDefineOwnProperty
-    defineOwnProperty-ordinary o k d m =
-        R .writes-binds (h .getOwnProperty o k m) λ current.
+    defineOwnProperty-ordinary o k d m r e =
+        R .writes-binds-own (h .getOwnProperty o k m) λ current found.
         R .writes-binds (h .isExtensible o m) λ extensible.
-        R .applies o k current _
+        R .applies o r e k current found _
 
     hasProperty-ordinary : (o : ℕ) (k : PropertyKey) → Obj o
         → R .reads Any (ordinaryHasProperty call o k) (ordinaryHasProperty call′ o k)
     unfolding ordinaryHasProperty
     hasProperty-ordinary o k m =
-        R .binds (h .getOwnProperty o k m) (elim [
+        R .binds (own-of o k m) (elim [
           | Present p ↦ R .gives _ tt
           | Absent ↦
               R .binds-value (h .getPrototypeOf o m) λ parent mp.
@@ -368,19 +376,19 @@ module _ {c : Context} {allowance : ℕ} {Obj : ℕ → Type 0} {Val : Value →
         → R .reads Any (ordinaryGet call o k receiver) (ordinaryGet call′ o k receiver)
     unfolding ordinaryGet
     get-ordinary o k receiver m =
-        R .binds (h .getOwnProperty o k m) (elim [
+        R .binds (own-of o k m) (elim [
           | Absent ↦
               R .binds-value (h .getPrototypeOf o m) λ parent mp.
               reads-object parent mp (R .gives _ tt) λ q mq. h .get q k receiver mq
           | Present (Data v w e f) ↦ R .gives _ tt
-          | Present (Accessor g s e f) ↦ reads-if _ (R .gives _ tt) (R .any (R .asks-value))
+          | Present (Accessor g s e f) ↦ reads-if _ (R .gives _ tt) (R .weaken (λ _ _. tt) (R .asks-value))
         ])
 
     setOnReceiver-by : (k : PropertyKey) (v : Value) (receiver : ℕ) → Obj receiver
         → R .writes (setOnReceiver c call k v receiver) (setOnReceiver c′ call′ k v receiver)
     unfolding setOnReceiver
     setOnReceiver-by k v receiver m =
-        R .writes-binds (h .getOwnProperty receiver k m) (elim [
+        R .writes-binds (own-of receiver k m) (elim [
           | Present (Accessor g s e f) ↦ R .idle _
           | Present (Data w wr e f) ↦ writes-if _ (R .idle _) (h .defineOwnProperty receiver k _ m)
           | Absent ↦ h .defineOwnProperty receiver k _ m
@@ -397,7 +405,7 @@ module _ {c : Context} {allowance : ℕ} {Obj : ℕ → Type 0} {Val : Value →
         → R .writes (ordinarySet c call o k v receiver) (ordinarySet c′ call′ o k v receiver)
     unfolding ordinarySet
     set-ordinary o k v receiver m mr =
-        R .writes-binds (h .getOwnProperty o k m) (elim [
+        R .writes-binds (own-of o k m) (elim [
           | Absent ↦
               R .writes-binds-value (h .getPrototypeOf o m) λ parent mp.
               writes-object parent mp (setData-by k v true receiver mr) λ q mq. h .set q k v receiver mq mr
@@ -411,7 +419,7 @@ module _ {c : Context} {allowance : ℕ} {Obj : ℕ → Type 0} {Val : Value →
         → R .writes (ordinaryDelete c call o k) (ordinaryDelete c′ call′ o k)
     unfolding ordinaryDelete
     delete-ordinary o k m =
-        R .writes-binds (h .getOwnProperty o k m) (elim [
+        R .writes-binds (own-of o k m) (elim [
           | Absent ↦ R .idle _
           | Present p ↦ writes-if _ (R .removes o k) (R .idle _)
         ])
@@ -462,9 +470,9 @@ module _ {c : Context} {allowance : ℕ} {Obj : ℕ → Type 0} {Val : Value →
       pub getOwnProperty-proxy : (k : PropertyKey) → Trapped (not (hasTrap p 4)) Any Any askDescriptor (proxyGetOwnProperty call p k) (proxyGetOwnProperty call′ p k)
       unfolding proxyGetOwnProperty
       getOwnProperty-proxy k =
-          trap (R .asks-descriptor) (h .getOwnProperty (p .target) k m)
+          trap (R .asks-descriptor) (own-of (p .target) k m)
           (λ trapResultObj _.
-          R .binds (h .getOwnProperty (p .target) k m) λ targetDesc.
+          R .binds (own-of (p .target) k m) λ targetDesc.
           elim trapResultObj [
             | none ↦ elim targetDesc [
               | Absent ↦ R .gives _ tt
@@ -491,7 +499,7 @@ module _ {c : Context} {allowance : ℕ} {Obj : ℕ → Type 0} {Val : Value →
           trap-write asks-boolean (h .defineOwnProperty (p .target) k d m)
           (λ booleanTrapResult _.
           writes-if _ (R .idle _)
-          (R .writes-binds (h .getOwnProperty (p .target) k m) λ targetDesc.
+          (R .writes-binds (own-of (p .target) k m) λ targetDesc.
           R .writes-binds (h .isExtensible (p .target) m) λ extensibleTarget.
           elim targetDesc [
             | Absent ↦
@@ -511,7 +519,7 @@ module _ {c : Context} {allowance : ℕ} {Obj : ℕ → Type 0} {Val : Value →
           trap asks-boolean (h .hasProperty (p .target) k m)
           (λ booleanTrapResult _.
           reads-if _ (R .gives _ tt)
-          (R .binds (h .getOwnProperty (p .target) k m) (elim [
+          (R .binds (own-of (p .target) k m) (elim [
             | Absent ↦ R .gives _ tt
             | Present target ↦
                 R .binds (throws-if _ _ tt) λ _.
@@ -525,7 +533,7 @@ module _ {c : Context} {allowance : ℕ} {Obj : ℕ → Type 0} {Val : Value →
       get-proxy k receiver =
           trap (R .asks-value) (h .get (p .target) k receiver m)
           (λ trapResult _.
-          R .binds (h .getOwnProperty (p .target) k m) λ targetDesc.
+          R .binds (own-of (p .target) k m) λ targetDesc.
           R .binds (throws-if _ _ tt) λ _.
           R .binds (throws-if _ _ tt) λ _.
           R .gives _ tt)
@@ -536,7 +544,7 @@ module _ {c : Context} {allowance : ℕ} {Obj : ℕ → Type 0} {Val : Value →
           trap-write asks-boolean (h .set (p .target) k v receiver m mr)
           (λ booleanTrapResult _.
           writes-if _ (R .idle _)
-          (R .writes-binds (h .getOwnProperty (p .target) k m) λ targetDesc.
+          (R .writes-binds (own-of (p .target) k m) λ targetDesc.
           R .writes-binds (throws-if _ _ tt) λ _.
           R .writes-binds (throws-if _ _ tt) λ _.
           R .idle _))
@@ -547,7 +555,7 @@ module _ {c : Context} {allowance : ℕ} {Obj : ℕ → Type 0} {Val : Value →
           trap-write asks-boolean (h .delete (p .target) k m)
           (λ booleanTrapResult _.
           writes-if _ (R .idle _)
-          (R .writes-binds (h .getOwnProperty (p .target) k m) (elim [
+          (R .writes-binds (own-of (p .target) k m) (elim [
             | Absent ↦ R .idle _
             | Present target ↦
                 R .writes-binds (throws-if _ _ tt) λ _.
@@ -564,18 +572,18 @@ module _ {c : Context} {allowance : ℕ} {Obj : ℕ → Type 0} {Val : Value →
           R .binds (throws-any _ (duplicate-messages [] trapResult)) λ _.
           R .binds (h .isExtensible (p .target) m) λ extensibleTarget.
           R .binds (h .ownPropertyKeys (p .target) m) λ targetKeys.
-          R .binds (sorted-by (λ k. h .getOwnProperty (p .target) k m) targetKeys) λ target.
+          R .binds (sorted-by (λ k. own-of (p .target) k m) targetKeys) λ target.
           R .binds (throws-any _ (rejected-messages extensibleTarget target trapResult)) λ _.
           R .gives _ tt)
 
-    pub level-by : (S : Relation c allowance Obj Val) → Enters R S → RelatedMethods S (level c call) (level c′ call′)
+    pub level-by : (S : Relation c allowance Obj Val Own) → Enters R S → RelatedMethods S (level c call) (level c′ call′)
     level-by S into = record {
       getPrototypeOf = λ o m. into .reads o m (λ r e. R .gives _ (R .prototype o r e)) (λ p e. by-trap-value (getPrototypeOf-proxy p (R .target o p e)));
       setPrototypeOf = λ o v m mv. into .writes o m (λ r e. setPrototypeOf-ordinary o r v mv) (λ p e. by-trap-write (setPrototypeOf-proxy p (R .target o p e) v mv));
       isExtensible = λ o m. into .reads o m (λ r e. R .gives _ tt) (λ p e. by-trap (isExtensible-proxy p (R .target o p e)));
       preventExtensions = λ o m. into .writes o m (λ r e. R .puts o _ (R .prototype o r e)) (λ p e. by-trap-write (preventExtensions-proxy p (R .target o p e)));
-      getOwnProperty = λ o k m. into .reads o m (λ r e. R .gives _ tt) (λ p e. by-trap (getOwnProperty-proxy p (R .target o p e) k));
-      defineOwnProperty = λ o k d m. into .writes o m (λ r e. defineOwnProperty-ordinary o k d m) (λ p e. by-trap-write (defineOwnProperty-proxy p (R .target o p e) k d));
+      getOwnProperty = λ o k m. into .reads o m (λ r e. R .gives _ (R .own-found o r e k)) (λ p e. R .weaken (λ x _. R .own-answered o p e k x) (by-trap (getOwnProperty-proxy p (R .target o p e) k)));
+      defineOwnProperty = λ o k d m. into .writes o m (λ r e. defineOwnProperty-ordinary o k d m r e) (λ p e. by-trap-write (defineOwnProperty-proxy p (R .target o p e) k d));
       hasProperty = λ o k m. into .reads o m (λ r e. hasProperty-ordinary o k m) (λ p e. by-trap (hasProperty-proxy p (R .target o p e) k));
       get = λ o k receiver m. into .reads o m (λ r e. get-ordinary o k receiver m) (λ p e. by-trap-value (get-proxy p (R .target o p e) k receiver));
       set = λ o k v receiver m mr. into .writes o m (λ r e. set-ordinary o k v receiver m mr) (λ p e. by-trap-write (set-proxy p (R .target o p e) k v receiver mr));
