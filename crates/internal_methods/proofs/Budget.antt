@@ -294,7 +294,7 @@ steady-above (suc n) (suc m) zero i i′ c closed = absurd (not-suc-le-zero i′
 steady-above (suc n) (suc m) (suc m′) i i′ c closed =
     level-by (steady-relation c n closed) (methods m c) (methods m′ c)
     (steady-above n m m′ (le-of-suc-le-suc i) (le-of-suc-le-suc i′) c closed)
-    (steady-relation c (suc n) closed) (record { reads = steady-dispatch; writes = steady-dispatch })
+    _ _ (record { reading = steady-dispatch; writing = steady-dispatch })
 
 -- one more changes nothing
 pub steady : (n : ℕ) (c : Context) → Closed (c .store) → SteadyMethods c n (methods n c) (methods (suc n) c)

@@ -209,7 +209,7 @@ longer-relation c = record {
 pub methods-longer : (n : ℕ) (c : Context) → RelatedMethods (longer-relation c) (methods n c) (methods n (allowing c (c .allowance)))
 methods-longer n c = methods-by (longer-relation c)
     (record { reads = longer-fails _; writes = longer-fails _ })
-    (record { reads = λ o _ f g. longer-dispatch (c .store) o f g; writes = λ o _ f g. longer-dispatch (c .store) o f g }) n
+    (record { reading = λ o _ f g. longer-dispatch (c .store) o f g; writing = λ o _ f g. longer-dispatch (c .store) o f g }) n
 
 -- The consequence
 

@@ -224,4 +224,4 @@ reader-relation c = record {
 pub methods-reader : (n : ℕ) (c : Context) → RelatedMethods (reader-relation c) (methods n c) (methods n (allowing c (c .allowance)))
 methods-reader n c = methods-by (reader-relation c)
     (record { reads = reader-fails _ refl; writes = reader-fails _ refl })
-    (record { reads = λ o _ f g. reader-dispatch (c .store) o f g; writes = λ o _ f g. reader-dispatch (c .store) o f g }) n
+    (record { reading = λ o _ f g. reader-dispatch (c .store) o f g; writing = λ o _ f g. reader-dispatch (c .store) o f g }) n

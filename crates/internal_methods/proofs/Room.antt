@@ -218,4 +218,4 @@ pub methods-roomy : (n : ℕ) (c : Context) → RelatedMethods (room-relation c)
 unfolding fails
 methods-roomy n c = methods-by (room-relation c)
     (record { reads = same-fails _ refl; writes = record { rooms = λ s. failed refl } })
-    (record { reads = λ o _ f g. same-dispatch (c .store) o f g; writes = λ o _ f g. roomy-dispatch (c .store) o f g }) n
+    (record { reading = λ o _ f g. same-dispatch (c .store) o f g; writing = λ o _ f g. roomy-dispatch (c .store) o f g }) n

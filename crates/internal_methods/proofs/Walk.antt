@@ -138,16 +138,16 @@ pub record MethodsBy (reads : (A : Type 0) → (A → Type 0) → M A → M A �
   pub ownPropertyKeys : (o : ℕ) → Obj o → reads (List PropertyKey) Any (call .ownPropertyKeys o) (call′ .ownPropertyKeys o)
 
 module _ {c : Context} {allowance : ℕ} {Obj : ℕ → Type 0} {Val : Value → Type 0} {Own : ℕ → PropertyKey → OwnProperty → Type 0} where
-  -- the choice by the object's kind, which counts the call: from a relation of the bodies to one of the methods
-  pub record Enters (R S : Relation c allowance Obj Val Own) : Type 1 where
-    pub reads : {A : Type 0} {Q : A → Type 0} {f f′ : OrdinaryObject → M A} {g g′ : ProxyObject → M A} (o : ℕ) → Obj o
+  -- the choice by the object's kind, which counts the call: from a relation of the bodies to what is said of the methods
+  pub record Enters (R : Relation c allowance Obj Val Own) (reads : (A : Type 0) → (A → Type 0) → M A → M A → Type 0) (writes : M Written → M Written → Type 0) : Type 1 where
+    pub reading : {A : Type 0} {Q : A → Type 0} {f f′ : OrdinaryObject → M A} {g g′ : ProxyObject → M A} (o : ℕ) → Obj o
         → ((r : OrdinaryObject) → lookup (c .store) o ≡ some (Ordinary r) → R .reads Q (f r) (f′ r))
         → ((p : ProxyObject) → lookup (c .store) o ≡ some (Proxy p) → R .reads Q (g p) (g′ p))
-        → S .reads Q (dispatch (c .store) o f g) (dispatch (c .store) o f′ g′)
-    pub writes : {f f′ : OrdinaryObject → M Written} {g g′ : ProxyObject → M Written} (o : ℕ) → Obj o
+        → reads A Q (dispatch (c .store) o f g) (dispatch (c .store) o f′ g′)
+    pub writing : {f f′ : OrdinaryObject → M Written} {g g′ : ProxyObject → M Written} (o : ℕ) → Obj o
         → ((r : OrdinaryObject) → lookup (c .store) o ≡ some (Ordinary r) → R .writes (f r) (f′ r))
         → ((p : ProxyObject) → lookup (c .store) o ≡ some (Proxy p) → R .writes (g p) (g′ p))
-        → S .writes (dispatch (c .store) o f g) (dispatch (c .store) o f′ g′)
+        → writes (dispatch (c .store) o f g) (dispatch (c .store) o f′ g′)
 
   -- methods that may go no deeper
   pub record Stops (R : Relation c allowance Obj Val Own) : Type 1 where
@@ -576,23 +576,24 @@ module _ {c : Context} {allowance : ℕ} {Obj : ℕ → Type 0} {Val : Value →
           R .binds (throws-any _ (rejected-messages extensibleTarget target trapResult)) λ _.
           R .gives _ tt)
 
-    pub level-by : (S : Relation c allowance Obj Val Own) → Enters R S → RelatedMethods S (level c call) (level c′ call′)
-    level-by S into = record {
-      getPrototypeOf = λ o m. into .reads o m (λ r e. R .gives _ (R .prototype o r e)) (λ p e. by-trap-value (getPrototypeOf-proxy p (R .target o p e)));
-      setPrototypeOf = λ o v m mv. into .writes o m (λ r e. setPrototypeOf-ordinary o r v mv) (λ p e. by-trap-write (setPrototypeOf-proxy p (R .target o p e) v mv));
-      isExtensible = λ o m. into .reads o m (λ r e. R .gives _ tt) (λ p e. by-trap (isExtensible-proxy p (R .target o p e)));
-      preventExtensions = λ o m. into .writes o m (λ r e. R .puts o _ (R .prototype o r e)) (λ p e. by-trap-write (preventExtensions-proxy p (R .target o p e)));
-      getOwnProperty = λ o k m. into .reads o m (λ r e. R .gives _ (R .own-found o r e k)) (λ p e. R .weaken (λ x _. R .own-answered o p e k x) (by-trap (getOwnProperty-proxy p (R .target o p e) k)));
-      defineOwnProperty = λ o k d m. into .writes o m (λ r e. defineOwnProperty-ordinary o k d m r e) (λ p e. by-trap-write (defineOwnProperty-proxy p (R .target o p e) k d));
-      hasProperty = λ o k m. into .reads o m (λ r e. hasProperty-ordinary o k m) (λ p e. by-trap (hasProperty-proxy p (R .target o p e) k));
-      get = λ o k receiver m. into .reads o m (λ r e. get-ordinary o k receiver m) (λ p e. by-trap-value (get-proxy p (R .target o p e) k receiver));
-      set = λ o k v receiver m mr. into .writes o m (λ r e. set-ordinary o k v receiver m mr) (λ p e. by-trap-write (set-proxy p (R .target o p e) k v receiver mr));
-      delete = λ o k m. into .writes o m (λ r e. delete-ordinary o k m) (λ p e. by-trap-write (delete-proxy p (R .target o p e) k));
-      ownPropertyKeys = λ o m. into .reads o m (λ r e. R .gives _ tt) (λ p e. by-trap (ownPropertyKeys-proxy p (R .target o p e)));
+    pub level-by : (reads : (A : Type 0) → (A → Type 0) → M A → M A → Type 0) (writes : M Written → M Written → Type 0) → Enters R reads writes
+        → MethodsBy reads writes Obj Val Own (level c call) (level c′ call′)
+    level-by reads writes into = record {
+      getPrototypeOf = λ o m. into .reading o m (λ r e. R .gives _ (R .prototype o r e)) (λ p e. by-trap-value (getPrototypeOf-proxy p (R .target o p e)));
+      setPrototypeOf = λ o v m mv. into .writing o m (λ r e. setPrototypeOf-ordinary o r v mv) (λ p e. by-trap-write (setPrototypeOf-proxy p (R .target o p e) v mv));
+      isExtensible = λ o m. into .reading o m (λ r e. R .gives _ tt) (λ p e. by-trap (isExtensible-proxy p (R .target o p e)));
+      preventExtensions = λ o m. into .writing o m (λ r e. R .puts o _ (R .prototype o r e)) (λ p e. by-trap-write (preventExtensions-proxy p (R .target o p e)));
+      getOwnProperty = λ o k m. into .reading o m (λ r e. R .gives _ (R .own-found o r e k)) (λ p e. R .weaken (λ x _. R .own-answered o p e k x) (by-trap (getOwnProperty-proxy p (R .target o p e) k)));
+      defineOwnProperty = λ o k d m. into .writing o m (λ r e. defineOwnProperty-ordinary o k d m r e) (λ p e. by-trap-write (defineOwnProperty-proxy p (R .target o p e) k d));
+      hasProperty = λ o k m. into .reading o m (λ r e. hasProperty-ordinary o k m) (λ p e. by-trap (hasProperty-proxy p (R .target o p e) k));
+      get = λ o k receiver m. into .reading o m (λ r e. get-ordinary o k receiver m) (λ p e. by-trap-value (get-proxy p (R .target o p e) k receiver));
+      set = λ o k v receiver m mr. into .writing o m (λ r e. set-ordinary o k v receiver m mr) (λ p e. by-trap-write (set-proxy p (R .target o p e) k v receiver mr));
+      delete = λ o k m. into .writing o m (λ r e. delete-ordinary o k m) (λ p e. by-trap-write (delete-proxy p (R .target o p e) k));
+      ownPropertyKeys = λ o m. into .reading o m (λ r e. R .gives _ tt) (λ p e. by-trap (ownPropertyKeys-proxy p (R .target o p e)));
     }
 
   -- a relation that does not go by the depth
-  pub methods-by : Stops R → Enters R R → (n : ℕ) → RelatedMethods R (methods n c) (methods n c′)
+  pub methods-by : Stops R → Enters R (λ A Q m m′. R .reads Q m m′) (R .writes) → (n : ℕ) → RelatedMethods R (methods n c) (methods n c′)
   unfolding methods
   methods-by stops into zero = record {
     getPrototypeOf = λ o _. stops .reads;
@@ -607,4 +608,4 @@ module _ {c : Context} {allowance : ℕ} {Obj : ℕ → Type 0} {Val : Value →
     delete = λ o k _. stops .writes;
     ownPropertyKeys = λ o _. stops .reads;
   }
-  methods-by stops into (suc n) = level-by (methods n c) (methods n c′) (methods-by stops into n) R into
+  methods-by stops into (suc n) = level-by (methods n c) (methods n c′) (methods-by stops into n) _ _ into
