@@ -12,6 +12,7 @@ pub mod Longer
 pub mod Reader
 pub mod TableHolds
 pub mod Room
+pub mod Richer
 pub mod StoreClosed
 pub mod Budget
 pub mod Chain
