@@ -1,8 +1,9 @@
 -- Refusal 7 of a property: with room for one more the same run is done, and the store has one property more. Assumes nothing.
-use Prim.Native.Nat.{ℕ, zero, suc}
+use Prim.Native.Nat.{ℕ, zero, suc, _≤_, suc-le-suc}
+use native.Mathlib.Nat.{le-refl, le-trans, le-suc}
 use native.Mathlib.Omega.{arith}
 use mathlib.Core.Path.{_≡_, refl, sym, ap, _∙_, subst}
-use mathlib.Core.Bool.{Bool, true, false, not, false≢true}
+use mathlib.Core.Bool.{Bool, true, false, not, cond, false≢true}
 use mathlib.Core.Option.{Option, none, some}
 use mathlib.Core.List.{List, [], _∷_, _++_}
 use lib.Dec.{eqb, ltb}
@@ -18,7 +19,8 @@ use Rattle.store.specs.declared.OrdinaryObject.{OrdinaryObject}
 use Rattle.store.specs.declared.ProxyObject.{ProxyObject}
 use Rattle.store.specs.declared.Object.{Object}
 use Rattle.store.specs.declared.Object.the-variants.{Ordinary, Proxy}
-use Rattle.store.specs.Store.{Store, entry, lookup, own, withProperty}
+use Rattle.store.specs.declared.Entry.{Entry}
+use Rattle.store.specs.Store.{Store, entry, isAt, lookup, put, find, insert, remove, own, withProperty, withoutProperty}
 use Rattle.store.proofs.FindLaws.{absent-appended}
 use Rattle.internal_methods.specs.declared.Failure.{Failure}
 use Rattle.internal_methods.specs.declared.Failure.the-variants.{Refused, TypeError, Thrown}
@@ -46,9 +48,13 @@ data Alike {A : Type 0} (Q : A → Type 0) : Out A → Out A → Type 0 where
 pub record Same {A : Type 0} (Q : A → Type 0) (m m′ : M A) : Type 0 where
   runs : (s : State) → Alike Q (m .run s) (m′ .run s)
 
+-- a full store gets no more properties
+abbrev pub Bounded : Context → Written → Type 0
+Bounded c w = isFull c ≡ true → length (w .1 .properties) ≤ length (c .store .properties)
+
 -- one that writes ends alike, or in refusal 7, and then is done with room
 pub data Room (c : Context) : Out Written → Out Written → Type 0 where
-  done : {w : Written} {t : State} → Room c (Out.done w t) (Out.done w t)
+  done : {w : Written} {t : State} → Bounded c w → Room c (Out.done w t) (Out.done w t)
   failed : {f : Failure} {t : State} → isSeven f ≡ false → Room c (Out.failed f t) (Out.failed f t)
   added : {t : State} {τ : Store} → length (τ .properties) ≡ suc (length (c .store .properties)) → Room c (Out.failed (Refused 7) t) (Out.done (true, τ) t)
 
@@ -94,9 +100,13 @@ module _ {c : Context} {A : Type 0} {P : A → Type 0} where
   unfolding _>>=_
   roomy-bind hm hk = record { rooms = λ s. next-room hk (hm .runs s) }
 
-pub roomy-pure : {c : Context} (w : Written) → Roomy c (pure w) (pure w)
+pub roomy-pure : {c : Context} (w : Written) → Bounded c w → Roomy c (pure w) (pure w)
 unfolding pure
-roomy-pure w = record { rooms = λ s. done }
+roomy-pure w h = record { rooms = λ s. done h }
+
+-- as many properties as before, or fewer
+pub roomy-kept : {c : Context} (w : Written) → length (w .1 .properties) ≤ length (c .store .properties) → Roomy c (pure w) (pure w)
+roomy-kept w h = roomy-pure w (λ _. h)
 
 pub same-ask : Same Any ask ask
 unfolding ask
@@ -150,6 +160,34 @@ grows : (σ : Store) (o : ℕ) (k : PropertyKey) (p : Property) → own σ o k �
 unfolding own withProperty
 grows σ o k p e = ap length (absent-appended (σ .properties) o k p e) ∙ (length-append (σ .properties) (entry o k p ∷ []) ∙ omega arith)
 
+-- a cond whose cases are as long or shorter
+at-most : {A : Type 0} (b : Bool) (l k : List A) (n : ℕ) → (b ≡ true → length l ≤ n) → (b ≡ false → length k ≤ n) → length (cond b l k) ≤ n
+at-most true l k n f g = f refl
+at-most false l k n f g = g refl
+
+replaced : (es : List Entry) (o : ℕ) (k : PropertyKey) (p q : Property) → find es o k ≡ Present q → length (insert es o k p) ≤ length es
+unfolding find insert
+replaced [] o k p q e = absurd (false≢true cc)
+replaced (x ∷ es) o k p q e = at-most (isAt x o k) _ _ _ (λ _. le-refl _)
+    (λ f. suc-le-suc (replaced es o k p q (sym (ap (λ (b : Bool). cond b (Present (x .property)) (find es o k)) f) ∙ e)))
+
+keeps : (σ : Store) (o : ℕ) (k : PropertyKey) (p q : Property) → own σ o k ≡ Present q → length (withProperty σ o k p .properties) ≤ length (σ .properties)
+unfolding own withProperty
+keeps σ o k p q e = replaced (σ .properties) o k p q e
+
+fewer : (es : List Entry) (o : ℕ) (k : PropertyKey) → length (remove es o k) ≤ length es
+unfolding remove
+fewer [] o k = le-refl 0
+fewer (x ∷ es) o k = at-most (isAt x o k) _ _ _ (λ _. le-trans (fewer es o k) (le-suc _)) (λ _. suc-le-suc (fewer es o k))
+
+pub removed : (σ : Store) (o : ℕ) (k : PropertyKey) → length (withoutProperty σ o k .properties) ≤ length (σ .properties)
+unfolding withoutProperty
+removed σ o k = fewer (σ .properties) o k
+
+pub puts-kept : (σ : Store) (o : ℕ) (x : Object) → length (put σ o x .properties) ≤ length (σ .properties)
+unfolding put
+puts-kept σ o x = le-refl _
+
 has-room : (c : Context) → isFull (allowing c (oneMore c)) ≡ false
 has-room c = ap not (lt-ltb (length (c .store .properties)) (oneMore c) (omega arith))
 
@@ -161,19 +199,19 @@ pub not-both : {p : ProxyObject} {r : OrdinaryObject} → some (Proxy p) ≡ som
 not-both e = false≢true cc
 
 -- a write that adds a property, if there is room
-room-if : (c : Context) (b : Bool) (τ : Store) → length (τ .properties) ≡ suc (length (c .store .properties))
+room-if : (c : Context) (b : Bool) → isFull c ≡ b → (τ : Store) → length (τ .properties) ≡ suc (length (c .store .properties))
     → Roomy c (if_then_else_ b (fails (Refused 7)) (pure (true, τ))) (pure (true, τ))
 unfolding if_then_else_ fails pure
-room-if c true τ e = record { rooms = λ s. added e }
-room-if c false τ e = record { rooms = λ s. done }
+room-if c true n τ e = record { rooms = λ s. added e }
+room-if c false n τ e = record { rooms = λ s. done (λ f. absurd (false≢true (sym n ∙ f))) }
 
 pub applyValidation-roomy : (c : Context) (o : ℕ) (r : OrdinaryObject) → lookup (c .store) o ≡ some (Ordinary r) → (k : PropertyKey) (current : OwnProperty) → OwnIn c o k current → (v : Validation)
     → Roomy c (applyValidation c o k current v) (applyValidation (allowing c (oneMore c)) o k current v)
 unfolding applyValidation if_then_else_
-applyValidation-roomy c o r e k current h Rejected = roomy-pure _
-applyValidation-roomy c o r e k current h Unchanged = roomy-pure _
-applyValidation-roomy c o r e k Absent h (Becomes p) = rw (has-room c) (room-if c (isFull c) (withProperty (c .store) o k p) (grows (c .store) o k p (sym (h r e))))
-applyValidation-roomy c o r e k (Present q) h (Becomes p) = roomy-pure _
+applyValidation-roomy c o r e k current h Rejected = roomy-kept _ (le-refl _)
+applyValidation-roomy c o r e k current h Unchanged = roomy-kept _ (le-refl _)
+applyValidation-roomy c o r e k Absent h (Becomes p) = rw (has-room c) (room-if c (isFull c) refl (withProperty (c .store) o k p) (grows (c .store) o k p (sym (h r e))))
+applyValidation-roomy c o r e k (Present q) h (Becomes p) = roomy-kept _ (keeps (c .store) o k p q (sym (h r e)))
 
 -- The methods
 
@@ -203,9 +241,9 @@ room-relation c = record {
   asks-prototype = askPrototype-by same-asking;
   asks-descriptor = askDescriptor-by same-asking;
   asks-keys = askKeys-by same-asking;
-  idle = λ b. roomy-pure _;
-  puts = λ o r _. roomy-pure _;
-  removes = λ o k. roomy-pure _;
+  idle = λ b. roomy-kept _ (le-refl _);
+  puts = λ o r _. roomy-kept _ (puts-kept (c .store) o _);
+  removes = λ o k. roomy-kept _ (removed (c .store) o k);
   applies = applyValidation-roomy c;
   object = λ v _ q _. tt;
   prototype = λ o r _. tt;
