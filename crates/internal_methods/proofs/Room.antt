@@ -41,12 +41,12 @@ isSeven (TypeError n) = false
 isSeven (Thrown v) = false
 
 -- a computation that reads ends alike under both allowances, and not in refusal 7
-data Alike {A : Type 0} (Q : A → Type 0) : Out A → Out A → Type 0 where
+pub data Alike {A : Type 0} (Q : A → Type 0) : Out A → Out A → Type 0 where
   done : {a : A} {t : State} → Q a → Alike Q (Out.done a t) (Out.done a t)
   failed : {f : Failure} {t : State} → isSeven f ≡ false → Alike Q (Out.failed f t) (Out.failed f t)
 
 pub record Same {A : Type 0} (Q : A → Type 0) (m m′ : M A) : Type 0 where
-  runs : (s : State) → Alike Q (m .run s) (m′ .run s)
+  pub runs : (s : State) → Alike Q (m .run s) (m′ .run s)
 
 -- a full store gets no more properties
 abbrev pub Bounded : Context → Written → Type 0
@@ -56,7 +56,7 @@ Bounded c w = isFull c ≡ true → length (w .1 .properties) ≤ length (c .sto
 pub data Room (c : Context) : Out Written → Out Written → Type 0 where
   done : {w : Written} {t : State} → Bounded c w → Room c (Out.done w t) (Out.done w t)
   failed : {f : Failure} {t : State} → isSeven f ≡ false → Room c (Out.failed f t) (Out.failed f t)
-  added : {t : State} {τ : Store} → length (τ .properties) ≡ suc (length (c .store .properties)) → Room c (Out.failed (Refused 7) t) (Out.done (true, τ) t)
+  added : {t : State} {τ : Store} → isFull c ≡ true → length (τ .properties) ≡ suc (length (c .store .properties)) → Room c (Out.failed (Refused 7) t) (Out.done (true, τ) t)
 
 pub record Roomy (c : Context) (m m′ : M Written) : Type 0 where
   pub rooms : (s : State) → Room c (m .run s) (m′ .run s)
@@ -202,7 +202,7 @@ not-both e = false≢true cc
 room-if : (c : Context) (b : Bool) → isFull c ≡ b → (τ : Store) → length (τ .properties) ≡ suc (length (c .store .properties))
     → Roomy c (if_then_else_ b (fails (Refused 7)) (pure (true, τ))) (pure (true, τ))
 unfolding if_then_else_ fails pure
-room-if c true n τ e = record { rooms = λ s. added e }
+room-if c true n τ e = record { rooms = λ s. added n e }
 room-if c false n τ e = record { rooms = λ s. done (λ f. absurd (false≢true (sym n ∙ f))) }
 
 pub applyValidation-roomy : (c : Context) (o : ℕ) (r : OrdinaryObject) → lookup (c .store) o ≡ some (Ordinary r) → (k : PropertyKey) (current : OwnProperty) → OwnIn c o k current → (v : Validation)
