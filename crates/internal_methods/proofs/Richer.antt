@@ -3,9 +3,10 @@ use Prim.Native.Nat.{ℕ, zero, suc, _+_, _≤_, _<_}
 use native.Mathlib.Nat.{le-refl, le-trans, le-suc, le-of-suc-le-suc, not-suc-le-zero}
 use native.Mathlib.Omega.{arith}
 use mathlib.Core.Path.{_≡_, refl, sym, ap, _∙_, subst}
-use mathlib.Core.Bool.{Bool, true, false}
+use mathlib.Core.Bool.{Bool, true, false, false≢true}
 use mathlib.Core.Option.{Option, none, some}
 use mathlib.Core.List.{List, [], _∷_}
+use lib.Dec.{eqb}
 use Rattle.value.specs.declared.Value.{Value}
 use Rattle.value.specs.declared.PropertyKey.{PropertyKey}
 use Rattle.property.specs.declared.PropertyDescriptor.{PropertyDescriptor}
@@ -19,7 +20,7 @@ use Rattle.store.specs.declared.Object.{Object}
 use Rattle.store.specs.declared.Object.the-variants.{Ordinary, Proxy}
 use Rattle.store.specs.Store.{Store, lookup}
 use Rattle.internal_methods.specs.declared.Failure.{Failure}
-use Rattle.internal_methods.specs.declared.Failure.the-variants.{Refused}
+use Rattle.internal_methods.specs.declared.Failure.the-variants.{Refused, TypeError, Thrown}
 use Rattle.internal_methods.specs.Monad.{Answer, State, state, Out, M, pure, fails, next, _>>=_, _>>_, throwIf, answered, ask, counted, tick, if_then_else_, dispatched, dispatch}
 use Rattle.internal_methods.specs.Methods.{Context, Written, Methods}
 use Rattle.internal_methods.specs.Ordinary.{applyValidation}
@@ -36,10 +37,15 @@ callsLeft (Out.done a t) = t .calls
 abbrev pub richer : ℕ → State → State
 richer k s = state (s .answers) (s .calls + k)
 
+abbrev pub isTen : Failure → Bool
+isTen (Refused n) = eqb n 10
+isTen (TypeError n) = false
+isTen (Thrown v) = false
+
 -- how a run ends that began with n calls, and how it ends with k calls more
 pub data Shifted (k n : ℕ) {A : Type 0} : Out A → Out A → Type 0 where
   done : {a : A} {t : State} → t .calls ≤ n → Shifted k n (Out.done a t) (Out.done a (richer k t))
-  failed : {f : Failure} {t : State} → Shifted k n (Out.failed f t) (Out.failed f (richer k t))
+  failed : {f : Failure} {t : State} → (isTen f ≡ true → k ≡ 0) → Shifted k n (Out.failed f t) (Out.failed f (richer k t))
   exhausted : {t : State} {o : Out A} → t .calls ≡ 0 → callsLeft o < k → Shifted k n (Out.failed (Refused 10) t) o
 
 -- no run gives calls back
@@ -99,9 +105,9 @@ module _ {n l : ℕ} {A : Type 0} where
   unfolding pure
   richer-pure a = record { shifted = λ k s i j. done (le-refl _); falls = falls-pure a }
 
-  pub richer-fails : (f : Failure) → Richer n l (fails {A = A} f) (fails f)
+  pub richer-fails : (f : Failure) → isTen f ≡ false → Richer n l (fails {A = A} f) (fails f)
   unfolding fails
-  richer-fails f = record { shifted = λ k s i j. failed; falls = falls-fails f }
+  richer-fails f h = record { shifted = λ k s i j. failed (λ e. absurd (false≢true (sym h ∙ e))); falls = falls-fails f }
 
   pub richer-if : {m k m′ k′ : M A} (b : Bool) → Richer n l m m′ → Richer n l k k′ → Richer n l (if_then_else_ b m k) (if_then_else_ b m′ k′)
   unfolding if_then_else_
@@ -110,14 +116,14 @@ module _ {n l : ℕ} {A : Type 0} where
 
 shifted-before : {k i j : ℕ} {A : Type 0} {o p : Out A} → i ≤ j → Shifted k i o p → Shifted k j o p
 shifted-before h (done q) = done (le-trans q h)
-shifted-before h failed = failed
+shifted-before h (failed e) = failed e
 shifted-before h (exhausted e q) = exhausted e q
 
 module _ {n l : ℕ} {A B : Type 0} {f f′ : A → M B} (hf : (a : A) → Richer n l (f a) (f′ a)) where
   next-shifted : (k i : ℕ) → i ≤ n → i + k ≤ l → {o p : Out A} → Shifted k i o p → Shifted k i (next f o) (next f′ p)
   unfolding next
   next-shifted k i h j (done {a} {t} q) = shifted-before q (hf a .shifted k t (le-trans q h) (omega (arith, q, j)))
-  next-shifted k i h j failed = failed
+  next-shifted k i h j (failed e) = failed e
   next-shifted k i h j (exhausted {o = o} e q) = let less : callsLeft (next f′ o) < k = omega (arith, q, next-falls (λ a. hf a .falls) o) in exhausted e less
 
 module _ {n l : ℕ} {A B : Type 0} where
@@ -130,15 +136,15 @@ unfolding ask
 richer-ask = record { shifted = λ k s i j. go k (s .calls) (s .answers); falls = falls-ask }
   where
     go : (k i : ℕ) (l : List Answer) → Shifted k i (answered i l) (answered (i + k) l)
-    go k i [] = failed
+    go k i [] = failed (λ e. absurd (false≢true e))
     go k i (Answer.value v ∷ l) = done (le-refl i)
     go k i (Answer.descriptor d ∷ l) = done (le-refl i)
     go k i (Answer.keys ks ∷ l) = done (le-refl i)
-    go k i (Answer.throw v ∷ l) = failed
+    go k i (Answer.throw v ∷ l) = failed (λ e. absurd (false≢true e))
 
 richer-revoked : {n l : ℕ} (b : Bool) → Richer n l (throwIf 1 b) (throwIf 1 b)
 unfolding throwIf
-richer-revoked true = richer-fails _
+richer-revoked true = richer-fails _ refl
 richer-revoked false = richer-pure _
 
 -- The call that begins: one fewer is left, or none was
@@ -147,7 +153,7 @@ module _ {n l : ℕ} {A : Type 0} {f f′ : M A} (h : Richer n l f f′) where
   -- what `tick` leads to, from i calls and from k more
   ticked : (a : List Answer) (i k : ℕ) → i ≤ suc n → i + k ≤ suc l → Shifted k i (next (λ _. f) (counted a i)) (next (λ _. f′) (counted a (i + k)))
   unfolding next
-  ticked a zero zero p q = failed
+  ticked a zero zero p q = failed (λ _. refl)
   ticked a zero (suc j) p q =
       let e : zero + suc j ≡ suc j = omega arith in
       let less : callsLeft (f′ .run (state a j)) < suc j = omega (arith, h .falls .falls (state a j)) in
@@ -162,7 +168,7 @@ module _ {A : Type 0} (σ : Store) (o : ℕ) where
   found {n} {l} {f} {f′} {g} {g′} hf hg = go (lookup σ o) refl
     where
       go : (x : Option Object) → lookup σ o ≡ x → Richer n l (dispatched x f g) (dispatched x f′ g′)
-      go none e = richer-fails _
+      go none e = richer-fails _ refl
       go (some (Ordinary r)) e = hf r e
       go (some (Proxy p)) e = richer-bind (richer-revoked (p .revoked)) (λ _. hg p e)
 
@@ -208,7 +214,7 @@ module _ {A : Type 0} where
   none-left {l} {m} {m′} h h′ = record { shifted = λ k s i j. go k (s .answers) (s .calls) i j; falls = h′ .falls }
     where
       go : (k : ℕ) (a : List Answer) (i : ℕ) → i ≤ 0 → i + k ≤ l → Shifted k i (m .run (state a i)) (m′ .run (state a (i + k)))
-      go zero a zero p q = rw (h .stops a, h′ .stops a) failed
+      go zero a zero p q = rw (h .stops a, h′ .stops a) (failed (λ _. refl))
       go (suc j) a zero p q =
           let e : zero + suc j ≡ suc j = omega arith in
           let less : callsLeft (m′ .run (state a (suc j))) < suc j = omega (arith, h′ .spends a j (omega (arith, q))) in
@@ -220,7 +226,7 @@ beside-itself : {l : ℕ} {A : Type 0} {m : M A} → Spends l m → Richer 0 0 m
 beside-itself {l} {A} {m} h = record { shifted = λ k s i j. go k (s .answers) (s .calls) i j; falls = h .falls }
   where
     go : (k : ℕ) (a : List Answer) (i : ℕ) → i ≤ 0 → i + k ≤ 0 → Shifted k i (m .run (state a i)) (m .run (state a (i + k)))
-    go zero a zero p q = rw (h .stops a) failed
+    go zero a zero p q = rw (h .stops a) (failed (λ _. refl))
     go (suc j) a zero p q = absurd (not-suc-le-zero (subst (λ (x : ℕ). x ≤ 0) (let e : zero + suc j ≡ suc j = omega arith in e) q))
     go k a (suc i) p q = absurd (not-suc-le-zero p)
 
@@ -239,15 +245,15 @@ pub applyValidation-richer : {n l : ℕ} (c : Context) (o : ℕ) (k : PropertyKe
 unfolding applyValidation
 applyValidation-richer c o k current Rejected = richer-pure _
 applyValidation-richer c o k current Unchanged = richer-pure _
-applyValidation-richer c o k Absent (Becomes p) = richer-if _ (richer-fails _) (richer-pure _)
+applyValidation-richer c o k Absent (Becomes p) = richer-if _ (richer-fails _ refl) (richer-pure _)
 applyValidation-richer c o k (Present q) (Becomes p) = richer-pure _
 
 abbrev pub richer-asking : ℕ → ℕ → Asking Any
 richer-asking n l = record {
   reads = λ Q m m′. Richer n l m m′;
   gives = λ a _. richer-pure a;
-  throws = λ i _. richer-fails _;
-  unreadable = richer-fails _;
+  throws = λ i _. richer-fails _ refl;
+  unreadable = richer-fails _ refl;
   binds-value = λ h k. richer-bind h (λ v. k v tt);
   asks = λ k. richer-bind richer-ask (λ a. k a (any-answer a));
 }
@@ -258,7 +264,7 @@ richer-relation c n l = record {
   writes = λ m m′. Richer n l m m′;
   weaken = λ f h. h;
   gives = λ a _. richer-pure a;
-  throws = λ i _. richer-fails _;
+  throws = λ i _. richer-fails _ refl;
   binds = λ h k. richer-bind h k;
   binds-value = λ h k. richer-bind h (λ v. k v tt);
   writes-binds = λ h k. richer-bind h k;

@@ -72,7 +72,7 @@ pub perform-reader : (n : ℕ) (c : Context) (asks : Operation) → Reader (perf
 perform-reader n c = perform-by (record { gives = reader-pure; refuses = reader-fails _ refl; binds = λ h k. reader-bind h k }) c n n (methods-reader n c)
 
 pub perform-richer : (n l : ℕ) → n ≤ l → (c : Context) (asks : Operation) → Richer n l (perform n c asks) (perform l c asks)
-perform-richer n l i c = perform-by (record { gives = richer-pure; refuses = richer-fails _; binds = λ h k. richer-bind h k }) c n l (methods-richer n l c i)
+perform-richer n l i c = perform-by (record { gives = richer-pure; refuses = richer-fails _ refl; binds = λ h k. richer-bind h k }) c n l (methods-richer n l c i)
 
 -- Room for one more ---------------------------------------------------------------------------
 
