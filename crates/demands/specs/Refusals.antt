@@ -1,42 +1,54 @@
 -- Demand 1: which calls are refused, with which number, and what a call may change. Assumes nothing.
-use Prim.Native.Nat.{ℕ, _≤_, _<_}
+use Prim.Native.Nat.{ℕ, suc, _+_, _-_, _≤_, _<_}
 use mathlib.Core.Path.{_≡_}
 use mathlib.Core.Logic.{_↔_}
 use mathlib.Core.Bool.{Bool, true, false}
 use mathlib.Core.Option.{Option, none, some}
-use mathlib.Core.List.{List, [], _++_}
+use mathlib.Core.List.{List, [], _∷_, _++_}
 use lib.Dec.{ltb}
 use lib.ListN.{length}
 use Rattle.value.specs.declared.Value.{Value}
 use Rattle.text.specs.Strings.{numberOf, maximumLength, maximumStrings}
 use Rattle.store.specs.Store.{Store, World, maximumObjects, maximumProperties}
-use Rattle.internal_methods.specs.declared.Failure.the-variants.{Refused}
-use Rattle.internal_methods.specs.Monad.{Answer, State, state, Out, failed, done}
+use Rattle.internal_methods.specs.declared.Failure.the-variants.{Refused, Thrown}
+use Rattle.internal_methods.specs.Monad.{Answer, throw, State, state, Out, failed, done}
+use Rattle.internal_methods.specs.Readable.{Reading, isUnreadable}
 use Rattle.record.specs.Sheet.{sheetOf}
 use Rattle.record.specs.Tests.{firstFailing}
-use Rattle.steps.specs.Operation.{asked}
-use Rattle.steps.specs.Perform.{Result, maximumCalls, perform}
+use Rattle.steps.specs.Operation.{makesObject, asked}
+use Rattle.steps.specs.Perform.{Result, boolean, maximumCalls, perform}
 use Rattle.steps.specs.Response.{Ending, refused, result, typeError, thrown, Response, Effect}
 use Rattle.steps.specs.Step.{contextOf, recordTests, outputHolds, refusing, ran, step}
 use Rattle.steps.specs.StringEntry.{enterString}
 
--- 32 objects, or 256 properties
-pub data NoRoom (ω : World) : Type 0 where
-  objects : maximumObjects ≤ length (ω .store .objects) → NoRoom ω
-  properties : maximumProperties ≤ length (ω .store .properties) → NoRoom ω
+-- the same step with another allowance of properties, other answers and another budget of calls
+abbrev pub runWith : World → List ℕ → ℕ → List Answer → ℕ → Out (Result × Store)
+runWith ω bytes allowance answers calls = perform calls (record { store = ω .store; strings = ω .strings; allowance = allowance }) (asked bytes) .run (state answers calls)
 
--- the conditions of document 01, "Turned back at the desk", by their numbers
+-- the calls that a run made of its budget
+abbrev pub callsMade : ℕ → Out (Result × Store) → ℕ
+callsMade budget (failed f s) = budget - s .calls
+callsMade budget (done a s) = budget - s .calls
+
+-- document 01's refusals, by their numbers: each condition says why
 pub data Refusal (ω : World) (bytes sheet output : List ℕ) : ℕ → Type 0 where
   -- 1 to 4 over the step, then 1 to 3 over the sheet: the first test that fails
   inadmissible : {n : ℕ} → firstFailing (recordTests ω bytes sheet) ≡ some n → Refusal ω bytes sheet output n
-  -- 7: there is no room for the object or the property that would be added
-  full : {s : State} → firstFailing (recordTests ω bytes sheet) ≡ none → ran ω bytes sheet ≡ failed (Refused 7) s → NoRoom ω → Refusal ω bytes sheet output 7
+  -- 7: an object is to be made, and 32 are there
+  crowded : firstFailing (recordTests ω bytes sheet) ≡ none → makesObject (asked bytes) ≡ true → maximumObjects ≤ length (ω .store .objects) → Refusal ω bytes sheet output 7
+  -- 7: 256 properties are there, and with room for one more the same step ends in true, with one property more
+  full : {τ : Store} {s : State} → firstFailing (recordTests ω bytes sheet) ≡ none → maximumProperties ≤ length (ω .store .properties)
+      → runWith ω bytes (suc (length (ω .store .properties))) (sheetOf sheet) maximumCalls ≡ done (boolean true, τ) s
+      → length (τ .properties) ≡ suc (length (ω .store .properties)) → Refusal ω bytes sheet output 7
   -- 8: there is no next answer; all were taken
   spent : {s : State} → firstFailing (recordTests ω bytes sheet) ≡ none → ran ω bytes sheet ≡ failed (Refused 8) s → s .answers ≡ [] → Refusal ω bytes sheet output 8
-  -- 9: the next answer cannot be read
-  unreadable : {s : State} → firstFailing (recordTests ω bytes sheet) ≡ none → ran ω bytes sheet ≡ failed (Refused 9) s → Refusal ω bytes sheet output 9
-  -- 10: a 2,049th call would begin; no call is left
-  exhausted : {s : State} → firstFailing (recordTests ω bytes sheet) ≡ none → ran ω bytes sheet ≡ failed (Refused 10) s → s .calls ≡ 0 → Refusal ω bytes sheet output 10
+  -- 9: the last answer taken cannot be read as what was asked for; with a throw in its place the same step ends in that throw, as many answers used
+  unreadable : {rest : List Answer} {calls : ℕ} (used : List Answer) (a : Answer) (r : Reading) → firstFailing (recordTests ω bytes sheet) ≡ none → sheetOf sheet ≡ used ++ (a ∷ rest)
+      → isUnreadable r a ≡ true → ran ω bytes sheet ≡ failed (Refused 9) (state rest calls)
+      → ((v : Value) → runWith ω bytes maximumProperties (used ++ (throw v ∷ rest)) maximumCalls ≡ failed (Thrown v) (state rest calls)) → Refusal ω bytes sheet output 9
+  -- 10: a 2,049th call would begin: no call is left, and with any larger budget the same step makes more than 2,048
+  exhausted : firstFailing (recordTests ω bytes sheet) ≡ none → callsMade maximumCalls (ran ω bytes sheet) ≡ maximumCalls
+      → ((more : ℕ) → 0 < more → maximumCalls < callsMade (maximumCalls + more) (runWith ω bytes maximumProperties (sheetOf sheet) (maximumCalls + more))) → Refusal ω bytes sheet output 10
   -- 11: the output cannot hold 9 bytes for each key
   short : {a : Result × Store} {s : State} → firstFailing (recordTests ω bytes sheet) ≡ none → ran ω bytes sheet ≡ done a s → outputHolds (a .0) output ≡ false → Refusal ω bytes sheet output 11
 

@@ -11,14 +11,19 @@ use Rattle.store.specs.declared.OrdinaryObject.{OrdinaryObject}
 use Rattle.store.specs.declared.ProxyObject.{ProxyObject}
 use Rattle.store.specs.declared.Object.{Object}
 use Rattle.store.specs.declared.Object.the-variants.{Ordinary, Proxy}
-use Rattle.store.specs.Store.{Store, lookup}
+use Rattle.store.specs.Store.{Store, lookup, withProperty}
+use Rattle.value.specs.declared.PropertyKey.{PropertyKey}
+use Rattle.property.specs.declared.OwnProperty.{OwnProperty}
+use Rattle.property.specs.declared.OwnProperty.the-variants.{Absent, Present}
+use Rattle.property.specs.declared.Validation.{Validation}
+use Rattle.property.specs.declared.Validation.the-variants.{Rejected, Unchanged, Becomes}
 use Rattle.internal_methods.specs.declared.Failure.{Failure}
 use Rattle.internal_methods.specs.declared.Failure.the-variants.{Refused, TypeError, Thrown}
-use Rattle.internal_methods.specs.Monad.{Answer, State, state, Out, M, pure, fails, next, _>>=_, _>>_, throwIf, throwAny, answered, ask, counted, tick, dispatched, dispatch}
+use Rattle.internal_methods.specs.Monad.{Answer, State, state, Out, M, pure, fails, next, _>>=_, _>>_, throwIf, throwAny, answered, ask, counted, tick, dispatched, dispatch, if_then_else_}
 use Rattle.internal_methods.specs.Methods.{Context, Methods, Written}
-use Rattle.internal_methods.specs.Ordinary.{isFull}
+use Rattle.internal_methods.specs.Ordinary.{isFull, applyValidation}
 use Rattle.internal_methods.specs.Internal.{methods}
-use Rattle.internal_methods.proofs.Walk.{Message, message, Judgement, AnswerBy, Rules, Known, MethodsBy, level-by}
+use Rattle.internal_methods.proofs.Walk.{Message, message, Any, AnswerBy, MethodsBy, Relation, Asking, askValue-by, askPrototype-by, askDescriptor-by, askKeys-by, level-by}
 use Rattle.internal_methods.proofs.StoreClosed.{Made, MadeValue, Closed, Kept, kept-same, kept-put, kept-with, kept-without}
 
 abbrev pub MadeAnswer : Store → Answer → Type 0
@@ -97,17 +102,17 @@ module _ {c : Context} {n : ℕ} {A B : Type 0} {P : A → Type 0} {Q : B → Ty
   unfolding _>>=_
   steady-bind hm hk = record { runs = λ s le ms. next-steady hk le (hm .runs s le ms) }
 
-module _ {c : Context} {n : ℕ} {A : Type 0} {P : A → Type 0} where
-  -- of the result nothing need be known
-  steady-any : {m m′ : M A} → Steady c n m m′ P → Steady c n m m′ (λ _. Unit {0})
-  steady-any h = record { runs = λ s le ms. go (h .runs s le ms) }
+module _ {c : Context} {n : ℕ} {A : Type 0} {P Q : A → Type 0} where
+  -- of the result less may be known
+  pub steady-weaken : {m m′ : M A} → ((a : A) → P a → Q a) → Steady c n m m′ P → Steady c n m m′ Q
+  steady-weaken f h = record { runs = λ s le ms. go (h .runs s le ms) }
     where
-      go : {s : State} {o p : Out A} → Agree c s P o p → Agree c s (λ _. Unit {0}) o p
-      go (done q le ms) = done tt le ms
+      go : {s : State} {o p : Out A} → Agree c s P o p → Agree c s Q o p
+      go (done {a} q le ms) = done (f a q) le ms
       go (failed m) = failed m
 
 module _ {c : Context} {n : ℕ} {A : Type 0} {Q : A → Type 0} where
-  steady-error : (i : ℕ) → Message i → Steady c n (fails (TypeError i)) (fails (TypeError i)) Q
+  pub steady-error : (i : ℕ) → Message i → Steady c n (fails (TypeError i)) (fails (TypeError i)) Q
   steady-error i m = steady-fails _ (λ t. error i (m .0) (m .1))
 
 module _ {c : Context} {n : ℕ} {A : Type 0} {Q : A → Type 0} {k k′ : M A} where
@@ -178,41 +183,63 @@ module _ {A : Type 0} where
 abbrev pub KeptBy : Context → Written → Type 0
 KeptBy c w = Kept (c .store) (w .1)
 
--- as a judgement
-abbrev SteadyBy : Context → ℕ → Judgement
-SteadyBy c n A m m′ Q = Steady c n m m′ Q
-
-abbrev pub SteadyMethods : Context → ℕ → Methods → Methods → Type 0
-SteadyMethods c n call call′ = MethodsBy (SteadyBy c n) (Made (c .store)) (MadeValue (c .store)) (Kept (c .store)) call call′
-
-steady-rules : (c : Context) (n : ℕ) → Rules (SteadyBy c n) (MadeValue (c .store))
-steady-rules c n = record {
-  yields = steady-pure;
+abbrev pub steady-asking : (c : Context) (n : ℕ) → Asking (MadeValue (c .store))
+steady-asking c n = record {
+  reads = λ Q m m′. Steady c n m m′ Q;
+  gives = steady-pure;
+  throws = steady-error;
   unreadable = steady-fails _ (λ t. unreadable);
-  error = steady-error;
-  throws = steady-throwIf;
-  throws-any = steady-throwAny;
-  binds = λ h k. steady-bind h (λ a _. k a);
   binds-value = steady-bind;
   asks = steady-bind steady-ask;
-  any = steady-any;
 }
 
-steady-known : (c : Context) (n : ℕ) → Closed (c .store) → Known c (SteadyBy c n) (Made (c .store)) (MadeValue (c .store)) (Kept (c .store))
-steady-known c n closed = record {
-  full = λ e. steady-fails _ (λ t. full e);
+-- a write, if there is room
+steady-room : (c : Context) (n : ℕ) (b : Bool) → isFull c ≡ b → (w : Written) → KeptBy c w → Steady c n (if_then_else_ b (fails (Refused 7)) (pure w)) (if_then_else_ b (fails (Refused 7)) (pure w)) (KeptBy c)
+unfolding if_then_else_
+steady-room c n true e w k = steady-fails _ (λ t. full e)
+steady-room c n false e w k = steady-pure w k
+
+pub applyValidation-steady : (c : Context) (n : ℕ) → Closed (c .store) → (o : ℕ) (k : PropertyKey) (current : OwnProperty) (v : Validation)
+    → Steady c n (applyValidation c o k current v) (applyValidation c o k current v) (KeptBy c)
+unfolding applyValidation
+applyValidation-steady c n closed o k current Rejected = steady-pure _ (kept-same (c .store) closed)
+applyValidation-steady c n closed o k current Unchanged = steady-pure _ (kept-same (c .store) closed)
+applyValidation-steady c n closed o k Absent (Becomes p) = steady-room c n (isFull c) refl _ (kept-with (c .store) o k p closed)
+applyValidation-steady c n closed o k (Present q) (Becomes p) = steady-pure _ (kept-with (c .store) o k p closed)
+
+abbrev pub steady-relation : (c : Context) (n : ℕ) → Closed (c .store) → Relation c (c .allowance) (Made (c .store)) (MadeValue (c .store)) (λ _ _. Any)
+steady-relation c n closed = record {
+  reads = λ Q m m′. Steady c n m m′ Q;
+  writes = λ m m′. Steady c n m m′ (KeptBy c);
+  weaken = steady-weaken;
+  gives = steady-pure;
+  throws = steady-error;
+  binds = λ h k. steady-bind h (λ a _. k a);
+  binds-value = steady-bind;
+  writes-binds = λ h k. steady-bind h (λ a _. k a);
+  writes-binds-value = steady-bind;
+  writes-binds-own = steady-bind;
+  asks-value = askValue-by (steady-asking c n);
+  asks-prototype = askPrototype-by (steady-asking c n);
+  asks-descriptor = askDescriptor-by (steady-asking c n);
+  asks-keys = askKeys-by (steady-asking c n);
+  idle = λ b. steady-pure _ (kept-same (c .store) closed);
+  puts = λ o r m. steady-pure _ (kept-put (c .store) o (Ordinary r) closed m);
+  removes = λ o k. steady-pure _ (kept-without (c .store) o k closed);
+  applies = λ o r e k current _ v. applyValidation-steady c n closed o k current v;
   object = λ v m. m .made;
   prototype = closed .ordinary;
   target = closed .proxy;
-  idle = kept-same (c .store) closed;
-  puts = λ o r m. kept-put (c .store) o (Ordinary r) closed m;
-  with = λ o k p. kept-with (c .store) o k p closed;
-  without = λ o k. kept-without (c .store) o k closed;
+  own-found = λ o r e k. tt;
+  own-answered = λ o p e k x. tt;
 }
+
+abbrev pub SteadyMethods : Context → ℕ → Methods → Methods → Type 0
+SteadyMethods c n call call′ = MethodsBy (λ A Q m m′. Steady c n m m′ Q) (λ m m′. Steady c n m m′ (KeptBy c)) (Made (c .store)) (MadeValue (c .store)) (λ _ _. Any) call call′
 
 -- with no call left each method is refused, whatever the fuel
 abbrev StopsMethods : Methods → Type 0
-StopsMethods call = MethodsBy (λ A m m′ Q. Stops m) (λ _. Unit {0}) (λ _. Unit {0}) (λ _. Unit {0}) call call
+StopsMethods call = MethodsBy (λ A Q m m′. Stops m) (λ m m′. Stops m) Any Any (λ _ _. Any) call call
 
 methods-stop : (n : ℕ) (c : Context) → StopsMethods (methods n c)
 unfolding methods
@@ -265,9 +292,9 @@ steady-above zero m m′ i i′ c closed = none-left (methods-stop m c) (methods
 steady-above (suc n) zero m′ i i′ c closed = absurd (not-suc-le-zero i)
 steady-above (suc n) (suc m) zero i i′ c closed = absurd (not-suc-le-zero i′)
 steady-above (suc n) (suc m) (suc m′) i i′ c closed =
-    level-by (steady-rules c n) (steady-known c n closed) (methods m c) (methods m′ c)
+    level-by (steady-relation c n closed) (methods m c) (methods m′ c)
     (steady-above n m m′ (le-of-suc-le-suc i) (le-of-suc-le-suc i′) c closed)
-    (SteadyBy c (suc n)) (record { enters = steady-dispatch })
+    _ _ (record { reading = steady-dispatch; writing = steady-dispatch })
 
 -- one more changes nothing
 pub steady : (n : ℕ) (c : Context) → Closed (c .store) → SteadyMethods c n (methods n c) (methods (suc n) c)

@@ -9,6 +9,10 @@ pub mod Keys
 pub mod Reports
 pub mod Walk
 pub mod Longer
+pub mod Reader
+pub mod TableHolds
+pub mod Room
+pub mod Richer
 pub mod StoreClosed
 pub mod Budget
 pub mod Chain

@@ -5,6 +5,11 @@ use mathlib.Core.Bool.{Bool, true, false}
 use mathlib.Core.Option.{Option, none, some}
 use mathlib.Core.List.{List, [], _∷_, _++_}
 use Rattle.value.specs.declared.Value.the-variants as value
+use Rattle.value.specs.declared.PropertyKey.{PropertyKey}
+use Rattle.property.specs.declared.OwnProperty.{OwnProperty}
+use Rattle.property.specs.declared.OwnProperty.the-variants.{Absent, Present}
+use Rattle.property.specs.declared.Validation.{Validation}
+use Rattle.property.specs.declared.Validation.the-variants.{Rejected, Unchanged, Becomes}
 use Rattle.store.specs.declared.OrdinaryObject.{OrdinaryObject}
 use Rattle.store.specs.declared.ProxyObject.{ProxyObject}
 use Rattle.store.specs.declared.Object.{Object}
@@ -14,9 +19,10 @@ use Rattle.internal_methods.specs.declared.Failure.{Failure}
 use Rattle.internal_methods.specs.declared.Failure.the-variants.{Refused}
 use Rattle.internal_methods.specs.Monad.{Answer, State, state, Out, M, pure, fails, next, _>>=_, _>>_, throwIf, throwAny, answered, ask, counted, tick, if_then_else_, dispatched, dispatch}
 use Rattle.internal_methods.specs.Answers.{askKeys}
-use Rattle.internal_methods.specs.Methods.{Context, Methods}
+use Rattle.internal_methods.specs.Methods.{Context}
+use Rattle.internal_methods.specs.Ordinary.{applyValidation}
 use Rattle.internal_methods.specs.Internal.{methods}
-use Rattle.internal_methods.proofs.Walk.{Judgement, AnswerBy, Rules, Known, MethodsBy, askKeys-by, level-by}
+use Rattle.internal_methods.proofs.Walk.{Any, allowing, Relation, RelatedMethods, AnswerBy, Asking, askValue-by, askPrototype-by, askDescriptor-by, askKeys-by, methods-by}
 
 -- the first is a tail of the second
 pub data Suffix : List Answer → List Answer → Type 0 where
@@ -145,69 +151,65 @@ module _ {A : Type 0} where
       go (some (Ordinary r)) e = hf r e
       go (some (Proxy p)) e = longer-throwIf 1 (p .revoked) (λ _. hg p e)
 
--- The methods: of their objects, values and stores nothing need be known
+-- The methods: of their objects and values nothing need be known
 
-abbrev LongerBy : Judgement
-LongerBy A m m′ Q = Longer m
-
-abbrev Any : {A : Type 0} → A → Type 0
-Any a = Unit {0}
-
-abbrev pub LongerMethods : Methods → Type 0
-LongerMethods call = MethodsBy LongerBy Any Any Any call call
-
-any-answer : (a : Answer) → AnswerBy Any a
+pub any-answer : (a : Answer) → AnswerBy Any a
 any-answer (Answer.value v) = tt
 any-answer (Answer.descriptor d) = tt
 any-answer (Answer.keys ks) = tt
 any-answer (Answer.throw v) = tt
 
-longer-rules : Rules LongerBy Any
-longer-rules = record {
-  yields = λ a _. longer-pure a;
+abbrev pub longer-asking : Asking Any
+longer-asking = record {
+  reads = λ Q m m′. Longer m;
+  gives = λ a _. longer-pure a;
+  throws = λ i _. longer-fails _;
   unreadable = longer-fails _;
-  error = λ i _. longer-fails _;
-  throws = λ i b _ h. longer-throwIf i b h;
-  throws-any = λ x _ h. longer-throwAny x h;
-  binds = longer-bind;
   binds-value = λ h k. longer-bind h (λ v. k v tt);
   asks = λ k. longer-bind longer-ask (λ a. k a (any-answer a));
-  any = λ h. h;
-}
-
-longer-known : (c : Context) → Known c LongerBy Any Any Any
-longer-known c = record {
-  full = λ _. longer-fails _;
-  object = λ v _ q _. tt;
-  prototype = λ o r _. tt;
-  target = λ o p _. tt;
-  idle = tt;
-  puts = λ o r _. tt;
-  with = λ o k p. tt;
-  without = λ o k. tt;
 }
 
 pub askKeys-longer : Longer askKeys
-askKeys-longer = askKeys-by longer-rules
+askKeys-longer = askKeys-by longer-asking
 
-pub methods-longer : (n : ℕ) (c : Context) → LongerMethods (methods n c)
-unfolding methods
-methods-longer zero c = record {
-  getPrototypeOf = λ o _. longer-fails _;
-  setPrototypeOf = λ o v _ _. longer-fails _;
-  isExtensible = λ o _. longer-fails _;
-  preventExtensions = λ o _. longer-fails _;
-  getOwnProperty = λ o k _. longer-fails _;
-  defineOwnProperty = λ o k d _. longer-fails _;
-  hasProperty = λ o k _. longer-fails _;
-  get = λ o k receiver _. longer-fails _;
-  set = λ o k v receiver _ _. longer-fails _;
-  delete = λ o k _. longer-fails _;
-  ownPropertyKeys = λ o _. longer-fails _;
+pub applyValidation-longer : (c : Context) (o : ℕ) (k : PropertyKey) (current : OwnProperty) (v : Validation) → Longer (applyValidation c o k current v)
+unfolding applyValidation
+applyValidation-longer c o k current Rejected = longer-pure _
+applyValidation-longer c o k current Unchanged = longer-pure _
+applyValidation-longer c o k Absent (Becomes p) = longer-if _ (longer-fails _) (longer-pure _)
+applyValidation-longer c o k (Present q) (Becomes p) = longer-pure _
+
+abbrev pub longer-relation : (c : Context) → Relation c (c .allowance) Any Any (λ _ _. Any)
+longer-relation c = record {
+  reads = λ Q m m′. Longer m;
+  writes = λ m m′. Longer m;
+  weaken = λ f h. h;
+  gives = λ a _. longer-pure a;
+  throws = λ i _. longer-fails _;
+  binds = λ h k. longer-bind h k;
+  binds-value = λ h k. longer-bind h (λ v. k v tt);
+  writes-binds = λ h k. longer-bind h k;
+  writes-binds-value = λ h k. longer-bind h (λ v. k v tt);
+  writes-binds-own = λ h k. longer-bind h (λ x. k x tt);
+  asks-value = askValue-by longer-asking;
+  asks-prototype = askPrototype-by longer-asking;
+  asks-descriptor = askDescriptor-by longer-asking;
+  asks-keys = askKeys-by longer-asking;
+  idle = λ b. longer-pure _;
+  puts = λ o r _. longer-pure _;
+  removes = λ o k. longer-pure _;
+  applies = λ o r e k current _ v. applyValidation-longer c o k current v;
+  object = λ v _ q _. tt;
+  prototype = λ o r _. tt;
+  target = λ o p _. tt;
+  own-found = λ o r e k. tt;
+  own-answered = λ o p e k x. tt;
 }
-methods-longer (suc n) c =
-    level-by longer-rules (longer-known c) (methods n c) (methods n c) (methods-longer n c)
-    LongerBy (record { enters = λ o _ hf hg. longer-dispatch (c .store) o hf hg })
+
+pub methods-longer : (n : ℕ) (c : Context) → RelatedMethods (longer-relation c) (methods n c) (methods n (allowing c (c .allowance)))
+methods-longer n c = methods-by (longer-relation c)
+    (record { reads = longer-fails _; writes = longer-fails _ })
+    (record { reading = λ o _ f g. longer-dispatch (c .store) o f g; writing = λ o _ f g. longer-dispatch (c .store) o f g }) n
 
 -- The consequence
 

@@ -1,5 +1,5 @@
--- One walk over the methods, for any judgement of two runs that keeps the rules. Assumes nothing.
-use Prim.Native.Nat.{ℕ, _≤_}
+-- One walk over the eleven methods, for any relation between two computations that the rules of the definitions keep. Assumes nothing.
+use Prim.Native.Nat.{ℕ, zero, suc, _≤_}
 use mathlib.Core.Path.{_≡_, refl}
 use mathlib.Core.Bool.{Bool, true, false, not, _&&_, cond, false≢true}
 use mathlib.Core.Option.{Option, none, some}
@@ -12,32 +12,30 @@ use Rattle.value.specs.declared.PropertyKey.{PropertyKey}
 use Rattle.value.specs.declared.PropertyKey.the-variants.{String, Symbol}
 use Rattle.value.specs.Value.{objectOf, sameValue}
 use Rattle.property.specs.declared.PropertyDescriptor.{PropertyDescriptor}
-use Rattle.property.specs.declared.Property.{Property}
 use Rattle.property.specs.declared.Property.the-variants.{Data, Accessor}
 use Rattle.property.specs.declared.OwnProperty.{OwnProperty}
 use Rattle.property.specs.declared.OwnProperty.the-variants.{Absent, Present}
 use Rattle.property.specs.declared.Validation.{Validation}
-use Rattle.property.specs.declared.Validation.the-variants.{Rejected, Unchanged, Becomes}
 use Rattle.text.specs.Strings.{Strings}
 use Rattle.store.specs.declared.OrdinaryObject.{OrdinaryObject}
 use Rattle.store.specs.declared.ProxyObject.{ProxyObject}
 use Rattle.store.specs.declared.Object.the-variants.{Ordinary, Proxy}
-use Rattle.store.specs.Store.{Store, lookup, put, withProperty, withoutProperty}
+use Rattle.store.specs.Store.{lookup, put, own, withoutProperty}
 use Rattle.internal_methods.specs.declared.Failure.the-variants.{Refused, TypeError}
 use Rattle.property.specs.declared.DescriptorObject.{DescriptorObject}
 use Rattle.internal_methods.specs.Monad.{Answer, M, pure, fails, _>>=_, _>>_, throwIf, throwAny, ask, if_then_else_, dispatch}
 use Rattle.internal_methods.specs.Answers.{asValue, askValue, askBoolean, asPrototype, askPrototype, undefinedDescriptor, asDescriptor, askDescriptor, keysOf, listed, unlisted, asKeys, askKeys}
 use Rattle.internal_methods.specs.Methods.{Context, Methods, Written}
 use Rattle.internal_methods.specs.KeyList.{Sorted, hasKey, duplicateMessage, duplicate, isEmpty, checkedOff, remaining, required, rejected}
-use Rattle.internal_methods.specs.Ordinary.{isFull, reaches, withPrototype, ordinarySetPrototypeOf, applyValidation, ordinaryDefineOwnProperty, ordinaryHasProperty, ordinaryGet, setOnReceiver, setData, ordinarySet, ordinaryDelete}
-use Rattle.internal_methods.specs.Proxy.{sorted, proxyGetPrototypeOf, proxySetPrototypeOf, proxyIsExtensible, proxyPreventExtensions, proxyGetOwnProperty, proxyDefineOwnProperty, proxyHasProperty, proxyGet, proxySet, proxyDelete, proxyOwnPropertyKeys}
-use Rattle.internal_methods.specs.Internal.{level}
+use Rattle.internal_methods.specs.Ordinary.{reaches, withPrototype, ordinarySetPrototypeOf, applyValidation, ordinaryDefineOwnProperty, ordinaryHasProperty, ordinaryGet, setOnReceiver, setData, ordinarySet, ordinaryDelete}
+use Rattle.internal_methods.specs.Proxy.{hasTrap, sorted, proxyGetPrototypeOf, proxySetPrototypeOf, proxyIsExtensible, proxyPreventExtensions, proxyGetOwnProperty, proxyDefineOwnProperty, proxyHasProperty, proxyGet, proxySet, proxyDelete, proxyOwnPropertyKeys}
+use Rattle.internal_methods.specs.Internal.{level, methods}
 
 -- the numbers of the messages
 abbrev pub Message : ℕ → Type 0
 Message n = (1 ≤ n) × (n ≤ 31)
 
-abbrev isMessage : ℕ → Bool
+abbrev pub isMessage : ℕ → Bool
 isMessage n = leb 1 n && leb n 31
 
 pub message : (n : ℕ) → T (isMessage n) → Message n
@@ -47,7 +45,7 @@ message n t = go (leb 1 n) (leb n 31) lit≤ lit≤ t
     go true b f g t = (f tt, g t)
     go false b f g t = absurd t
 
-abbrev Messages : Option ℕ → Type 0
+abbrev pub Messages : Option ℕ → Type 0
 Messages x = (i : ℕ) → x ≡ some i → Message i
 
 no-messages : Messages none
@@ -85,85 +83,119 @@ rejected-messages extensible target ks =
 
 -- The rules ------------------------------------------------------------------------------
 
--- a judgement of two runs, and of what holds of their result
-abbrev pub Judgement : Type 1
-Judgement = (A : Type 0) → M A → M A → (A → Type 0) → Type 0
+-- nothing is known
+abbrev pub Any : {A : Type 0} → A → Type 0
+Any a = Unit {0}
+
+-- the same store and strings, with another allowance
+abbrev pub allowing : Context → ℕ → Context
+allowing c allowance = record { store = c .store; strings = c .strings; allowance = allowance }
+
+-- A relation of two computations, the second under another allowance; Obj, Val and Own are what is known of an object that is called, of a value,
+-- and of what [[GetOwnProperty]] tells
+pub record Relation (c : Context) (allowance : ℕ) (Obj : ℕ → Type 0) (Val : Value → Type 0) (Own : ℕ → PropertyKey → OwnProperty → Type 0) : Type 1 where
+  -- of computations that read, with what is known of their result, and of those that end in a write
+  pub reads : {A : Type 0} → (A → Type 0) → M A → M A → Type 0
+  pub writes : M Written → M Written → Type 0
+  pub weaken : {A : Type 0} {P Q : A → Type 0} {m m′ : M A} → ((a : A) → P a → Q a) → reads P m m′ → reads Q m m′
+  pub gives : {A : Type 0} {Q : A → Type 0} (a : A) → Q a → reads Q (pure a) (pure a)
+  pub throws : {A : Type 0} {Q : A → Type 0} (i : ℕ) → Message i → reads Q (fails (TypeError i)) (fails (TypeError i))
+  pub binds : {A B : Type 0} {Q : B → Type 0} {m m′ : M A} {k k′ : A → M B} → reads Any m m′ → ((a : A) → reads Q (k a) (k′ a)) → reads Q (m >>= k) (m′ >>= k′)
+  pub binds-value : {B : Type 0} {Q : B → Type 0} {m m′ : M Value} {k k′ : Value → M B} → reads Val m m′ → ((v : Value) → Val v → reads Q (k v) (k′ v)) → reads Q (m >>= k) (m′ >>= k′)
+  pub writes-binds : {A : Type 0} {m m′ : M A} {k k′ : A → M Written} → reads Any m m′ → ((a : A) → writes (k a) (k′ a)) → writes (m >>= k) (m′ >>= k′)
+  pub writes-binds-value : {m m′ : M Value} {k k′ : Value → M Written} → reads Val m m′ → ((v : Value) → Val v → writes (k v) (k′ v)) → writes (m >>= k) (m′ >>= k′)
+  pub writes-binds-own : {o : ℕ} {k : PropertyKey} {m m′ : M OwnProperty} {f f′ : OwnProperty → M Written} → reads (Own o k) m m′ → ((x : OwnProperty) → Own o k x → writes (f x) (f′ x)) → writes (m >>= f) (m′ >>= f′)
+  -- what is asked for
+  pub asks-value : reads Val askValue askValue
+  pub asks-prototype : reads Val askPrototype askPrototype
+  pub asks-descriptor : reads Any askDescriptor askDescriptor
+  pub asks-keys : reads Any askKeys askKeys
+  -- what is written
+  pub idle : (b : Bool) → writes (pure (b, c .store)) (pure (b, c .store))
+  pub puts : (o : ℕ) (r : OrdinaryObject) → Val (r .prototype) → writes (pure (true, put (c .store) o (Ordinary r))) (pure (true, put (c .store) o (Ordinary r)))
+  pub removes : (o : ℕ) (k : PropertyKey) → writes (pure (true, withoutProperty (c .store) o k)) (pure (true, withoutProperty (c .store) o k))
+  pub applies : (o : ℕ) (r : OrdinaryObject) → lookup (c .store) o ≡ some (Ordinary r) → (k : PropertyKey) (current : OwnProperty) → Own o k current → (v : Validation)
+      → writes (applyValidation c o k current v) (applyValidation (allowing c allowance) o k current v)
+  -- what values and objects lead to
+  pub object : (v : Value) → Val v → (q : ℕ) → objectOf v ≡ some q → Obj q
+  pub prototype : (o : ℕ) (r : OrdinaryObject) → lookup (c .store) o ≡ some (Ordinary r) → Val (r .prototype)
+  pub target : (o : ℕ) (p : ProxyObject) → lookup (c .store) o ≡ some (Proxy p) → Obj (p .target)
+  pub own-found : (o : ℕ) (r : OrdinaryObject) → lookup (c .store) o ≡ some (Ordinary r) → (k : PropertyKey) → Own o k (own (c .store) o k)
+  pub own-answered : (o : ℕ) (p : ProxyObject) → lookup (c .store) o ≡ some (Proxy p) → (k : PropertyKey) (x : OwnProperty) → Own o k x
+
+-- a relation of each of the methods
+pub record MethodsBy (reads : (A : Type 0) → (A → Type 0) → M A → M A → Type 0) (writes : M Written → M Written → Type 0) (Obj : ℕ → Type 0) (Val : Value → Type 0) (Own : ℕ → PropertyKey → OwnProperty → Type 0) (call call′ : Methods) : Type 0 where
+  pub getPrototypeOf : (o : ℕ) → Obj o → reads Value Val (call .getPrototypeOf o) (call′ .getPrototypeOf o)
+  pub setPrototypeOf : (o : ℕ) (v : Value) → Obj o → Val v → writes (call .setPrototypeOf o v) (call′ .setPrototypeOf o v)
+  pub isExtensible : (o : ℕ) → Obj o → reads Bool Any (call .isExtensible o) (call′ .isExtensible o)
+  pub preventExtensions : (o : ℕ) → Obj o → writes (call .preventExtensions o) (call′ .preventExtensions o)
+  pub getOwnProperty : (o : ℕ) (k : PropertyKey) → Obj o → reads OwnProperty (Own o k) (call .getOwnProperty o k) (call′ .getOwnProperty o k)
+  pub defineOwnProperty : (o : ℕ) (k : PropertyKey) (d : PropertyDescriptor) → Obj o → writes (call .defineOwnProperty o k d) (call′ .defineOwnProperty o k d)
+  pub hasProperty : (o : ℕ) (k : PropertyKey) → Obj o → reads Bool Any (call .hasProperty o k) (call′ .hasProperty o k)
+  pub get : (o : ℕ) (k : PropertyKey) (receiver : Value) → Obj o → reads Value Any (call .get o k receiver) (call′ .get o k receiver)
+  pub set : (o : ℕ) (k : PropertyKey) (v receiver : Value) → Obj o → Val receiver → writes (call .set o k v receiver) (call′ .set o k v receiver)
+  pub delete : (o : ℕ) (k : PropertyKey) → Obj o → writes (call .delete o k) (call′ .delete o k)
+  pub ownPropertyKeys : (o : ℕ) → Obj o → reads (List PropertyKey) Any (call .ownPropertyKeys o) (call′ .ownPropertyKeys o)
+
+module _ {c : Context} {allowance : ℕ} {Obj : ℕ → Type 0} {Val : Value → Type 0} {Own : ℕ → PropertyKey → OwnProperty → Type 0} where
+  -- the choice by the object's kind, which counts the call: from a relation of the bodies to what is said of the methods
+  pub record Enters (R : Relation c allowance Obj Val Own) (reads : (A : Type 0) → (A → Type 0) → M A → M A → Type 0) (writes : M Written → M Written → Type 0) : Type 1 where
+    pub reading : {A : Type 0} {Q : A → Type 0} {f f′ : OrdinaryObject → M A} {g g′ : ProxyObject → M A} (o : ℕ) → Obj o
+        → ((r : OrdinaryObject) → lookup (c .store) o ≡ some (Ordinary r) → R .reads Q (f r) (f′ r))
+        → ((p : ProxyObject) → lookup (c .store) o ≡ some (Proxy p) → R .reads Q (g p) (g′ p))
+        → reads A Q (dispatch (c .store) o f g) (dispatch (c .store) o f′ g′)
+    pub writing : {f f′ : OrdinaryObject → M Written} {g g′ : ProxyObject → M Written} (o : ℕ) → Obj o
+        → ((r : OrdinaryObject) → lookup (c .store) o ≡ some (Ordinary r) → R .writes (f r) (f′ r))
+        → ((p : ProxyObject) → lookup (c .store) o ≡ some (Proxy p) → R .writes (g p) (g′ p))
+        → writes (dispatch (c .store) o f g) (dispatch (c .store) o f′ g′)
+
+  -- methods that may go no deeper
+  pub record Stops (R : Relation c allowance Obj Val Own) : Type 1 where
+    pub reads : {A : Type 0} {Q : A → Type 0} → R .reads Q (fails {A = A} (Refused 10)) (fails (Refused 10))
+    pub writes : R .writes (fails (Refused 10)) (fails (Refused 10))
+
+  abbrev pub RelatedMethods : Relation c allowance Obj Val Own → Methods → Methods → Type 0
+  RelatedMethods R call call′ = MethodsBy (λ A Q m m′. R .reads Q m m′) (R .writes) Obj Val Own call call′
+
+-- What follows from asking and from refusal 9 -----------------------------------------------
 
 -- what is known of an answer, where so much is of a value
 abbrev pub AnswerBy : (Value → Type 0) → Answer → Type 0
-AnswerBy OfValue (Answer.value v) = OfValue v
-AnswerBy OfValue (Answer.descriptor d) = Unit {0}
-AnswerBy OfValue (Answer.keys ks) = Unit {0}
-AnswerBy OfValue (Answer.throw v) = Unit {0}
+AnswerBy Val (Answer.value v) = Val v
+AnswerBy Val (Answer.descriptor d) = Unit {0}
+AnswerBy Val (Answer.keys ks) = Unit {0}
+AnswerBy Val (Answer.throw v) = Unit {0}
 
-abbrev pub WrittenBy : (Store → Type 0) → Written → Type 0
-WrittenBy OfStore w = OfStore (w .1)
+-- the rules of a relation that refusal 9 keeps; what is asked for follows from them
+pub record Asking (Val : Value → Type 0) : Type 1 where
+  pub reads : {A : Type 0} → (A → Type 0) → M A → M A → Type 0
+  pub gives : {A : Type 0} {Q : A → Type 0} (a : A) → Q a → reads Q (pure a) (pure a)
+  pub throws : {A : Type 0} {Q : A → Type 0} (i : ℕ) → Message i → reads Q (fails (TypeError i)) (fails (TypeError i))
+  pub unreadable : {A : Type 0} {Q : A → Type 0} → reads Q (fails {A = A} (Refused 9)) (fails (Refused 9))
+  pub binds-value : {B : Type 0} {Q : B → Type 0} {m m′ : M Value} {k k′ : Value → M B} → reads Val m m′ → ((v : Value) → Val v → reads Q (k v) (k′ v)) → reads Q (m >>= k) (m′ >>= k′)
+  pub asks : {B : Type 0} {Q : B → Type 0} {k k′ : Answer → M B} → ((a : Answer) → AnswerBy Val a → reads Q (k a) (k′ a)) → reads Q (ask >>= k) (ask >>= k′)
 
-pub record Rules (J : Judgement) (OfValue : Value → Type 0) : Type 1 where
-  pub yields : {A : Type 0} {Q : A → Type 0} (a : A) → Q a → J A (pure a) (pure a) Q
-  pub unreadable : {A : Type 0} {Q : A → Type 0} → J A (fails (Refused 9)) (fails (Refused 9)) Q
-  pub error : {A : Type 0} {Q : A → Type 0} (i : ℕ) → Message i → J A (fails (TypeError i)) (fails (TypeError i)) Q
-  pub throws : {A : Type 0} {Q : A → Type 0} {k k′ : M A} (i : ℕ) (b : Bool) → Message i → (b ≡ false → J A k k′ Q) → J A (throwIf i b >> k) (throwIf i b >> k′) Q
-  pub throws-any : {A : Type 0} {Q : A → Type 0} {k k′ : M A} (x : Option ℕ) → Messages x → (x ≡ none → J A k k′ Q) → J A (throwAny x >> k) (throwAny x >> k′) Q
-  pub binds : {A B : Type 0} {Q : B → Type 0} {m m′ : M A} {k k′ : A → M B} → J A m m′ (λ _. Unit {0}) → ((a : A) → J B (k a) (k′ a) Q) → J B (m >>= k) (m′ >>= k′) Q
-  pub binds-value : {B : Type 0} {Q : B → Type 0} {m m′ : M Value} {k k′ : Value → M B} → J Value m m′ OfValue → ((v : Value) → OfValue v → J B (k v) (k′ v) Q) → J B (m >>= k) (m′ >>= k′) Q
-  pub asks : {B : Type 0} {Q : B → Type 0} {k k′ : Answer → M B} → ((a : Answer) → AnswerBy OfValue a → J B (k a) (k′ a) Q) → J B (ask >>= k) (ask >>= k′) Q
-  -- of the result nothing need be known
-  pub any : {A : Type 0} {P : A → Type 0} {m m′ : M A} → J A m m′ P → J A m m′ (λ _. Unit {0})
-
--- what is known of objects, values and stores
-pub record Known (c : Context) (J : Judgement) (OfObject : ℕ → Type 0) (OfValue : Value → Type 0) (OfStore : Store → Type 0) : Type 1 where
-  pub full : {A : Type 0} {Q : A → Type 0} → isFull c ≡ true → J A (fails (Refused 7)) (fails (Refused 7)) Q
-  pub object : (v : Value) → OfValue v → (q : ℕ) → objectOf v ≡ some q → OfObject q
-  pub prototype : (o : ℕ) (r : OrdinaryObject) → lookup (c .store) o ≡ some (Ordinary r) → OfValue (r .prototype)
-  pub target : (o : ℕ) (p : ProxyObject) → lookup (c .store) o ≡ some (Proxy p) → OfObject (p .target)
-  pub idle : OfStore (c .store)
-  pub puts : (o : ℕ) (r : OrdinaryObject) → OfValue (r .prototype) → OfStore (put (c .store) o (Ordinary r))
-  pub with : (o : ℕ) (k : PropertyKey) (p : Property) → OfStore (withProperty (c .store) o k p)
-  pub without : (o : ℕ) (k : PropertyKey) → OfStore (withoutProperty (c .store) o k)
-
--- a call of a method is one of the method that the object has
-pub record Enters (c : Context) (J J⁺ : Judgement) (OfObject : ℕ → Type 0) : Type 1 where
-  pub enters : {A : Type 0} {Q : A → Type 0} {f f′ : OrdinaryObject → M A} {g g′ : ProxyObject → M A} (o : ℕ) → OfObject o
-      → ((r : OrdinaryObject) → lookup (c .store) o ≡ some (Ordinary r) → J A (f r) (f′ r) Q)
-      → ((p : ProxyObject) → lookup (c .store) o ≡ some (Proxy p) → J A (g p) (g′ p) Q)
-      → J⁺ A (dispatch (c .store) o f g) (dispatch (c .store) o f′ g′) Q
-
--- The answers -----------------------------------------------------------------------------
-
-module _ {J : Judgement} {OfValue : Value → Type 0} (law : Rules J OfValue) where
+module _ {Val : Value → Type 0} (J : Asking Val) where
   -- a number that is written is seen to be a message's
-  type-error : {A : Type 0} {Q : A → Type 0} (i : ℕ) → T (isMessage i) → J A (fails (TypeError i)) (fails (TypeError i)) Q
-  type-error i t = law .error i (message i t)
+  type-error : {A : Type 0} {Q : A → Type 0} (i : ℕ) → T (isMessage i) → J .reads Q (fails {A = A} (TypeError i)) (fails (TypeError i))
+  type-error i t = J .throws i (message i t)
 
-  throw-if : {A : Type 0} {Q : A → Type 0} {k k′ : M A} (i : ℕ) (b : Bool) → T (isMessage i) → (b ≡ false → J A k k′ Q) → J A (throwIf i b >> k) (throwIf i b >> k′) Q
-  throw-if i b t h = law .throws i b (message i t) h
-
-  by-if : {A : Type 0} {Q : A → Type 0} {m k m′ k′ : M A} (b : Bool) → (b ≡ true → J A m m′ Q) → (b ≡ false → J A k k′ Q) → J A (if_then_else_ b m k) (if_then_else_ b m′ k′) Q
-  unfolding if_then_else_
-  by-if true f g = f refl
-  by-if false f g = g refl
-
-  asValue-by : (a : Answer) → AnswerBy OfValue a → J Value (asValue a) (asValue a) OfValue
+  asValue-by : (a : Answer) → AnswerBy Val a → J .reads Val (asValue a) (asValue a)
   unfolding asValue
-  asValue-by (Answer.value v) m = law .yields v m
-  asValue-by (Answer.descriptor d) m = law .unreadable
-  asValue-by (Answer.keys ks) m = law .unreadable
-  asValue-by (Answer.throw v) m = law .unreadable
+  asValue-by (Answer.value v) m = J .gives v m
+  asValue-by (Answer.descriptor d) m = J .unreadable
+  asValue-by (Answer.keys ks) m = J .unreadable
+  asValue-by (Answer.throw v) m = J .unreadable
 
-  pub askValue-by : J Value askValue askValue OfValue
+  pub askValue-by : J .reads Val askValue askValue
   unfolding askValue
-  askValue-by = law .asks asValue-by
+  askValue-by = J .asks asValue-by
 
-  pub askBoolean-by : (strings : Strings) → J Bool (askBoolean strings) (askBoolean strings) (λ _. Unit {0})
-  unfolding askBoolean
-  askBoolean-by strings = law .binds-value askValue-by λ v _. law .yields _ tt
-
-  asPrototype-by : (v : Value) → OfValue v → J Value (asPrototype v) (asPrototype v) OfValue
+  asPrototype-by : (v : Value) → Val v → J .reads Val (asPrototype v) (asPrototype v)
   unfolding asPrototype
-  asPrototype-by value.Null m = law .yields _ m
-  asPrototype-by (value.Object o) m = law .yields _ m
-  asPrototype-by (value.Function f) m = law .unreadable
+  asPrototype-by value.Null m = J .gives _ m
+  asPrototype-by (value.Object o) m = J .gives _ m
+  asPrototype-by (value.Function f) m = J .unreadable
   asPrototype-by value.Undefined m = type-error 2 tt
   asPrototype-by (value.Boolean b) m = type-error 2 tt
   asPrototype-by (value.Integer32 i) m = type-error 2 tt
@@ -171,14 +203,14 @@ module _ {J : Judgement} {OfValue : Value → Type 0} (law : Rules J OfValue) wh
   asPrototype-by (value.String s) m = type-error 2 tt
   asPrototype-by (value.Symbol s) m = type-error 2 tt
 
-  pub askPrototype-by : J Value askPrototype askPrototype OfValue
+  pub askPrototype-by : J .reads Val askPrototype askPrototype
   unfolding askPrototype
-  askPrototype-by = law .binds-value askValue-by asPrototype-by
+  askPrototype-by = J .binds-value askValue-by asPrototype-by
 
-  undefinedDescriptor-by : (v : Value) → J (Option DescriptorObject) (undefinedDescriptor v) (undefinedDescriptor v) (λ _. Unit {0})
-  undefinedDescriptor-by value.Undefined = law .yields _ tt
-  undefinedDescriptor-by (value.Object o) = law .unreadable
-  undefinedDescriptor-by (value.Function f) = law .unreadable
+  undefinedDescriptor-by : (v : Value) → J .reads Any (undefinedDescriptor v) (undefinedDescriptor v)
+  undefinedDescriptor-by value.Undefined = J .gives _ tt
+  undefinedDescriptor-by (value.Object o) = J .unreadable
+  undefinedDescriptor-by (value.Function f) = J .unreadable
   undefinedDescriptor-by value.Null = type-error 7 tt
   undefinedDescriptor-by (value.Boolean b) = type-error 7 tt
   undefinedDescriptor-by (value.Integer32 i) = type-error 7 tt
@@ -186,24 +218,24 @@ module _ {J : Judgement} {OfValue : Value → Type 0} (law : Rules J OfValue) wh
   undefinedDescriptor-by (value.String s) = type-error 7 tt
   undefinedDescriptor-by (value.Symbol s) = type-error 7 tt
 
-  asDescriptor-by : (a : Answer) → AnswerBy OfValue a → J (Option DescriptorObject) (asDescriptor a) (asDescriptor a) (λ _. Unit {0})
+  asDescriptor-by : (a : Answer) → AnswerBy Val a → J .reads Any (asDescriptor a) (asDescriptor a)
   unfolding asDescriptor
   asDescriptor-by (Answer.value v) m = undefinedDescriptor-by v
-  asDescriptor-by (Answer.descriptor d) m = law .yields _ tt
-  asDescriptor-by (Answer.keys ks) m = law .unreadable
-  asDescriptor-by (Answer.throw v) m = law .unreadable
+  asDescriptor-by (Answer.descriptor d) m = J .gives _ tt
+  asDescriptor-by (Answer.keys ks) m = J .unreadable
+  asDescriptor-by (Answer.throw v) m = J .unreadable
 
-  pub askDescriptor-by : J (Option DescriptorObject) askDescriptor askDescriptor (λ _. Unit {0})
+  pub askDescriptor-by : J .reads Any askDescriptor askDescriptor
   unfolding askDescriptor
-  askDescriptor-by = law .asks asDescriptor-by
+  askDescriptor-by = J .asks asDescriptor-by
 
-  listed-by : (x : Option (List PropertyKey)) → J (List PropertyKey) (listed x) (listed x) (λ _. Unit {0})
+  listed-by : (x : Option (List PropertyKey)) → J .reads Any (listed x) (listed x)
   listed-by none = type-error 30 tt
-  listed-by (some ks) = law .yields _ tt
+  listed-by (some ks) = J .gives _ tt
 
-  unlisted-by : (v : Value) → J (List PropertyKey) (unlisted v) (unlisted v) (λ _. Unit {0})
-  unlisted-by (value.Object o) = law .unreadable
-  unlisted-by (value.Function f) = law .unreadable
+  unlisted-by : (v : Value) → J .reads Any (unlisted v) (unlisted v)
+  unlisted-by (value.Object o) = J .unreadable
+  unlisted-by (value.Function f) = J .unreadable
   unlisted-by value.Undefined = type-error 31 tt
   unlisted-by value.Null = type-error 31 tt
   unlisted-by (value.Boolean b) = type-error 31 tt
@@ -212,305 +244,368 @@ module _ {J : Judgement} {OfValue : Value → Type 0} (law : Rules J OfValue) wh
   unlisted-by (value.String s) = type-error 31 tt
   unlisted-by (value.Symbol s) = type-error 31 tt
 
-  asKeys-by : (a : Answer) → AnswerBy OfValue a → J (List PropertyKey) (asKeys a) (asKeys a) (λ _. Unit {0})
+  asKeys-by : (a : Answer) → AnswerBy Val a → J .reads Any (asKeys a) (asKeys a)
   unfolding asKeys
   asKeys-by (Answer.value v) m = unlisted-by v
-  asKeys-by (Answer.descriptor d) m = law .unreadable
+  asKeys-by (Answer.descriptor d) m = J .unreadable
   asKeys-by (Answer.keys vs) m = listed-by (keysOf vs)
-  asKeys-by (Answer.throw v) m = law .unreadable
+  asKeys-by (Answer.throw v) m = J .unreadable
 
-  pub askKeys-by : J (List PropertyKey) askKeys askKeys (λ _. Unit {0})
+  pub askKeys-by : J .reads Any askKeys askKeys
   unfolding askKeys
-  askKeys-by = law .asks asKeys-by
-
-  sorted-by : {getOwn getOwn′ : PropertyKey → M OwnProperty} → ((k : PropertyKey) → J OwnProperty (getOwn k) (getOwn′ k) (λ _. Unit {0}))
-      → (ks : List PropertyKey) → J Sorted (sorted getOwn ks) (sorted getOwn′ ks) (λ _. Unit {0})
-  unfolding sorted
-  sorted-by h [] = law .yields _ tt
-  sorted-by h (k ∷ ks) =
-      law .binds (h k) λ desc.
-      law .binds (sorted-by h ks) λ rest.
-      law .yields _ tt
+  askKeys-by = J .asks asKeys-by
 
 -- The methods -----------------------------------------------------------------------------
 
-pub record MethodsBy (J : Judgement) (OfObject : ℕ → Type 0) (OfValue : Value → Type 0) (OfStore : Store → Type 0) (call call′ : Methods) : Type 0 where
-  pub getPrototypeOf : (o : ℕ) → OfObject o → J Value (call .getPrototypeOf o) (call′ .getPrototypeOf o) OfValue
-  pub setPrototypeOf : (o : ℕ) (v : Value) → OfObject o → OfValue v → J Written (call .setPrototypeOf o v) (call′ .setPrototypeOf o v) (WrittenBy OfStore)
-  pub isExtensible : (o : ℕ) → OfObject o → J Bool (call .isExtensible o) (call′ .isExtensible o) (λ _. Unit {0})
-  pub preventExtensions : (o : ℕ) → OfObject o → J Written (call .preventExtensions o) (call′ .preventExtensions o) (WrittenBy OfStore)
-  pub getOwnProperty : (o : ℕ) (k : PropertyKey) → OfObject o → J OwnProperty (call .getOwnProperty o k) (call′ .getOwnProperty o k) (λ _. Unit {0})
-  pub defineOwnProperty : (o : ℕ) (k : PropertyKey) (d : PropertyDescriptor) → OfObject o → J Written (call .defineOwnProperty o k d) (call′ .defineOwnProperty o k d) (WrittenBy OfStore)
-  pub hasProperty : (o : ℕ) (k : PropertyKey) → OfObject o → J Bool (call .hasProperty o k) (call′ .hasProperty o k) (λ _. Unit {0})
-  pub get : (o : ℕ) (k : PropertyKey) (receiver : Value) → OfObject o → J Value (call .get o k receiver) (call′ .get o k receiver) (λ _. Unit {0})
-  pub set : (o : ℕ) (k : PropertyKey) (v receiver : Value) → OfObject o → OfValue receiver → J Written (call .set o k v receiver) (call′ .set o k v receiver) (WrittenBy OfStore)
-  pub delete : (o : ℕ) (k : PropertyKey) → OfObject o → J Written (call .delete o k) (call′ .delete o k) (WrittenBy OfStore)
-  pub ownPropertyKeys : (o : ℕ) → OfObject o → J (List PropertyKey) (call .ownPropertyKeys o) (call′ .ownPropertyKeys o) (λ _. Unit {0})
+module _ {c : Context} {allowance : ℕ} {Obj : ℕ → Type 0} {Val : Value → Type 0} {Own : ℕ → PropertyKey → OwnProperty → Type 0} (R : Relation c allowance Obj Val Own) where
+  abbrev c′ : Context
+  c′ = allowing c allowance
 
-module _ {c : Context} {J : Judgement} {OfObject : ℕ → Type 0} {OfValue : Value → Type 0} {OfStore : Store → Type 0} (law : Rules J OfValue) (known : Known c J OfObject OfValue OfStore) where
+  reads-if : {A : Type 0} {Q : A → Type 0} {m k m′ k′ : M A} (b : Bool) → R .reads Q m m′ → R .reads Q k k′ → R .reads Q (if_then_else_ b m k) (if_then_else_ b m′ k′)
+  unfolding if_then_else_
+  reads-if true f g = f
+  reads-if false f g = g
+
+  writes-if : {m k m′ k′ : M Written} (b : Bool) → R .writes m m′ → R .writes k k′ → R .writes (if_then_else_ b m k) (if_then_else_ b m′ k′)
+  unfolding if_then_else_
+  writes-if true f g = f
+  writes-if false f g = g
+
+  throws-if : (i : ℕ) (b : Bool) → T (isMessage i) → R .reads Any (throwIf i b) (throwIf i b)
+  unfolding throwIf
+  throws-if i true t = R .throws i (message i t)
+  throws-if i false t = R .gives tt tt
+
+  throws-any : (x : Option ℕ) → Messages x → R .reads Any (throwAny x) (throwAny x)
+  unfolding throwAny
+  throws-any none m = R .gives tt tt
+  throws-any (some i) m = R .throws i (m i refl)
+
   -- either case of a value that is an object or none
-  by-object : {A : Type 0} {Q : A → Type 0} {m m′ : M A} {k k′ : ℕ → M A} (v : Value) → OfValue v → J A m m′ Q → ((q : ℕ) → OfObject q → J A (k q) (k′ q) Q)
-      → J A (elim (objectOf v) [ none ↦ m | some q ↦ k q ]) (elim (objectOf v) [ none ↦ m′ | some q ↦ k′ q ]) Q
-  by-object {A} {Q} {m} {m′} {k} {k′} v h hm hk = go (objectOf v) refl
+  reads-object : {A : Type 0} {Q : A → Type 0} {m m′ : M A} {k k′ : ℕ → M A} (v : Value) → Val v → R .reads Q m m′ → ((q : ℕ) → Obj q → R .reads Q (k q) (k′ q))
+      → R .reads Q (elim (objectOf v) [ none ↦ m | some q ↦ k q ]) (elim (objectOf v) [ none ↦ m′ | some q ↦ k′ q ])
+  reads-object {A} {Q} {m} {m′} {k} {k′} v h hm hk = go (objectOf v) refl
     where
-      go : (x : Option ℕ) → objectOf v ≡ x → J A (elim x [ none ↦ m | some q ↦ k q ]) (elim x [ none ↦ m′ | some q ↦ k′ q ]) Q
+      go : (x : Option ℕ) → objectOf v ≡ x → R .reads Q (elim x [ none ↦ m | some q ↦ k q ]) (elim x [ none ↦ m′ | some q ↦ k′ q ])
       go none e = hm
-      go (some q) e = hk q (known .object v h q e)
+      go (some q) e = hk q (R .object v h q e)
 
-  setPrototypeOf-written : (o : ℕ) (r : OrdinaryObject) (v : Value) → OfValue v → WrittenBy OfStore (ordinarySetPrototypeOf (c .store) o r v)
-  unfolding ordinarySetPrototypeOf
-  setPrototypeOf-written o r v m = go (sameValue v (r .prototype)) (not (r .extensible)) (reaches (length (c .store .objects)) (c .store) o v)
+  writes-object : {m m′ : M Written} {k k′ : ℕ → M Written} (v : Value) → Val v → R .writes m m′ → ((q : ℕ) → Obj q → R .writes (k q) (k′ q))
+      → R .writes (elim (objectOf v) [ none ↦ m | some q ↦ k q ]) (elim (objectOf v) [ none ↦ m′ | some q ↦ k′ q ])
+  writes-object {m} {m′} {k} {k′} v h hm hk = go (objectOf v) refl
     where
-      go : (same fixed cyclic : Bool) → WrittenBy OfStore (cond same (true, c .store) (cond fixed (false, c .store) (cond cyclic (false, c .store) (true, put (c .store) o (withPrototype r v)))))
-      go true fixed cyclic = known .idle
-      go false true cyclic = known .idle
-      go false false true = known .idle
-      go false false false = known .puts o _ m
+      go : (x : Option ℕ) → objectOf v ≡ x → R .writes (elim x [ none ↦ m | some q ↦ k q ]) (elim x [ none ↦ m′ | some q ↦ k′ q ])
+      go none e = hm
+      go (some q) e = hk q (R .object v h q e)
 
-  applyValidation-by : (o : ℕ) (k : PropertyKey) (current : OwnProperty) (v : Validation) → J Written (applyValidation c o k current v) (applyValidation c o k current v) (WrittenBy OfStore)
-  unfolding applyValidation
-  applyValidation-by o k current Rejected = law .yields _ (known .idle)
-  applyValidation-by o k current Unchanged = law .yields _ (known .idle)
-  applyValidation-by o k Absent (Becomes p) =
-      by-if law _ (λ e. known .full e)
-      (λ _. law .yields _ (known .with o k p))
-  applyValidation-by o k (Present q) (Becomes p) = law .yields _ (known .with o k p)
+  asks-boolean : R .reads Any (askBoolean (c .strings)) (askBoolean (c .strings))
+  unfolding askBoolean
+  asks-boolean = R .binds-value (R .asks-value) λ v _. R .gives _ tt
 
-  module _ (call call′ : Methods) (h : MethodsBy J OfObject OfValue OfStore call call′) where
-    defineOwnProperty-ordinary : (o : ℕ) (k : PropertyKey) (d : PropertyDescriptor) → OfObject o
-        → J Written (ordinaryDefineOwnProperty c call o k d) (ordinaryDefineOwnProperty c call′ o k d) (WrittenBy OfStore)
+  sorted-by : {getOwn getOwn′ : PropertyKey → M OwnProperty} → ((k : PropertyKey) → R .reads Any (getOwn k) (getOwn′ k))
+      → (ks : List PropertyKey) → R .reads Any (sorted getOwn ks) (sorted getOwn′ ks)
+  unfolding sorted
+  sorted-by h [] = R .gives _ tt
+  sorted-by h (k ∷ ks) =
+      R .binds (h k) λ desc.
+      R .binds (sorted-by h ks) λ rest.
+      R .gives _ tt
+
+  setPrototypeOf-ordinary : (o : ℕ) (r : OrdinaryObject) (v : Value) → Val v → R .writes (pure (ordinarySetPrototypeOf (c .store) o r v)) (pure (ordinarySetPrototypeOf (c .store) o r v))
+  unfolding ordinarySetPrototypeOf
+  setPrototypeOf-ordinary o r v m = go (sameValue v (r .prototype)) (not (r .extensible)) (reaches (length (c .store .objects)) (c .store) o v)
+    where
+      go : (same fixed cyclic : Bool) → let w : Written = cond same (true, c .store) (cond fixed (false, c .store) (cond cyclic (false, c .store) (true, put (c .store) o (withPrototype r v)))) in R .writes (pure w) (pure w)
+      go true fixed cyclic = R .idle true
+      go false true cyclic = R .idle false
+      go false false true = R .idle false
+      go false false false = R .puts o _ m
+
+  -- A proxy's method: what it does without the trap (b says that there is none), or the trap's answer asked for first
+
+  pub data Trapped (b : Bool) {A B : Type 0} (P : A → Type 0) (Q : B → Type 0) (ask : M A) : M B → M B → Type 0 where
+    trapped : {m m′ : M B} {k k′ : A → M B} → R .reads P ask ask → R .reads Q m m′ → ((x : A) → P x → R .reads Q (k x) (k′ x))
+        → Trapped b P Q ask (if_then_else_ b m (ask >>= k)) (if_then_else_ b m′ (ask >>= k′))
+
+  pub data TrappedWrite (b : Bool) {A : Type 0} (P : A → Type 0) (ask : M A) : M Written → M Written → Type 0 where
+    trapped : {m m′ : M Written} {k k′ : A → M Written} → R .reads P ask ask → R .writes m m′ → ((x : A) → P x → R .writes (k x) (k′ x))
+        → TrappedWrite b P ask (if_then_else_ b m (ask >>= k)) (if_then_else_ b m′ (ask >>= k′))
+
+  -- a constructor's implicits are found only after its arguments, a function's before
+  trap : {b : Bool} {A B : Type 0} {P : A → Type 0} {Q : B → Type 0} {ask : M A} {m m′ : M B} {k k′ : A → M B} → R .reads P ask ask → R .reads Q m m′ → ((x : A) → P x → R .reads Q (k x) (k′ x))
+      → Trapped b P Q ask (if_then_else_ b m (ask >>= k)) (if_then_else_ b m′ (ask >>= k′))
+  trap ha hm hk = trapped ha hm hk
+
+  trap-write : {b : Bool} {A : Type 0} {P : A → Type 0} {ask : M A} {m m′ : M Written} {k k′ : A → M Written} → R .reads P ask ask → R .writes m m′ → ((x : A) → P x → R .writes (k x) (k′ x))
+      → TrappedWrite b P ask (if_then_else_ b m (ask >>= k)) (if_then_else_ b m′ (ask >>= k′))
+  trap-write ha hm hk = trapped ha hm hk
+
+  by-trap : {b : Bool} {A B : Type 0} {Q : B → Type 0} {ask : M A} {m m′ : M B} → Trapped b Any Q ask m m′ → R .reads Q m m′
+  by-trap {b} (trapped ha hm hk) = reads-if b hm (R .binds ha (λ x. hk x tt))
+
+  by-trap-value : {b : Bool} {B : Type 0} {Q : B → Type 0} {ask : M Value} {m m′ : M B} → Trapped b Val Q ask m m′ → R .reads Q m m′
+  by-trap-value {b} (trapped ha hm hk) = reads-if b hm (R .binds-value ha hk)
+
+  by-trap-write : {b : Bool} {A : Type 0} {ask : M A} {m m′ : M Written} → TrappedWrite b Any ask m m′ → R .writes m m′
+  by-trap-write {b} (trapped ha hm hk) = writes-if b hm (R .writes-binds ha (λ x. hk x tt))
+
+  module _ (call call′ : Methods) (h : RelatedMethods R call call′) where
+    own-of : (o : ℕ) (k : PropertyKey) → Obj o → R .reads Any (call .getOwnProperty o k) (call′ .getOwnProperty o k)
+    own-of o k m = R .weaken (λ _ _. tt) (h .getOwnProperty o k m)
+
+    defineOwnProperty-ordinary : (o : ℕ) (k : PropertyKey) (d : PropertyDescriptor) → Obj o → (r : OrdinaryObject) → lookup (c .store) o ≡ some (Ordinary r)
+        → R .writes (ordinaryDefineOwnProperty c call o k d) (ordinaryDefineOwnProperty c′ call′ o k d)
     unfolding ordinaryDefineOwnProperty
-    defineOwnProperty-ordinary o k d m =
-        law .binds (h .getOwnProperty o k m) λ current.
-        law .binds (h .isExtensible o m) λ extensible.
-        applyValidation-by o k current _
+    defineOwnProperty-ordinary o k d m r e =
+        R .writes-binds-own (h .getOwnProperty o k m) λ current found.
+        R .writes-binds (h .isExtensible o m) λ extensible.
+        R .applies o r e k current found _
 
-    hasProperty-ordinary : (o : ℕ) (k : PropertyKey) → OfObject o
-        → J Bool (ordinaryHasProperty call o k) (ordinaryHasProperty call′ o k) (λ _. Unit {0})
+    hasProperty-ordinary : (o : ℕ) (k : PropertyKey) → Obj o
+        → R .reads Any (ordinaryHasProperty call o k) (ordinaryHasProperty call′ o k)
     unfolding ordinaryHasProperty
     hasProperty-ordinary o k m =
-        law .binds (h .getOwnProperty o k m) (elim [
-          | Present p ↦ law .yields _ tt
+        R .binds (own-of o k m) (elim [
+          | Present p ↦ R .gives _ tt
           | Absent ↦
-              law .binds-value (h .getPrototypeOf o m) λ parent mp.
-              by-object parent mp (law .yields _ tt) λ q mq. h .hasProperty q k mq
+              R .binds-value (h .getPrototypeOf o m) λ parent mp.
+              reads-object parent mp (R .gives _ tt) λ q mq. h .hasProperty q k mq
         ])
 
-    get-ordinary : (o : ℕ) (k : PropertyKey) (receiver : Value) → OfObject o
-        → J Value (ordinaryGet call o k receiver) (ordinaryGet call′ o k receiver) (λ _. Unit {0})
+    get-ordinary : (o : ℕ) (k : PropertyKey) (receiver : Value) → Obj o
+        → R .reads Any (ordinaryGet call o k receiver) (ordinaryGet call′ o k receiver)
     unfolding ordinaryGet
     get-ordinary o k receiver m =
-        law .binds (h .getOwnProperty o k m) (elim [
+        R .binds (own-of o k m) (elim [
           | Absent ↦
-              law .binds-value (h .getPrototypeOf o m) λ parent mp.
-              by-object parent mp (law .yields _ tt) λ q mq. h .get q k receiver mq
-          | Present (Data v w e f) ↦ law .yields _ tt
-          | Present (Accessor g s e f) ↦ by-if law _ (λ _. law .yields _ tt) (λ _. law .any (askValue-by law))
+              R .binds-value (h .getPrototypeOf o m) λ parent mp.
+              reads-object parent mp (R .gives _ tt) λ q mq. h .get q k receiver mq
+          | Present (Data v w e f) ↦ R .gives _ tt
+          | Present (Accessor g s e f) ↦ reads-if _ (R .gives _ tt) (R .weaken (λ _ _. tt) (R .asks-value))
         ])
 
-    setOnReceiver-by : (k : PropertyKey) (v : Value) (receiver : ℕ) → OfObject receiver
-        → J Written (setOnReceiver c call k v receiver) (setOnReceiver c call′ k v receiver) (WrittenBy OfStore)
+    setOnReceiver-by : (k : PropertyKey) (v : Value) (receiver : ℕ) → Obj receiver
+        → R .writes (setOnReceiver c call k v receiver) (setOnReceiver c′ call′ k v receiver)
     unfolding setOnReceiver
     setOnReceiver-by k v receiver m =
-        law .binds (h .getOwnProperty receiver k m) (elim [
-          | Present (Accessor g s e f) ↦ law .yields _ (known .idle)
-          | Present (Data w wr e f) ↦ by-if law _ (λ _. law .yields _ (known .idle)) (λ _. h .defineOwnProperty receiver k _ m)
+        R .writes-binds (own-of receiver k m) (elim [
+          | Present (Accessor g s e f) ↦ R .idle _
+          | Present (Data w wr e f) ↦ writes-if _ (R .idle _) (h .defineOwnProperty receiver k _ m)
           | Absent ↦ h .defineOwnProperty receiver k _ m
         ])
 
-    setData-by : (k : PropertyKey) (v : Value) (writable : Bool) (receiver : Value) → OfValue receiver
-        → J Written (setData c call k v writable receiver) (setData c call′ k v writable receiver) (WrittenBy OfStore)
+    setData-by : (k : PropertyKey) (v : Value) (writable : Bool) (receiver : Value) → Val receiver
+        → R .writes (setData c call k v writable receiver) (setData c′ call′ k v writable receiver)
     unfolding setData
     setData-by k v writable receiver mr =
-        by-if law _ (λ _. law .yields _ (known .idle))
-        (λ _. by-object receiver mr (law .yields _ (known .idle)) λ q m. setOnReceiver-by k v q m)
+        writes-if _ (R .idle _)
+        (writes-object receiver mr (R .idle _) λ q m. setOnReceiver-by k v q m)
 
-    set-ordinary : (o : ℕ) (k : PropertyKey) (v receiver : Value) → OfObject o → OfValue receiver
-        → J Written (ordinarySet c call o k v receiver) (ordinarySet c call′ o k v receiver) (WrittenBy OfStore)
+    set-ordinary : (o : ℕ) (k : PropertyKey) (v receiver : Value) → Obj o → Val receiver
+        → R .writes (ordinarySet c call o k v receiver) (ordinarySet c′ call′ o k v receiver)
     unfolding ordinarySet
     set-ordinary o k v receiver m mr =
-        law .binds (h .getOwnProperty o k m) (elim [
+        R .writes-binds (own-of o k m) (elim [
           | Absent ↦
-              law .binds-value (h .getPrototypeOf o m) λ parent mp.
-              by-object parent mp (setData-by k v true receiver mr) λ q mq. h .set q k v receiver mq mr
+              R .writes-binds-value (h .getPrototypeOf o m) λ parent mp.
+              writes-object parent mp (setData-by k v true receiver mr) λ q mq. h .set q k v receiver mq mr
           | Present (Data w wr e f) ↦ setData-by k v wr receiver mr
           | Present (Accessor g s e f) ↦
-              by-if law _ (λ _. law .yields _ (known .idle))
-              (λ _. law .binds-value (askValue-by law) λ _ _. law .yields _ (known .idle))
+              writes-if _ (R .idle _)
+              (R .writes-binds-value (R .asks-value) λ _ _. R .idle _)
         ])
 
-    delete-ordinary : (o : ℕ) (k : PropertyKey) → OfObject o
-        → J Written (ordinaryDelete c call o k) (ordinaryDelete c call′ o k) (WrittenBy OfStore)
+    delete-ordinary : (o : ℕ) (k : PropertyKey) → Obj o
+        → R .writes (ordinaryDelete c call o k) (ordinaryDelete c′ call′ o k)
     unfolding ordinaryDelete
     delete-ordinary o k m =
-        law .binds (h .getOwnProperty o k m) (elim [
-          | Absent ↦ law .yields _ (known .idle)
-          | Present p ↦ by-if law _ (λ _. law .yields _ (known .without o k)) (λ _. law .yields _ (known .idle))
+        R .writes-binds (own-of o k m) (elim [
+          | Absent ↦ R .idle _
+          | Present p ↦ writes-if _ (R .removes o k) (R .idle _)
         ])
 
-    module _ (p : ProxyObject) (m : OfObject (p .target)) where
-      getPrototypeOf-proxy : J Value (proxyGetPrototypeOf call p) (proxyGetPrototypeOf call′ p) OfValue
+    module _ (p : ProxyObject) (m : Obj (p .target)) where
+      pub getPrototypeOf-proxy : Trapped (not (hasTrap p 0)) Val Val askPrototype (proxyGetPrototypeOf call p) (proxyGetPrototypeOf call′ p)
       unfolding proxyGetPrototypeOf
       getPrototypeOf-proxy =
-          by-if law _ (λ _. h .getPrototypeOf (p .target) m)
-          (λ _. law .binds-value (askPrototype-by law) λ handlerProto mh.
-          law .binds (h .isExtensible (p .target) m) λ extensibleTarget.
-          by-if law _ (λ _. law .yields _ mh)
-          (λ _. law .binds-value (h .getPrototypeOf (p .target) m) λ targetProto _.
-          throw-if law _ _ tt λ _.
-          law .yields _ mh))
+          trap (R .asks-prototype) (h .getPrototypeOf (p .target) m)
+          (λ handlerProto mh.
+          R .binds (h .isExtensible (p .target) m) λ extensibleTarget.
+          reads-if _ (R .gives _ mh)
+          (R .binds-value (h .getPrototypeOf (p .target) m) λ targetProto _.
+          R .binds (throws-if _ _ tt) λ _.
+          R .gives _ mh))
 
-      setPrototypeOf-proxy : (v : Value) → OfValue v → J Written (proxySetPrototypeOf c call p v) (proxySetPrototypeOf c call′ p v) (WrittenBy OfStore)
+      pub setPrototypeOf-proxy : (v : Value) → Val v → TrappedWrite (not (hasTrap p 1)) Any (askBoolean (c .strings)) (proxySetPrototypeOf c call p v) (proxySetPrototypeOf c′ call′ p v)
       unfolding proxySetPrototypeOf
       setPrototypeOf-proxy v mv =
-          by-if law _ (λ _. h .setPrototypeOf (p .target) v m mv)
-          (λ _. law .binds (askBoolean-by law (c .strings)) λ booleanTrapResult.
-          by-if law _ (λ _. law .yields _ (known .idle))
-          (λ _. law .binds (h .isExtensible (p .target) m) λ extensibleTarget.
-          by-if law _ (λ _. law .yields _ (known .idle))
-          (λ _. law .binds-value (h .getPrototypeOf (p .target) m) λ targetProto _.
-          throw-if law _ _ tt λ _.
-          law .yields _ (known .idle))))
+          trap-write asks-boolean (h .setPrototypeOf (p .target) v m mv)
+          (λ booleanTrapResult _.
+          writes-if _ (R .idle _)
+          (R .writes-binds (h .isExtensible (p .target) m) λ extensibleTarget.
+          writes-if _ (R .idle _)
+          (R .writes-binds-value (h .getPrototypeOf (p .target) m) λ targetProto _.
+          R .writes-binds (throws-if _ _ tt) λ _.
+          R .idle _)))
 
-      isExtensible-proxy : J Bool (proxyIsExtensible c call p) (proxyIsExtensible c call′ p) (λ _. Unit {0})
+      pub isExtensible-proxy : Trapped (not (hasTrap p 2)) Any Any (askBoolean (c .strings)) (proxyIsExtensible c call p) (proxyIsExtensible c′ call′ p)
       unfolding proxyIsExtensible
       isExtensible-proxy =
-          by-if law _ (λ _. h .isExtensible (p .target) m)
-          (λ _. law .binds (askBoolean-by law (c .strings)) λ booleanTrapResult.
-          law .binds (h .isExtensible (p .target) m) λ targetResult.
-          throw-if law _ _ tt λ _.
-          law .yields _ tt)
+          trap asks-boolean (h .isExtensible (p .target) m)
+          (λ booleanTrapResult _.
+          R .binds (h .isExtensible (p .target) m) λ targetResult.
+          R .binds (throws-if _ _ tt) λ _.
+          R .gives _ tt)
 
-      preventExtensions-proxy : J Written (proxyPreventExtensions c call p) (proxyPreventExtensions c call′ p) (WrittenBy OfStore)
+      pub preventExtensions-proxy : TrappedWrite (not (hasTrap p 3)) Any (askBoolean (c .strings)) (proxyPreventExtensions c call p) (proxyPreventExtensions c′ call′ p)
       unfolding proxyPreventExtensions
       preventExtensions-proxy =
-          by-if law _ (λ _. h .preventExtensions (p .target) m)
-          (λ _. law .binds (askBoolean-by law (c .strings)) λ booleanTrapResult.
-          by-if law _ (λ _. law .yields _ (known .idle))
-          (λ _. law .binds (h .isExtensible (p .target) m) λ extensibleTarget.
-          throw-if law _ _ tt λ _.
-          law .yields _ (known .idle)))
+          trap-write asks-boolean (h .preventExtensions (p .target) m)
+          (λ booleanTrapResult _.
+          writes-if _ (R .idle _)
+          (R .writes-binds (h .isExtensible (p .target) m) λ extensibleTarget.
+          R .writes-binds (throws-if _ _ tt) λ _.
+          R .idle _))
 
-      getOwnProperty-proxy : (k : PropertyKey) → J OwnProperty (proxyGetOwnProperty call p k) (proxyGetOwnProperty call′ p k) (λ _. Unit {0})
+      pub getOwnProperty-proxy : (k : PropertyKey) → Trapped (not (hasTrap p 4)) Any Any askDescriptor (proxyGetOwnProperty call p k) (proxyGetOwnProperty call′ p k)
       unfolding proxyGetOwnProperty
       getOwnProperty-proxy k =
-          by-if law _ (λ _. h .getOwnProperty (p .target) k m)
-          (λ _. law .binds (askDescriptor-by law) λ trapResultObj.
-          law .binds (h .getOwnProperty (p .target) k m) λ targetDesc.
+          trap (R .asks-descriptor) (own-of (p .target) k m)
+          (λ trapResultObj _.
+          R .binds (own-of (p .target) k m) λ targetDesc.
           elim trapResultObj [
             | none ↦ elim targetDesc [
-              | Absent ↦ law .yields _ tt
+              | Absent ↦ R .gives _ tt
               | Present target ↦
-                  throw-if law _ _ tt λ _.
-                  law .binds (h .isExtensible (p .target) m) λ extensibleTarget.
-                  throw-if law _ _ tt λ _.
-                  law .yields _ tt
+                  R .binds (throws-if _ _ tt) λ _.
+                  R .binds (h .isExtensible (p .target) m) λ extensibleTarget.
+                  R .binds (throws-if _ _ tt) λ _.
+                  R .gives _ tt
             ]
             | some object ↦
-                law .binds (h .isExtensible (p .target) m) λ extensibleTarget.
-                throw-if law _ _ tt λ _.
-                throw-if law _ _ tt λ _.
-                throw-if law _ _ tt λ _.
-                throw-if law _ _ tt λ _.
-                throw-if law _ _ tt λ _.
-                throw-if law _ _ tt λ _.
-                law .yields _ tt
+                R .binds (h .isExtensible (p .target) m) λ extensibleTarget.
+                R .binds (throws-if _ _ tt) λ _.
+                R .binds (throws-if _ _ tt) λ _.
+                R .binds (throws-if _ _ tt) λ _.
+                R .binds (throws-if _ _ tt) λ _.
+                R .binds (throws-if _ _ tt) λ _.
+                R .binds (throws-if _ _ tt) λ _.
+                R .gives _ tt
           ])
 
-      defineOwnProperty-proxy : (k : PropertyKey) (d : PropertyDescriptor) → J Written (proxyDefineOwnProperty c call p k d) (proxyDefineOwnProperty c call′ p k d) (WrittenBy OfStore)
+      pub defineOwnProperty-proxy : (k : PropertyKey) (d : PropertyDescriptor) → TrappedWrite (not (hasTrap p 5)) Any (askBoolean (c .strings)) (proxyDefineOwnProperty c call p k d) (proxyDefineOwnProperty c′ call′ p k d)
       unfolding proxyDefineOwnProperty
       defineOwnProperty-proxy k d =
-          by-if law _ (λ _. h .defineOwnProperty (p .target) k d m)
-          (λ _. law .binds (askBoolean-by law (c .strings)) λ booleanTrapResult.
-          by-if law _ (λ _. law .yields _ (known .idle))
-          (λ _. law .binds (h .getOwnProperty (p .target) k m) λ targetDesc.
-          law .binds (h .isExtensible (p .target) m) λ extensibleTarget.
+          trap-write asks-boolean (h .defineOwnProperty (p .target) k d m)
+          (λ booleanTrapResult _.
+          writes-if _ (R .idle _)
+          (R .writes-binds (own-of (p .target) k m) λ targetDesc.
+          R .writes-binds (h .isExtensible (p .target) m) λ extensibleTarget.
           elim targetDesc [
             | Absent ↦
-                throw-if law _ _ tt λ _.
-                throw-if law _ _ tt λ _.
-                law .yields _ (known .idle)
+                R .writes-binds (throws-if _ _ tt) λ _.
+                R .writes-binds (throws-if _ _ tt) λ _.
+                R .idle _
             | Present target ↦
-                throw-if law _ _ tt λ _.
-                throw-if law _ _ tt λ _.
-                throw-if law _ _ tt λ _.
-                law .yields _ (known .idle)
+                R .writes-binds (throws-if _ _ tt) λ _.
+                R .writes-binds (throws-if _ _ tt) λ _.
+                R .writes-binds (throws-if _ _ tt) λ _.
+                R .idle _
           ]))
 
-      hasProperty-proxy : (k : PropertyKey) → J Bool (proxyHasProperty c call p k) (proxyHasProperty c call′ p k) (λ _. Unit {0})
+      pub hasProperty-proxy : (k : PropertyKey) → Trapped (not (hasTrap p 6)) Any Any (askBoolean (c .strings)) (proxyHasProperty c call p k) (proxyHasProperty c′ call′ p k)
       unfolding proxyHasProperty
       hasProperty-proxy k =
-          by-if law _ (λ _. h .hasProperty (p .target) k m)
-          (λ _. law .binds (askBoolean-by law (c .strings)) λ booleanTrapResult.
-          by-if law _ (λ _. law .yields _ tt)
-          (λ _. law .binds (h .getOwnProperty (p .target) k m) (elim [
-            | Absent ↦ law .yields _ tt
+          trap asks-boolean (h .hasProperty (p .target) k m)
+          (λ booleanTrapResult _.
+          reads-if _ (R .gives _ tt)
+          (R .binds (own-of (p .target) k m) (elim [
+            | Absent ↦ R .gives _ tt
             | Present target ↦
-                throw-if law _ _ tt λ _.
-                law .binds (h .isExtensible (p .target) m) λ extensibleTarget.
-                throw-if law _ _ tt λ _.
-                law .yields _ tt
+                R .binds (throws-if _ _ tt) λ _.
+                R .binds (h .isExtensible (p .target) m) λ extensibleTarget.
+                R .binds (throws-if _ _ tt) λ _.
+                R .gives _ tt
           ])))
 
-      get-proxy : (k : PropertyKey) (receiver : Value) → J Value (proxyGet call p k receiver) (proxyGet call′ p k receiver) (λ _. Unit {0})
+      pub get-proxy : (k : PropertyKey) (receiver : Value) → Trapped (not (hasTrap p 7)) Val Any askValue (proxyGet call p k receiver) (proxyGet call′ p k receiver)
       unfolding proxyGet
       get-proxy k receiver =
-          by-if law _ (λ _. h .get (p .target) k receiver m)
-          (λ _. law .binds-value (askValue-by law) λ trapResult _.
-          law .binds (h .getOwnProperty (p .target) k m) λ targetDesc.
-          throw-if law _ _ tt λ _.
-          throw-if law _ _ tt λ _.
-          law .yields _ tt)
+          trap (R .asks-value) (h .get (p .target) k receiver m)
+          (λ trapResult _.
+          R .binds (own-of (p .target) k m) λ targetDesc.
+          R .binds (throws-if _ _ tt) λ _.
+          R .binds (throws-if _ _ tt) λ _.
+          R .gives _ tt)
 
-      set-proxy : (k : PropertyKey) (v receiver : Value) → OfValue receiver → J Written (proxySet c call p k v receiver) (proxySet c call′ p k v receiver) (WrittenBy OfStore)
+      pub set-proxy : (k : PropertyKey) (v receiver : Value) → Val receiver → TrappedWrite (not (hasTrap p 8)) Any (askBoolean (c .strings)) (proxySet c call p k v receiver) (proxySet c′ call′ p k v receiver)
       unfolding proxySet
       set-proxy k v receiver mr =
-          by-if law _ (λ _. h .set (p .target) k v receiver m mr)
-          (λ _. law .binds (askBoolean-by law (c .strings)) λ booleanTrapResult.
-          by-if law _ (λ _. law .yields _ (known .idle))
-          (λ _. law .binds (h .getOwnProperty (p .target) k m) λ targetDesc.
-          throw-if law _ _ tt λ _.
-          throw-if law _ _ tt λ _.
-          law .yields _ (known .idle)))
+          trap-write asks-boolean (h .set (p .target) k v receiver m mr)
+          (λ booleanTrapResult _.
+          writes-if _ (R .idle _)
+          (R .writes-binds (own-of (p .target) k m) λ targetDesc.
+          R .writes-binds (throws-if _ _ tt) λ _.
+          R .writes-binds (throws-if _ _ tt) λ _.
+          R .idle _))
 
-      delete-proxy : (k : PropertyKey) → J Written (proxyDelete c call p k) (proxyDelete c call′ p k) (WrittenBy OfStore)
+      pub delete-proxy : (k : PropertyKey) → TrappedWrite (not (hasTrap p 9)) Any (askBoolean (c .strings)) (proxyDelete c call p k) (proxyDelete c′ call′ p k)
       unfolding proxyDelete
       delete-proxy k =
-          by-if law _ (λ _. h .delete (p .target) k m)
-          (λ _. law .binds (askBoolean-by law (c .strings)) λ booleanTrapResult.
-          by-if law _ (λ _. law .yields _ (known .idle))
-          (λ _. law .binds (h .getOwnProperty (p .target) k m) (elim [
-            | Absent ↦ law .yields _ (known .idle)
+          trap-write asks-boolean (h .delete (p .target) k m)
+          (λ booleanTrapResult _.
+          writes-if _ (R .idle _)
+          (R .writes-binds (own-of (p .target) k m) (elim [
+            | Absent ↦ R .idle _
             | Present target ↦
-                throw-if law _ _ tt λ _.
-                law .binds (h .isExtensible (p .target) m) λ extensibleTarget.
-                throw-if law _ _ tt λ _.
-                law .yields _ (known .idle)
+                R .writes-binds (throws-if _ _ tt) λ _.
+                R .writes-binds (h .isExtensible (p .target) m) λ extensibleTarget.
+                R .writes-binds (throws-if _ _ tt) λ _.
+                R .idle _
           ])))
 
-      ownPropertyKeys-proxy : J (List PropertyKey) (proxyOwnPropertyKeys call p) (proxyOwnPropertyKeys call′ p) (λ _. Unit {0})
+      pub ownPropertyKeys-proxy : Trapped (not (hasTrap p 10)) Any Any askKeys (proxyOwnPropertyKeys call p) (proxyOwnPropertyKeys call′ p)
       unfolding proxyOwnPropertyKeys
       ownPropertyKeys-proxy =
-          by-if law _ (λ _. h .ownPropertyKeys (p .target) m)
-          (λ _. law .binds (askKeys-by law) λ trapResult.
-          law .throws-any _ (duplicate-messages [] trapResult) λ _.
-          law .binds (h .isExtensible (p .target) m) λ extensibleTarget.
-          law .binds (h .ownPropertyKeys (p .target) m) λ targetKeys.
-          law .binds (sorted-by law (λ k. h .getOwnProperty (p .target) k m) targetKeys) λ target.
-          law .throws-any _ (rejected-messages extensibleTarget target trapResult) λ _.
-          law .yields _ tt)
+          trap (R .asks-keys) (h .ownPropertyKeys (p .target) m)
+          (λ trapResult _.
+          R .binds (throws-any _ (duplicate-messages [] trapResult)) λ _.
+          R .binds (h .isExtensible (p .target) m) λ extensibleTarget.
+          R .binds (h .ownPropertyKeys (p .target) m) λ targetKeys.
+          R .binds (sorted-by (λ k. own-of (p .target) k m) targetKeys) λ target.
+          R .binds (throws-any _ (rejected-messages extensibleTarget target trapResult)) λ _.
+          R .gives _ tt)
 
-    pub level-by : (J⁺ : Judgement) → Enters c J J⁺ OfObject → MethodsBy J⁺ OfObject OfValue OfStore (level c call) (level c call′)
-    level-by J⁺ into = record {
-      getPrototypeOf = λ o m. into .enters o m (λ r e. law .yields _ (known .prototype o r e)) (λ p e. getPrototypeOf-proxy p (known .target o p e));
-      setPrototypeOf = λ o v m mv. into .enters o m (λ r e. law .yields _ (setPrototypeOf-written o r v mv)) (λ p e. setPrototypeOf-proxy p (known .target o p e) v mv);
-      isExtensible = λ o m. into .enters o m (λ r e. law .yields _ tt) (λ p e. isExtensible-proxy p (known .target o p e));
-      preventExtensions = λ o m. into .enters o m (λ r e. law .yields _ (known .puts o _ (known .prototype o r e))) (λ p e. preventExtensions-proxy p (known .target o p e));
-      getOwnProperty = λ o k m. into .enters o m (λ r e. law .yields _ tt) (λ p e. getOwnProperty-proxy p (known .target o p e) k);
-      defineOwnProperty = λ o k d m. into .enters o m (λ r e. defineOwnProperty-ordinary o k d m) (λ p e. defineOwnProperty-proxy p (known .target o p e) k d);
-      hasProperty = λ o k m. into .enters o m (λ r e. hasProperty-ordinary o k m) (λ p e. hasProperty-proxy p (known .target o p e) k);
-      get = λ o k receiver m. into .enters o m (λ r e. get-ordinary o k receiver m) (λ p e. get-proxy p (known .target o p e) k receiver);
-      set = λ o k v receiver m mr. into .enters o m (λ r e. set-ordinary o k v receiver m mr) (λ p e. set-proxy p (known .target o p e) k v receiver mr);
-      delete = λ o k m. into .enters o m (λ r e. delete-ordinary o k m) (λ p e. delete-proxy p (known .target o p e) k);
-      ownPropertyKeys = λ o m. into .enters o m (λ r e. law .yields _ tt) (λ p e. ownPropertyKeys-proxy p (known .target o p e));
+    pub level-by : (reads : (A : Type 0) → (A → Type 0) → M A → M A → Type 0) (writes : M Written → M Written → Type 0) → Enters R reads writes
+        → MethodsBy reads writes Obj Val Own (level c call) (level c′ call′)
+    level-by reads writes into = record {
+      getPrototypeOf = λ o m. into .reading o m (λ r e. R .gives _ (R .prototype o r e)) (λ p e. by-trap-value (getPrototypeOf-proxy p (R .target o p e)));
+      setPrototypeOf = λ o v m mv. into .writing o m (λ r e. setPrototypeOf-ordinary o r v mv) (λ p e. by-trap-write (setPrototypeOf-proxy p (R .target o p e) v mv));
+      isExtensible = λ o m. into .reading o m (λ r e. R .gives _ tt) (λ p e. by-trap (isExtensible-proxy p (R .target o p e)));
+      preventExtensions = λ o m. into .writing o m (λ r e. R .puts o _ (R .prototype o r e)) (λ p e. by-trap-write (preventExtensions-proxy p (R .target o p e)));
+      getOwnProperty = λ o k m. into .reading o m (λ r e. R .gives _ (R .own-found o r e k)) (λ p e. R .weaken (λ x _. R .own-answered o p e k x) (by-trap (getOwnProperty-proxy p (R .target o p e) k)));
+      defineOwnProperty = λ o k d m. into .writing o m (λ r e. defineOwnProperty-ordinary o k d m r e) (λ p e. by-trap-write (defineOwnProperty-proxy p (R .target o p e) k d));
+      hasProperty = λ o k m. into .reading o m (λ r e. hasProperty-ordinary o k m) (λ p e. by-trap (hasProperty-proxy p (R .target o p e) k));
+      get = λ o k receiver m. into .reading o m (λ r e. get-ordinary o k receiver m) (λ p e. by-trap-value (get-proxy p (R .target o p e) k receiver));
+      set = λ o k v receiver m mr. into .writing o m (λ r e. set-ordinary o k v receiver m mr) (λ p e. by-trap-write (set-proxy p (R .target o p e) k v receiver mr));
+      delete = λ o k m. into .writing o m (λ r e. delete-ordinary o k m) (λ p e. by-trap-write (delete-proxy p (R .target o p e) k));
+      ownPropertyKeys = λ o m. into .reading o m (λ r e. R .gives _ tt) (λ p e. by-trap (ownPropertyKeys-proxy p (R .target o p e)));
     }
+
+  -- a relation that does not go by the depth
+  pub methods-by : Stops R → Enters R (λ A Q m m′. R .reads Q m m′) (R .writes) → (n : ℕ) → RelatedMethods R (methods n c) (methods n c′)
+  unfolding methods
+  methods-by stops into zero = record {
+    getPrototypeOf = λ o _. stops .reads;
+    setPrototypeOf = λ o v _ _. stops .writes;
+    isExtensible = λ o _. stops .reads;
+    preventExtensions = λ o _. stops .writes;
+    getOwnProperty = λ o k _. stops .reads;
+    defineOwnProperty = λ o k d _. stops .writes;
+    hasProperty = λ o k _. stops .reads;
+    get = λ o k receiver _. stops .reads;
+    set = λ o k v receiver _ _. stops .writes;
+    delete = λ o k _. stops .writes;
+    ownPropertyKeys = λ o _. stops .reads;
+  }
+  methods-by stops into (suc n) = level-by (methods n c) (methods n c′) (methods-by stops into n) _ _ into

@@ -6,3 +6,4 @@ pub mod KeyList
 pub mod Ordinary
 pub mod Proxy
 pub mod Internal
+pub mod Readable

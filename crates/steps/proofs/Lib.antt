@@ -2,5 +2,6 @@ pub mod Steps
 pub mod Made
 pub mod Performed
 pub mod Performs
+pub mod Lifted
 pub mod Places
 pub mod Walk

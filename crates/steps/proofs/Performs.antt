@@ -18,7 +18,6 @@ use Rattle.internal_methods.specs.Monad.{Answer, State, Out, failed, done, M, p
 use Rattle.internal_methods.specs.Methods.{Context, Written}
 use Rattle.internal_methods.proofs.StoreClosed.{Made, MadeValue, MadeObject, Closed, closed-put, closed-object}
 use Rattle.internal_methods.proofs.Budget.{MadeAnswers, Met, Steady, KeptBy, steady-pure, steady-bind, steady-above, ends-alike, ends-failed, ends-done, SteadyMethods}
-use Rattle.internal_methods.proofs.Longer.{Longer, longer-pure, longer-fails, longer-bind, longer-if, methods-longer}
 use Rattle.steps.specs.Operation.{Operation, makeObject, makeProxy, revoke, getPrototypeOf, setPrototypeOf, isExtensible, preventExtensions, getOwnProperty, defineOwnProperty, hasProperty, get, set, delete, ownPropertyKeys}
 use Rattle.steps.specs.Perform.{Result, value, keys, ownResult, boolean, reading, writing, make, revoked, perform}
 use Rattle.steps.proofs.Made.{MadeOperation, closed-add}
@@ -93,32 +92,3 @@ module _ (c : Context) (n : ℕ) (closed : Closed (c .store)) where
   performs (set o k v receiver) m = by-method (set o k v receiver) (λ d d′ i i′. writes (steady-above n d d′ i i′ c closed .set o k v receiver (m .0) (m .1)))
   performs (delete o k) m = by-method (delete o k) (λ d d′ i i′. writes (steady-above n d d′ i i′ c closed .delete o k m))
   performs (ownPropertyKeys o) m = by-method (ownPropertyKeys o) (λ d d′ i i′. reads keys (steady-above n d d′ i i′ c closed .ownPropertyKeys o m))
-
--- What a longer sheet changes of an operation ---------------------------------------------
-
-make-longer : (σ : Store) (x : Object) → Longer (make σ x)
-unfolding make
-make-longer σ x = longer-if _ (longer-pure _) (longer-fails _)
-
-reading-longer : {A : Type 0} (σ : Store) (result : A → Result) {m : M A} → Longer m → Longer (reading σ result m)
-reading-longer σ result h = longer-bind h (λ a. longer-pure _)
-
-writing-longer : {m : M Written} → Longer m → Longer (writing m)
-writing-longer h = longer-bind h (λ a. longer-pure _)
-
-pub perform-longer : (n : ℕ) (c : Context) (asks : Operation) → Longer (perform n c asks)
-unfolding perform
-perform-longer n c (makeObject v) = make-longer (c .store) _
-perform-longer n c (makeProxy o traps) = make-longer (c .store) _
-perform-longer n c (revoke o) = longer-pure _
-perform-longer n c (getPrototypeOf o) = reading-longer _ value (methods-longer n c .getPrototypeOf o tt)
-perform-longer n c (setPrototypeOf o v) = writing-longer (methods-longer n c .setPrototypeOf o v tt tt)
-perform-longer n c (isExtensible o) = reading-longer _ boolean (methods-longer n c .isExtensible o tt)
-perform-longer n c (preventExtensions o) = writing-longer (methods-longer n c .preventExtensions o tt)
-perform-longer n c (getOwnProperty o k) = reading-longer _ ownResult (methods-longer n c .getOwnProperty o k tt)
-perform-longer n c (defineOwnProperty o k d) = writing-longer (methods-longer n c .defineOwnProperty o k d tt)
-perform-longer n c (hasProperty o k) = reading-longer _ boolean (methods-longer n c .hasProperty o k tt)
-perform-longer n c (get o k receiver) = reading-longer _ value (methods-longer n c .get o k receiver tt)
-perform-longer n c (set o k v receiver) = writing-longer (methods-longer n c .set o k v receiver tt tt)
-perform-longer n c (delete o k) = writing-longer (methods-longer n c .delete o k tt)
-perform-longer n c (ownPropertyKeys o) = reading-longer _ keys (methods-longer n c .ownPropertyKeys o tt)

@@ -1,5 +1,6 @@
 -- What a step asks for, by its code. Assumes nothing.
 use Prim.Native.Nat.{ℕ}
+use mathlib.Core.Bool.{Bool, true, false}
 use mathlib.Core.Option.{Option, none, some}
 use mathlib.Core.List.{List}
 use lib.Dec.{eqb}
@@ -31,6 +32,23 @@ pub data Operation : Type 0 where
   set : ℕ → PropertyKey → Value → Value → Operation
   delete : ℕ → PropertyKey → Operation
   ownPropertyKeys : ℕ → Operation
+
+-- codes 1 and 2
+abbrev pub makesObject : Operation → Bool
+makesObject (makeObject v) = true
+makesObject (makeProxy o traps) = true
+makesObject (revoke o) = false
+makesObject (getPrototypeOf o) = false
+makesObject (setPrototypeOf o v) = false
+makesObject (isExtensible o) = false
+makesObject (preventExtensions o) = false
+makesObject (getOwnProperty o k) = false
+makesObject (defineOwnProperty o k d) = false
+makesObject (hasProperty o k) = false
+makesObject (get o k receiver) = false
+makesObject (set o k v receiver) = false
+makesObject (delete o k) = false
+makesObject (ownPropertyKeys o) = false
 
 -- the key that a value is; one that is none is refused before it is asked for
 abbrev pub keyOrFirst : Option PropertyKey → PropertyKey
