@@ -1,6 +1,7 @@
 #!/bin/sh
-# The gate: formatting; `rt ci`, which proves everything from nothing and tries the must-fail edits; then, over what was just proved, calls against node's
-# own objects, the C program and the Rust crate's tests. It fails at the first that fails. The tally of `rt ci` is printed last.
+# The gate: formatting; that what the documents name is there; `rt ci`, which proves everything from nothing and tries the must-fail edits; then, over
+# what was just proved, calls against node's own objects, the C program and the Rust crate's tests. It fails at the first that fails. The tally of
+# `rt ci` is printed last.
 set -eu
 cd "$(dirname "$0")/.."
 log=$(mktemp)
@@ -10,6 +11,7 @@ RT_JOBS=${RT_JOBS:-$(($(nproc) * 2))}
 export RT_JOBS
 tests/install.sh node gcc cargo
 rt fmt --check
+node tests/paths.mjs
 { rt ci || echo 'rt ci failed'; } | tee "$log"
 grep -q ' passed, 0 failed$' "$log"
 make engine-check c-test bindings

@@ -1,5 +1,6 @@
 // Runs steps and string entries from the standard input over one store, and prints a line for each.
 // A call is a head of 8 bytes (1 step or 2 string, 0, and three 16-bit lengths: record, sheet, output), then the record and the sheet; tests/day.mjs makes them.
+// printing: a report as a line.
 use byte_records::numbers;
 ghost use Prim.Native.Nat.{_≤_};
 ghost use lib.ListN.{length};

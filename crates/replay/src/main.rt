@@ -1,5 +1,7 @@
 // Performs the calls that a JavaScript engine performed, and counts those that end otherwise here than there.
 // tests/engines/1-records.js has the layout of a line.
+// line_input: a line's bytes. entry_calls: the call. endings, readout: what it ends in, and the whole store, as bytes.
+// comparison: what differs from the line. tally: counts of all, printed.
 use crate::comparison::Ending;
 use byte_records::numbers;
 ghost use Prim.Native.Nat.{_<_, _≤_, _+_, _*_};
