@@ -4,14 +4,8 @@ use borrow.Author.Needs.{needs}
 use Rattle.demnyaluz.proofs.demnyaluz_complete.Statement.{statement}
 use Rattle.demnyaluz.proofs.demnyaluz_complete.Tie as tie
 
-complete-requires : tie.Need-complete-requires
-complete-requires c κs = search needs
-
-report-words-requires : tie.Need-report-words-requires
-report-words-requires c κs = search needs
-
 returns : tie.Need-returns
 returns c = c .report-words .ensures ∙ ap reportWords (c .before .complete .ensures)
 
 pub demnyaluz-complete-spec : {M : Type 1} → statement M
-demnyaluz-complete-spec = tie.close (tie.spec complete-requires report-words-requires returns)
+demnyaluz-complete-spec = tie.close (tie.spec (λ c κs. search needs) (λ c κs. search needs) returns)

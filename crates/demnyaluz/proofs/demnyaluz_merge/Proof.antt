@@ -4,14 +4,8 @@ use borrow.Author.Needs.{needs}
 use Rattle.demnyaluz.proofs.demnyaluz_merge.Statement.{statement}
 use Rattle.demnyaluz.proofs.demnyaluz_merge.Tie as tie
 
-merge-requires : tie.Need-merge-requires
-merge-requires c κs = search needs
-
-report-words-requires : tie.Need-report-words-requires
-report-words-requires c κs = search needs
-
 returns : tie.Need-returns
 returns c = c .report-words .ensures ∙ ap reportWords (c .before .merge .ensures)
 
 pub demnyaluz-merge-spec : {M : Type 1} → statement M
-demnyaluz-merge-spec = tie.close (tie.spec merge-requires report-words-requires returns)
+demnyaluz-merge-spec = tie.close (tie.spec (λ c κs. search needs) (λ c κs. search needs) returns)

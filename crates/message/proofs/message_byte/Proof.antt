@@ -6,15 +6,6 @@ use Rattle.message.proofs.Texts.{byte-right, no-byte, past-row, rowsOf}
 use Rattle.message.proofs.message_byte.Statement.{statement}
 use Rattle.message.proofs.message_byte.Tie as tie
 
-mul-result : tie.Need-mul-result
-mul-result c = search needs
-
-index-1-result : tie.Need-index-1-result
-index-1-result c = search needs
-
-index-2-result : tie.Need-index-2-result
-index-2-result c = search needs
-
 returns : tie.Need-returns
 unfolding rowsOf codes
 returns c = byte-right _ _ _ (search needs) (search needs)
@@ -26,4 +17,4 @@ returns-3 : tie.Need-returns-3
 returns-3 c = sym (no-byte _ (search needs) _)
 
 pub message-byte-spec : {M : Type 1} → statement M
-message-byte-spec = tie.close (tie.spec mul-result index-1-result index-2-result returns returns-2 returns-3)
+message-byte-spec = tie.close (tie.spec (λ c. search needs) (λ c. search needs) (λ c. search needs) returns returns-2 returns-3)

@@ -9,9 +9,6 @@ use Rattle.internal_methods.specs.Messages.{codes}
 use Rattle.message.proofs.message_length.Statement.{statement}
 use Rattle.message.proofs.message_length.Tie as tie
 
-array-read-result : tie.Need-array-read-result
-array-read-result c = search needs
-
 returns : tie.Need-returns
 unfolding lengthsOf codes
 returns c = length-right _ (search needs)
@@ -20,4 +17,4 @@ returns-2 : tie.Need-returns-2
 returns-2 c = sym (ap (λ (l : List ℕ). length l) (no-text _ (search needs)))
 
 pub message-length-spec : {M : Type 1} → statement M
-message-length-spec = tie.close (tie.spec array-read-result returns returns-2)
+message-length-spec = tie.close (tie.spec (λ c. search needs) returns returns-2)

@@ -6,14 +6,8 @@ use Rattle.reporting.proofs.completed.Lts as lts
 use Rattle.reporting.proofs.answers_used.Reads as answers-used-reads
 use Rattle.reporting.proofs.calls_made.Reads as calls-made-reads
 
-answers-used-requires : tie.Need-answers-used-requires
-answers-used-requires c κs = search needs
-
-calls-made-requires : tie.Need-calls-made-requires
-calls-made-requires c κs = search needs
-
 returns : tie.Need-returns
 returns c = rw (c .before .answers-used .ensures, c .calls-made .ensures)
 
 pub completed-spec : {M : Type 1} → statement M
-completed-spec = tie.close (tie.spec answers-used-requires calls-made-requires returns)
+completed-spec = tie.close (tie.spec (λ c κs. search needs) (λ c κs. search needs) returns)

@@ -9,15 +9,6 @@ use Rattle.calls.proofs.answers.as_undefined.Tie as tie
 use Rattle.calls.proofs.answers.as_undefined.Reads as reads
 use Rattle.calls.proofs.answers.as_undefined.Lts as lts
 
-enum-told : tie.Need-enum-told
-enum-told c = search needs
-
-enum-told-2 : tie.Need-enum-told-2
-enum-told-2 c = search needs
-
-enum-told-3 : tie.Need-enum-told-3
-enum-told-3 c = search needs
-
 returns : tie.Need-returns
 unfolding pure fails asPrototype
 returns c = λ bytes. rw (c .enum-told .given .1)
@@ -36,4 +27,4 @@ returns-4 c = λ bytes. no-descriptor (stateOf bytes (c .before .args .s)) (c .b
 
 pub as-undefined-spec : {M : Type 1} → statement M
 as-undefined-spec =
-    tie.close (tie.spec enum-told enum-told-2 enum-told-3 returns returns-2 returns-3 returns-4)
+    tie.close (tie.spec (λ c. search needs) (λ c. search needs) (λ c. search needs) returns returns-2 returns-3 returns-4)

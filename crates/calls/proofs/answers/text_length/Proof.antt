@@ -10,12 +10,6 @@ use Rattle.calls.proofs.answers.text_length.Reads as reads
 use Rattle.calls.proofs.answers.text_length.Lts as lts
 use Rattle.text.proofs.length_of.Reads as length-of-reads
 
-enum-known-v : tie.Need-enum-known-v
-enum-known-v c = search needs
-
-length-of-requires : tie.Need-length-of-requires
-length-of-requires c κs = search needs
-
 returns : tie.Need-returns
 returns c = rw (c .before .before .v .given .1, sym (read-table _ (c .before .before .before .before .before .pre))) (c .length-of .ensures)
 
@@ -23,4 +17,4 @@ returns-2 : tie.Need-returns-2
 returns-2 c = no-text (stringsOf (now (c .before .before .args .strings))) (c .before .before .args .v) (c .match .keys2)
 
 pub text-length-spec : {M : Type 1} → statement M
-text-length-spec = tie.close (tie.spec enum-known-v length-of-requires returns returns-2)
+text-length-spec = tie.close (tie.spec (λ c. search needs) (λ c κs. search needs) returns returns-2)

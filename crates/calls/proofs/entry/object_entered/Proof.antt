@@ -4,12 +4,6 @@ use Rattle.calls.proofs.entry.object_entered.Tie as tie
 use Rattle.calls.proofs.entry.object_entered.Reads as reads
 use Rattle.calls.proofs.entry.object_entered.Lts as lts
 
-enum-known-x : tie.Need-enum-known-x
-enum-known-x c = search needs
-
-enum-known-x-2 : tie.Need-enum-known-x-2
-enum-known-x-2 c = search needs
-
 returns : tie.Need-returns
 returns c = rw (c .before .before .x2 .given .1, c .if1 .taken)
 
@@ -20,4 +14,4 @@ returns-3 : tie.Need-returns-3
 returns-3 c = rw (c .before .before .x2 .given .1, c .if1 .left)
 
 pub object-entered-spec : {M : Type 1} → statement M
-object-entered-spec = tie.close (tie.spec enum-known-x enum-known-x-2 returns returns-2 returns-3)
+object-entered-spec = tie.close (tie.spec (λ c. search needs) (λ c. search needs) returns returns-2 returns-3)

@@ -6,12 +6,6 @@ use Rattle.own_keys.proofs.answered.unlisted_failure.Tie as tie
 use Rattle.own_keys.proofs.answered.unlisted_failure.Reads as reads
 use Rattle.own_keys.proofs.answered.unlisted_failure.Lts as lts
 
-enum-told : tie.Need-enum-told
-enum-told c = search needs
-
-enum-told-2 : tie.Need-enum-told-2
-enum-told-2 c = search needs
-
 returns : tie.Need-returns
 unfolding fails
 returns c = λ s. rw (c .enum-told .given .1)
@@ -25,4 +19,4 @@ unfolding fails
 returns-3 c = λ s. no-list s (c .before .args .v) (c .match .keys3)
 
 pub unlisted-failure-spec : {M : Type 1} → statement M
-unlisted-failure-spec = tie.close (tie.spec enum-told enum-told-2 returns returns-2 returns-3)
+unlisted-failure-spec = tie.close (tie.spec (λ c. search needs) (λ c. search needs) returns returns-2 returns-3)

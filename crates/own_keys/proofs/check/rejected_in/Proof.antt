@@ -7,18 +7,12 @@ use Rattle.own_keys.proofs.check.rejected_in.Lts as lts
 use Rattle.key_lists.proofs.key_bytes.load_keys.Reads as load-keys-reads
 use Rattle.key_lists.proofs.target_keys.rejected_marked.Reads as rejected-marked-reads
 
-load-keys-requires : tie.Need-load-keys-requires
-load-keys-requires c κs = search needs
-
 rejected-marked-requires : tie.Need-rejected-marked-requires
 rejected-marked-requires c κs = (omega (arith, c .before .before .before .before .before .before .before .before .before .pre .0), (omega (arith, c .before .before .before .before .before .before .before .before .before .pre .1 .0), (c .before .before .before .before .before .before .before .before .before .pre .1 .1 .0, (omega (arith, c .before .before .before .before .before .before .before .before .before .pre .1 .1 .1 .0 .few, c .before .before .before .before .before .before .before .before .before .pre .1 .1 .1 .1, c .before .before .list .given), c .before .before .before .load-keys .ensures .1))))
-
-same-length : tie.Need-same-length
-same-length c = search needs
 
 returns : tie.Need-returns
 returns c = rw (c .before .before .rejected-marked .ensures, c .before .before .before .before .before .before .load-keys .ensures .0 .listed)
 
 pub rejected-in-spec : {M : Type 1} → statement M
 rejected-in-spec =
-    tie.close (tie.spec load-keys-requires rejected-marked-requires same-length returns)
+    tie.close (tie.spec (λ c κs. search needs) rejected-marked-requires (λ c. search needs) returns)

@@ -14,9 +14,6 @@ use Rattle.performing.proofs.creation.make.Reads as reads
 use Rattle.performing.proofs.creation.make.Lts as lts
 use Rattle.store_read.proofs.object_count.Reads as object-count-reads
 
-object-count-requires : tie.Need-object-count-requires
-object-count-requires c κs = search needs
-
 returns : tie.Need-returns
 unfolding makeOut
 returns c = (rw (sym (c .before .object-count .ensures .0), lt-ltb _ _ (c .if1 .taken)), (record { store = c .before .before .before .pre; bounds = omega (arith, object-length (now (c .before .before .before .args .words)), c .before .object-count .ensures .0, c .if1 .taken) }, refl))
@@ -26,4 +23,4 @@ unfolding makeOut
 returns-2 c = (rw (sym (c .before .object-count .ensures .0), le-ltb _ _ (c .if1 .left)), tt)
 
 pub make-spec : {M : Type 1} → statement M
-make-spec = tie.close (tie.spec object-count-requires returns returns-2)
+make-spec = tie.close (tie.spec (λ c κs. search needs) returns returns-2)

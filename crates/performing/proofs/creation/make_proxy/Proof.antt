@@ -13,14 +13,8 @@ use Rattle.performing.proofs.creation.make_proxy.Lts as lts
 use Rattle.performing.proofs.creation.make.Reads as make-reads
 use Rattle.performing.proofs.creation.mask_of.Reads as mask-of-reads
 
-mask-of-requires : tie.Need-mask-of-requires
-mask-of-requires c κs = search needs
-
-make-requires : tie.Need-make-requires
-make-requires c κs = search needs
-
 returns : tie.Need-returns
 returns c = rw (sym (c .before .mask-of .ensures)) (c .make .ensures)
 
 pub make-proxy-spec : {M : Type 1} → statement M
-make-proxy-spec = tie.close (tie.spec mask-of-requires make-requires returns)
+make-proxy-spec = tie.close (tie.spec (λ c κs. search needs) (λ c κs. search needs) returns)

@@ -11,12 +11,6 @@ use Rattle.performing.proofs.creation.mask_of.Reads as reads
 use Rattle.performing.proofs.creation.mask_of.Lts as lts
 use Rattle.performing.proofs.creation.mask_number.Reads as mask-number-reads
 
-enum-known-v : tie.Need-enum-known-v
-enum-known-v c = search needs
-
-mask-number-requires : tie.Need-mask-number-requires
-mask-number-requires c κs = search needs
-
 returns : tie.Need-returns
 returns c = let e : toZ w32 (ofZ w32 (c .before .before .v .given .0 .0)) ≡ c .before .before .v .given .0 .0 = search needs in rw (c .before .before .v .given .1) (c .mask-number .ensures ∙ ap (λ (z : ℤ). maskNumber z) e)
 
@@ -24,4 +18,4 @@ returns-2 : tie.Need-returns-2
 returns-2 c = no-mask (c .before .args .v) (c .match .keys2)
 
 pub mask-of-spec : {M : Type 1} → statement M
-mask-of-spec = tie.close (tie.spec enum-known-v mask-number-requires returns returns-2)
+mask-of-spec = tie.close (tie.spec (λ c. search needs) (λ c κs. search needs) returns returns-2)

@@ -14,18 +14,6 @@ use Rattle.performing.proofs.creation.revoke.Lts as lts
 use Rattle.performing.proofs.creation.revocation.Reads as revocation-reads
 use Rattle.store_read.proofs.object_at.Reads as object-at-reads
 
-object-at-requires : tie.Need-object-at-requires
-object-at-requires c κs = search needs
-
-enum-told : tie.Need-enum-told
-enum-told c = search needs
-
-enum-known-x : tie.Need-enum-known-x
-enum-known-x c = search needs
-
-revocation-requires : tie.Need-revocation-requires
-revocation-requires c κs = search needs
-
 returns : tie.Need-returns
 returns c = (rw (objectless (lookup (storeOf (now (c .before .before .before .before .args .words))) (c .before .before .before .before .args .o)) (sym (c .before .before .object-at .ensures) ∙ c .enum-told .given .1)), (record { store = c .before .before .before .before .pre; bounds = tt }, refl))
 
@@ -35,4 +23,4 @@ returns-2 c = let found = objectful (lookup (storeOf (now (c .before .before .be
 pub revoke-spec : {M : Type 1} → statement M
 revoke-spec =
     tie.close
-    (tie.spec object-at-requires enum-told enum-known-x revocation-requires returns returns-2)
+    (tie.spec (λ c κs. search needs) (λ c. search needs) (λ c. search needs) (λ c κs. search needs) returns returns-2)

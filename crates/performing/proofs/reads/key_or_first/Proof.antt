@@ -7,15 +7,6 @@ use Rattle.performing.proofs.reads.key_or_first.Reads as reads
 use Rattle.performing.proofs.reads.key_or_first.Lts as lts
 use Rattle.value_operations.proofs.keys.key_of.Reads as key-of-reads
 
-key-of-requires : tie.Need-key-of-requires
-key-of-requires c κs = search needs
-
-enum-known-k : tie.Need-enum-known-k
-enum-known-k c = search needs
-
-enum-told : tie.Need-enum-told
-enum-told c = search needs
-
 returns : tie.Need-returns
 returns c = key-there (keyOf (c .before .before .before .before .args .v)) _ _ (c .before .before .before .key-of .ensures) (c .before .k .given .1)
 
@@ -23,4 +14,4 @@ returns-2 : tie.Need-returns-2
 returns-2 c = key-missing (keyOf (c .before .before .before .args .v)) _ (c .before .before .key-of .ensures) (c .enum-told .given .1)
 
 pub key-or-first-spec : {M : Type 1} → statement M
-key-or-first-spec = tie.close (tie.spec key-of-requires enum-known-k enum-told returns returns-2)
+key-or-first-spec = tie.close (tie.spec (λ c κs. search needs) (λ c. search needs) (λ c. search needs) returns returns-2)

@@ -4,18 +4,6 @@ use Rattle.performing.proofs.reads.own_property_result.Tie as tie
 use Rattle.performing.proofs.reads.own_property_result.Reads as reads
 use Rattle.performing.proofs.reads.own_property_result.Lts as lts
 
-enum-known-out : tie.Need-enum-known-out
-enum-known-out c = search needs
-
-enum-known-out-2 : tie.Need-enum-known-out-2
-enum-known-out-2 c = search needs
-
-enum-told : tie.Need-enum-told
-enum-told c = search needs
-
-enum-known-p : tie.Need-enum-known-p
-enum-known-p c = search needs
-
 returns : tie.Need-returns
 returns c = rw (c .before .out .given .1)
 
@@ -28,4 +16,4 @@ returns-3 c = rw (c .before .before .before .before .out2 .given .1, c .before .
 pub own-property-result-spec : {M : Type 1} → statement M
 own-property-result-spec =
     tie.close
-    (tie.spec enum-known-out enum-known-out-2 enum-told enum-known-p returns returns-2 returns-3)
+    (tie.spec (λ c. search needs) (λ c. search needs) (λ c. search needs) (λ c. search needs) returns returns-2 returns-3)

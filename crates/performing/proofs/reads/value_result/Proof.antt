@@ -4,12 +4,6 @@ use Rattle.performing.proofs.reads.value_result.Tie as tie
 use Rattle.performing.proofs.reads.value_result.Reads as reads
 use Rattle.performing.proofs.reads.value_result.Lts as lts
 
-enum-known-out : tie.Need-enum-known-out
-enum-known-out c = search needs
-
-enum-known-out-2 : tie.Need-enum-known-out-2
-enum-known-out-2 c = search needs
-
 returns : tie.Need-returns
 returns c = rw (c .before .out .given .1)
 
@@ -17,4 +11,4 @@ returns-2 : tie.Need-returns-2
 returns-2 c = rw (c .before .out2 .given .1)
 
 pub value-result-spec : {M : Type 1} → statement M
-value-result-spec = tie.close (tie.spec enum-known-out enum-known-out-2 returns returns-2)
+value-result-spec = tie.close (tie.spec (λ c. search needs) (λ c. search needs) returns returns-2)

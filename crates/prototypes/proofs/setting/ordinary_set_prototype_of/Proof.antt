@@ -6,15 +6,9 @@ use borrow.Author.Needs.{needs}
 use Rattle.prototypes.proofs.setting.ordinary_set_prototype_of.Statement.{statement}
 use Rattle.prototypes.proofs.setting.ordinary_set_prototype_of.Tie as tie
 
-same-value-requires : tie.Need-same-value-requires
-same-value-requires c κs = search needs
-
 returns : tie.Need-returns
 unfolding ordinarySetPrototypeOf
 returns c = record { tells = rw (sym (c .before .same-value .ensures) ∙ c .if1 .taken); fits = nothing-fits _ (c .before .before .before .pre .0) }
-
-reaches-requires : tie.Need-reaches-requires
-reaches-requires c κs = search needs
 
 returns-2 : tie.Need-returns-2
 unfolding ordinarySetPrototypeOf
@@ -30,4 +24,4 @@ returns-4 c = record { tells = rw (sym (c .before .before .same-value .ensures) 
 
 pub ordinary-set-prototype-of-spec : {M : Type 1} → statement M
 ordinary-set-prototype-of-spec =
-    tie.close (tie.spec same-value-requires returns reaches-requires returns-2 returns-3 returns-4)
+    tie.close (tie.spec (λ c κs. search needs) returns (λ c κs. search needs) returns-2 returns-3 returns-4)

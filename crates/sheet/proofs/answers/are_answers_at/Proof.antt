@@ -21,12 +21,6 @@ returns c = sym (c .before .before .before .before .loop .inv ∙ all-past _ _ _
 is-body-at-requires : tie.Need-is-body-at-requires Inv-loop μ-loop
 is-body-at-requires c κs = (end-fits _ _ _ _ (c .before .before .before .answer-end .ensures) (c .before .end .given .1)) .1
 
-sub-left : tie.Need-sub-left Inv-loop μ-loop
-sub-left c = omega arith
-
-loop-less : tie.Need-loop-less Inv-loop μ-loop
-loop-less c = omega arith
-
 loop-again : tie.Need-loop-again Inv-loop μ-loop
 loop-again c = c .before .before .before .before .before .before .before .loop .inv ∙ all-good _ _ _ (c .before .before .before .before .before .before .loop-test .taken) ((end-fits _ _ _ _ (c .before .before .before .before .before .answer-end .ensures) (c .before .before .before .end .given .1)) .1) (sym (c .before .is-body-at .ensures) ∙ c .if1 .taken) ∙ rw ((end-fits _ _ _ _ (c .before .before .before .before .before .answer-end .ensures) (c .before .before .before .end .given .1)) .0)
 
@@ -37,4 +31,4 @@ returns-3 : tie.Need-returns-3 Inv-loop μ-loop
 returns-3 c = sym (c .before .loop .inv ∙ all-end _ _ _ (c .loop-test .left))
 
 pub are-answers-at-spec : {M : Type 1} → statement M
-are-answers-at-spec = tie.close (tie.spec Inv-loop μ-loop loop-holds (λ c κs. search needs) (λ c. search needs) (λ c. search needs) returns is-body-at-requires sub-left loop-less loop-again returns-2 returns-3)
+are-answers-at-spec = tie.close (tie.spec Inv-loop μ-loop loop-holds (λ c κs. search needs) (λ c. search needs) (λ c. search needs) returns is-body-at-requires (λ c. omega arith) (λ c. omega arith) loop-again returns-2 returns-3)

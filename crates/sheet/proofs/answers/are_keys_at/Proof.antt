@@ -4,15 +4,6 @@ use native.Mathlib.Omega.{arith}
 use Rattle.sheet.proofs.answers.are_keys_at.Statement.{statement}
 use Rattle.sheet.proofs.answers.are_keys_at.Tie as tie
 
-key-count-at-requires : tie.Need-key-count-at-requires
-key-count-at-requires c κs = omega arith
-
-add-are-values-at : tie.Need-add-are-values-at
-add-are-values-at c = omega arith
-
-are-values-at-requires : tie.Need-are-values-at-requires
-are-values-at-requires c κs = omega arith
-
 returns : tie.Need-returns
 returns c = rw (sym (c .before .before .key-count-at .ensures .0), le-leb _ _ (c .before .if1 .taken)) (c .are-values-at .ensures)
 
@@ -20,4 +11,4 @@ returns-2 : tie.Need-returns-2
 returns-2 c = rw (sym (c .before .key-count-at .ensures .0), lt-leb _ _ (c .if1 .left))
 
 pub are-keys-at-spec : {M : Type 1} → statement M
-are-keys-at-spec = tie.close (tie.spec key-count-at-requires add-are-values-at are-values-at-requires returns returns-2)
+are-keys-at-spec = tie.close (tie.spec (λ c κs. omega arith) (λ c. omega arith) (λ c κs. omega arith) returns returns-2)

@@ -16,18 +16,6 @@ abbrev μ-loop : tie.MeasureT-loop
 loop-holds : tie.Need-loop-holds Inv-loop μ-loop
 loop-holds c = (c .before .pre, refl)
 
-is-value-at-requires : tie.Need-is-value-at-requires Inv-loop μ-loop
-is-value-at-requires c κs = omega arith
-
-add-i : tie.Need-add-i Inv-loop μ-loop
-add-i c = omega arith
-
-sub-left : tie.Need-sub-left Inv-loop μ-loop
-sub-left c = omega arith
-
-loop-less : tie.Need-loop-less Inv-loop μ-loop
-loop-less c = omega arith
-
 loop-again : tie.Need-loop-again Inv-loop μ-loop
 loop-again c = (omega arith, c .before .before .before .loop .inv .1 ∙ values-good _ _ _ (c .before .before .loop-test .taken) (sym (c .before .is-value-at .ensures) ∙ c .if1 .taken))
 
@@ -38,4 +26,4 @@ returns-2 : tie.Need-returns-2 Inv-loop μ-loop
 returns-2 c = sym (c .before .loop .inv .1 ∙ values-end _ _ _ (c .loop-test .left))
 
 pub are-values-at-spec : {M : Type 1} → statement M
-are-values-at-spec = tie.close (tie.spec Inv-loop μ-loop loop-holds is-value-at-requires add-i sub-left loop-less loop-again returns returns-2)
+are-values-at-spec = tie.close (tie.spec Inv-loop μ-loop loop-holds (λ c κs. omega arith) (λ c. omega arith) (λ c. omega arith) (λ c. omega arith) loop-again returns returns-2)

@@ -26,12 +26,6 @@ next-passes-requires c κs = (c .next-answer .ensures) .within
 returns-2 : tie.Need-returns-2 Inv-loop μ-loop
 returns-2 c = sym (c .before .before .before .before .before .before .before .loop .inv ∙ sheet-stop (asks (c .before .before .before .before .before .before .before .before .before .before .before .before .args .test) (c .before .before .before .before .before .before .before .before .before .before .before .before .args .counts)) _ _ _ _ _ (c .before .before .before .before .before .next-answer .ensures) (c .before .before .place-after .ensures) (c .enum-told .given .1))
 
-sub-left : tie.Need-sub-left Inv-loop μ-loop
-sub-left c = omega arith
-
-loop-less : tie.Need-loop-less Inv-loop μ-loop
-loop-less c = omega arith
-
 loop-again : tie.Need-loop-again Inv-loop μ-loop
 loop-again c = c .before .before .before .before .before .before .before .before .loop .inv ∙ sheet-good (asks (c .before .before .before .before .before .before .before .before .before .before .before .before .before .args .test) (c .before .before .before .before .before .before .before .before .before .before .before .before .before .args .counts)) _ _ _ _ _ _ (c .before .before .before .before .before .before .next-answer .ensures) (sym (c .before .before .before .before .before .next-passes .ensures) ∙ c .before .before .before .before .if2 .taken) (c .before .before .before .place-after .ensures) (c .before .end .given .1)
 
@@ -42,4 +36,4 @@ returns-4 : tie.Need-returns-4 Inv-loop μ-loop
 returns-4 c = sym (c .before .loop .inv ∙ sheet-end (asks (c .before .before .before .before .before .before .args .test) (c .before .before .before .before .before .before .args .counts)) _ _ _ (c .loop-test .left))
 
 pub sheet-passes-spec : {M : Type 1} → statement M
-sheet-passes-spec = tie.close (tie.spec Inv-loop μ-loop returns (λ c. search needs) (λ c κs. search needs) loop-holds (λ c κs. search needs) next-passes-requires (λ c κs. search needs) (λ c. search needs) (λ c. search needs) returns-2 sub-left loop-less loop-again returns-3 returns-4)
+sheet-passes-spec = tie.close (tie.spec Inv-loop μ-loop returns (λ c. search needs) (λ c κs. search needs) loop-holds (λ c κs. search needs) next-passes-requires (λ c κs. search needs) (λ c. search needs) (λ c. search needs) returns-2 (λ c. omega arith) (λ c. omega arith) loop-again returns-3 returns-4)
