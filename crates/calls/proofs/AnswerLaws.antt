@@ -1,6 +1,6 @@
 -- What the next answer is to the definitions. Assumes nothing.
 use Prim.Native.Nat.{ℕ, _<_}
-use mathlib.Core.Path.{_≡_, refl, sym, _∙_}
+use mathlib.Core.Path.{_≡_, refl, sym}
 use mathlib.Core.List.{List, [], _∷_}
 use types.Run.{OneOf, miss}
 use denote.Enum.Declared.{tagOf}
@@ -10,7 +10,7 @@ use Rattle.value.specs.declared.Value.the-variants.{Undefined, Null, Boolean, I
 use Rattle.value.specs.Value.{toBoolean}
 use Rattle.property.specs.declared.DescriptorObject.{DescriptorObject}
 use Rattle.internal_methods.specs.declared.Failure.the-variants.{Refused, TypeError, Thrown}
-use Rattle.internal_methods.specs.Monad.{Answer, State, state, Out, failed, done, fails, ask}
+use Rattle.internal_methods.specs.Monad.{State, failed, done, fails, ask}
 use Rattle.internal_methods.specs.Monad as answer
 use Rattle.internal_methods.specs.Answers.{asPrototype, undefinedDescriptor}
 use Rattle.text.specs.Strings.{Strings, lengthOf}

@@ -2,7 +2,7 @@
 use Prim.Native.Nat.{ℕ, zero, suc, _-_, _<_}
 use native.Mathlib.Omega.{arith}
 use native.Mathlib.Numerals.{unary-clauses}
-use mathlib.Core.Path.{_≡_, refl, sym, _∙_}
+use mathlib.Core.Path.{_≡_, refl}
 use mathlib.Core.Bool.{Bool, true, false}
 use mathlib.Core.Option.{Option, none, some}
 use mathlib.Core.List.{List}
@@ -15,19 +15,19 @@ use Rattle.store.specs.declared.Object.{Object}
 use Rattle.store.specs.declared.Object.the-variants as object
 use Rattle.store.specs.Store.{Store, lookup}
 use Rattle.store.specs.OwnKeys.{ordinaryOwnPropertyKeys}
-use Rattle.internal_methods.specs.declared.Failure.the-variants.{Refused, TypeError}
-use Rattle.internal_methods.specs.Monad.{Answer, State, state, Out, failed, done, M, pure, fails, next, _>>=_, _>>_, throwIf, if_then_else_, counted, tick, dispatched, dispatch}
-use Rattle.internal_methods.specs.Methods.{Context, Methods, Written}
+use Rattle.internal_methods.specs.declared.Failure.the-variants.{Refused}
+use Rattle.internal_methods.specs.Monad.{Out, failed, M, pure, fails, next, _>>=_, _>>_, throwIf, counted, tick, dispatched, dispatch}
+use Rattle.internal_methods.specs.Methods.{Context}
 use Rattle.internal_methods.specs.Ordinary.{ordinaryGetPrototypeOf, ordinarySetPrototypeOf, ordinaryIsExtensible, ordinaryPreventExtensions, ordinaryGetOwnProperty, ordinaryDefineOwnProperty, ordinaryHasProperty, ordinaryGet, ordinarySet, ordinaryDelete}
 use Rattle.internal_methods.specs.Proxy.{proxyGetPrototypeOf, proxySetPrototypeOf, proxyIsExtensible, proxyPreventExtensions, proxyGetOwnProperty, proxyDefineOwnProperty, proxyHasProperty, proxyGet, proxySet, proxyDelete, proxyOwnPropertyKeys}
-use Rattle.internal_methods.specs.Internal.{level, methods}
+use Rattle.internal_methods.specs.Internal.{methods}
 use Rattle.record.specs.Sheet.{answersAt}
 use Rattle.store_read.specs.declared.ObjectFound.the-variants as answer
 use Rattle.store_read.specs.Answers.{objectFound}
 use Rattle.calls.specs.declared.Progress.{Progress}
 use Rattle.calls.specs.declared.Entered.{Entered}
 use Rattle.calls.specs.declared.Entered.the-variants as entered
-use Rattle.calls.specs.Entering.{progress, unrevoked, found, entering, begun, counting}
+use Rattle.calls.specs.Entering.{progress, unrevoked, found, entering, counting}
 use Rattle.calls.specs.Outs.{stateOf}
 
 module _ {A : Type 0} (sheet : List ℕ) (f : OrdinaryObject → M A) (g : ProxyObject → M A) where

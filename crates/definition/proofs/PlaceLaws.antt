@@ -12,7 +12,6 @@ use Rattle.store.proofs.FindLaws.{First, first-replaced}
 use Rattle.store.proofs.FindLaws.First.{here, later}
 use Rattle.store_read.specs.declared.Place.the-variants.{At}
 use Rattle.store_read.specs.Answers.{firstPlace, findPlace}
-use Rattle.calls.specs.Entering.{found}
 
 -- what is found at a place is the first there
 first-here : (o : ℕ) (k : PropertyKey) (es : List Entry) (s i : ℕ) → firstPlace (λ (e : Entry). isAt e o k) s es ≡ At i

@@ -3,7 +3,6 @@ use Prim.Native.Nat.{ℕ, suc, _+_, _-_, _≤_, _<_}
 use native.Mathlib.Nat.{le-refl, not-suc-le-zero, not-suc-le-self}
 use native.Mathlib.Omega.{arith}
 use mathlib.Core.Path.{_≡_, refl, sym, ap, _∙_, subst}
-use mathlib.Core.Logic.{_↔_}
 use mathlib.Core.Bool.{Bool, true, false, not, cond, false≢true}
 use mathlib.Core.Option.{Option, none, some}
 use mathlib.Core.List.{List, [], _∷_, _++_}
@@ -12,11 +11,10 @@ use lib.ListN.{length}
 use borrow.Author.Tests.{ltb-false, leb-true, leb-false, le-leb, lt-leb, le-ltb, not-true}
 use Rattle.text.specs.Strings.{Entry, entering, numberOf, enter, maximumLength, maximumStrings}
 use Rattle.text.specs.Strings as entry
-use Rattle.value.specs.declared.Value.{Value}
 use Rattle.value.specs.declared.Value.the-variants as language
 use Rattle.store.specs.Store.{Store, World, add, maximumObjects, maximumProperties}
 use Rattle.internal_methods.specs.declared.Failure.{Failure}
-use Rattle.internal_methods.specs.declared.Failure.the-variants.{Refused, TypeError, Thrown}
+use Rattle.internal_methods.specs.declared.Failure.the-variants.{Refused, TypeError}
 use Rattle.internal_methods.specs.Monad.{Answer, State, state, Out, failed, done}
 use Rattle.internal_methods.proofs.StoreClosed.{Closed}
 use Rattle.internal_methods.proofs.Budget as met
@@ -30,8 +28,8 @@ use Rattle.record.specs.Sheet.{sheetOf}
 use Rattle.record.specs.Tests.{firstFailing}
 use Rattle.steps.specs.Operation.{makesObject, asked}
 use Rattle.steps.specs.Perform.{Result, value, boolean, maximumCalls, perform}
-use Rattle.steps.specs.Response.{Ending, refused, result, typeError, Effect}
-use Rattle.steps.specs.Step.{contextOf, recordTests, outputHolds, refusing, completed, ran, step}
+use Rattle.steps.specs.Response.{Ending, refused, typeError, Effect}
+use Rattle.steps.specs.Step.{contextOf, recordTests, refusing, completed, ran, step}
 use Rattle.steps.specs.StringEntry.{enterString}
 use Rattle.steps.specs.Run.{Call, worldAt}
 use Rattle.demands.specs.Refusals.{runWith, callsMade, Refusal, inadmissible, full, spent, unreadable, exhausted, short, Accepted, by-result, by-typeError, by-throw, Unless, is-result, otherwise, LeftOf, leftIn, StepDecided, EntryRefusal, long, EntryDecided}

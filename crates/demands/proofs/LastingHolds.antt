@@ -1,6 +1,6 @@
 -- Demand 3 holds of every list of calls. Assumes nothing.
-use Prim.Native.Nat.{ℕ, zero, suc, _≤_, _<_}
-use native.Mathlib.Nat.{le-of-lt, le-trans}
+use Prim.Native.Nat.{ℕ, suc, _≤_, _<_}
+use native.Mathlib.Nat.{le-of-lt}
 use mathlib.Core.Path.{_≡_, refl, sym, ap, _∙_, subst}
 use mathlib.Core.Bool.{Bool, true, false, not, false≢true, true≢false}
 use mathlib.Core.List.{List}
@@ -9,19 +9,18 @@ use borrow.Author.Tests.{leb-true, leb-false}
 use Rattle.value.specs.declared.Value.{Value}
 use Rattle.value.specs.declared.PropertyKey.{PropertyKey}
 use Rattle.value.specs.Value.{sameValue}
-use Rattle.value.proofs.SameValue.{same-refl, same-like, same-sym}
+use Rattle.value.proofs.SameValue.{same-refl, same-sym}
 use Rattle.property.specs.declared.Property.{Property}
 use Rattle.property.specs.declared.Property.the-variants.{Data, Accessor}
 use Rattle.property.specs.declared.OwnProperty.{OwnProperty}
 use Rattle.property.specs.declared.OwnProperty.the-variants.{Absent, Present}
-use Rattle.store.specs.declared.OrdinaryObject.{OrdinaryObject}
 use Rattle.store.specs.Store.{Store, World, empty, own}
 use Rattle.internal_methods.specs.KeyList.{hasKey}
-use Rattle.internal_methods.proofs.Base.{frozenAs, isAbsent, Under, at-base, Frozen, Shut, Lacking}
+use Rattle.internal_methods.proofs.Base.{frozenAs, isAbsent, at-base, Frozen, Shut, Lacking}
 use Rattle.internal_methods.proofs.Later.{frozen-lasts, shut-lasts, rooted-lasts, lacking-lasts}
 use Rattle.internal_methods.proofs.Reports.{Faithful, SamePrototype, frozen-learnt, frozen-told, lacking-learnt, lacking-told, rooted-learnt, rooted-told}
-use Rattle.steps.specs.Operation.{Operation, getPrototypeOf, isExtensible, preventExtensions, getOwnProperty, hasProperty, get, delete, ownPropertyKeys}
-use Rattle.steps.specs.Perform.{Result, value, descriptor, absent, keys, ownResult, boolean}
+use Rattle.steps.specs.Operation.{Operation}
+use Rattle.steps.specs.Perform.{Result, value, descriptor, absent, keys, ownResult}
 use Rattle.steps.specs.Response.{Effect, Response}
 use Rattle.steps.specs.Run.{Call, Event, At, effect, run, worldAt}
 use Rattle.demands.specs.Lasting.{Tells, ReportsFixed, ReportsNonExtensible, by-isExtensible, by-preventExtensions, ReportsAbsent, ShowsOwn, IsDataWith, StaysFixed, StaysNonExtensible, Lasting}

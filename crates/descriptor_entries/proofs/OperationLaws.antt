@@ -11,7 +11,6 @@ use Rattle.property.specs.declared.PropertyDescriptor.{PropertyDescriptor}
 use Rattle.property.specs.declared.Property.{Property}
 use Rattle.property.specs.declared.OwnProperty.{OwnProperty}
 use Rattle.property.specs.declared.OwnProperty.the-variants.{Absent, Present}
-use Rattle.property.specs.declared.Filling.{Filling}
 use Rattle.property.specs.declared.Filling.the-variants.{Filled, Incompatible}
 use Rattle.property.specs.Answers.{ownProperty, fillWith}
 use Rattle.property.specs.Descriptor.{toPropertyDescriptor}
@@ -23,7 +22,6 @@ use Rattle.descriptor_entries.specs.declared.operations.DescriptorAnswer
 use Rattle.descriptor_entries.specs.declared.operations.DescriptorAnswer.the-variants as answer
 use Rattle.descriptor_entries.specs.declared.operations.Verdict.{Verdict}
 use Rattle.descriptor_entries.specs.declared.operations.Verdict.the-variants as verdict
-use Rattle.descriptor_entries.specs.declared.records.Reading.{Reading}
 use Rattle.descriptor_entries.specs.declared.records.Reading.the-variants.{Malformed, Record}
 use Rattle.descriptor_entries.specs.Operations.{completed, validated, validatedAbsent, merged, mergedWith, completeRecord, validateRecords, mergeRecords}
 use Rattle.descriptor_entries.specs.Records.{isRecord, readOf, later, laterOne, laterTwo}

@@ -1,6 +1,6 @@
 -- Refusal 9 comes of the last answer taken, which whoever asked for it cannot read; a throw in its place ends the run in that throw. Assumes nothing.
 use Prim.Native.Nat.{ℕ, zero, suc}
-use mathlib.Core.Path.{_≡_, refl, sym, ap, _∙_, subst}
+use mathlib.Core.Path.{_≡_, refl, sym, ap, _∙_}
 use mathlib.Core.Bool.{Bool, true, false}
 use mathlib.Core.Option.{Option, none, some}
 use mathlib.Core.List.{List, [], _∷_, _++_, append-assoc}
@@ -20,7 +20,7 @@ use Rattle.store.specs.Store.{Store, lookup}
 use Rattle.internal_methods.specs.declared.Failure.{Failure}
 use Rattle.internal_methods.specs.declared.Failure.the-variants.{Refused, TypeError, Thrown}
 use Rattle.internal_methods.specs.Monad.{Answer, State, state, Out, M, pure, fails, next, _>>=_, _>>_, throwIf, answered, ask, counted, tick, if_then_else_, dispatched, dispatch}
-use Rattle.internal_methods.specs.Answers.{asValue, askValue, asPrototype, askPrototype, undefinedDescriptor, asDescriptor, askDescriptor, keysOf, listed, unlisted, asKeys, askKeys}
+use Rattle.internal_methods.specs.Answers.{asValue, askValue, asPrototype, askPrototype, asDescriptor, askDescriptor, keysOf, listed, asKeys, askKeys}
 use Rattle.internal_methods.specs.Readable.{Reading, anyValue, prototype, descriptor, keyList, isUnreadable}
 use Rattle.internal_methods.specs.Methods.{Context}
 use Rattle.internal_methods.specs.Ordinary.{applyValidation}

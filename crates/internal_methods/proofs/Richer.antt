@@ -2,14 +2,12 @@
 use Prim.Native.Nat.{ℕ, zero, suc, _+_, _≤_, _<_}
 use native.Mathlib.Nat.{le-refl, le-trans, le-suc, le-of-suc-le-suc, not-suc-le-zero}
 use native.Mathlib.Omega.{arith}
-use mathlib.Core.Path.{_≡_, refl, sym, ap, _∙_, subst}
+use mathlib.Core.Path.{_≡_, refl, sym, _∙_, subst}
 use mathlib.Core.Bool.{Bool, true, false, false≢true}
 use mathlib.Core.Option.{Option, none, some}
 use mathlib.Core.List.{List, [], _∷_}
 use lib.Dec.{eqb}
-use Rattle.value.specs.declared.Value.{Value}
 use Rattle.value.specs.declared.PropertyKey.{PropertyKey}
-use Rattle.property.specs.declared.PropertyDescriptor.{PropertyDescriptor}
 use Rattle.property.specs.declared.OwnProperty.{OwnProperty}
 use Rattle.property.specs.declared.OwnProperty.the-variants.{Absent, Present}
 use Rattle.property.specs.declared.Validation.{Validation}
@@ -22,10 +20,10 @@ use Rattle.store.specs.Store.{Store, lookup}
 use Rattle.internal_methods.specs.declared.Failure.{Failure}
 use Rattle.internal_methods.specs.declared.Failure.the-variants.{Refused, TypeError, Thrown}
 use Rattle.internal_methods.specs.Monad.{Answer, State, state, Out, M, pure, fails, next, _>>=_, _>>_, throwIf, answered, ask, counted, tick, if_then_else_, dispatched, dispatch}
-use Rattle.internal_methods.specs.Methods.{Context, Written, Methods}
+use Rattle.internal_methods.specs.Methods.{Context, Methods}
 use Rattle.internal_methods.specs.Ordinary.{applyValidation}
 use Rattle.internal_methods.specs.Internal.{methods}
-use Rattle.internal_methods.proofs.Walk.{Any, allowing, Relation, MethodsBy, AnswerBy, Asking, askValue-by, askPrototype-by, askDescriptor-by, askKeys-by, level-by, methods-by}
+use Rattle.internal_methods.proofs.Walk.{Any, Relation, MethodsBy, Asking, askValue-by, askPrototype-by, askDescriptor-by, askKeys-by, level-by}
 use Rattle.internal_methods.proofs.Longer.{any-answer}
 
 -- the calls that are left

@@ -2,11 +2,11 @@
 use Prim.Native.Nat.{ℕ, zero, suc, _≤_, suc-le-suc}
 use native.Mathlib.Nat.{le-refl, le-trans, le-suc}
 use native.Mathlib.Omega.{arith}
-use mathlib.Core.Path.{_≡_, refl, sym, ap, _∙_, subst}
+use mathlib.Core.Path.{_≡_, refl, sym, ap, _∙_}
 use mathlib.Core.Bool.{Bool, true, false, not, cond, false≢true}
 use mathlib.Core.Option.{Option, none, some}
-use mathlib.Core.List.{List, [], _∷_, _++_}
-use lib.Dec.{eqb, ltb}
+use mathlib.Core.List.{List, [], _∷_}
+use lib.Dec.{eqb}
 use lib.ListN.{length, length-append}
 use borrow.Author.Tests.{lt-ltb}
 use Rattle.value.specs.declared.PropertyKey.{PropertyKey}
@@ -24,11 +24,11 @@ use Rattle.store.specs.Store.{Store, entry, isAt, lookup, put, find, insert, re
 use Rattle.store.proofs.FindLaws.{absent-appended}
 use Rattle.internal_methods.specs.declared.Failure.{Failure}
 use Rattle.internal_methods.specs.declared.Failure.the-variants.{Refused, TypeError, Thrown}
-use Rattle.internal_methods.specs.Monad.{Answer, State, state, Out, M, pure, fails, next, _>>=_, _>>_, throwIf, answered, ask, counted, tick, if_then_else_, dispatched, dispatch}
+use Rattle.internal_methods.specs.Monad.{Answer, State, Out, M, pure, fails, next, _>>=_, _>>_, throwIf, answered, ask, counted, tick, if_then_else_, dispatched, dispatch}
 use Rattle.internal_methods.specs.Methods.{Context, Written}
 use Rattle.internal_methods.specs.Ordinary.{isFull, applyValidation}
 use Rattle.internal_methods.specs.Internal.{methods}
-use Rattle.internal_methods.proofs.Walk.{Any, allowing, Relation, RelatedMethods, AnswerBy, Asking, askValue-by, askPrototype-by, askDescriptor-by, askKeys-by, methods-by}
+use Rattle.internal_methods.proofs.Walk.{Any, allowing, Relation, RelatedMethods, Asking, askValue-by, askPrototype-by, askDescriptor-by, askKeys-by, methods-by}
 use Rattle.internal_methods.proofs.Longer.{any-answer}
 
 -- an allowance with room for one property more

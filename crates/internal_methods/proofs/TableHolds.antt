@@ -15,15 +15,15 @@ use Rattle.text.specs.Strings.{Strings, lengthOf}
 use Rattle.store.specs.declared.OrdinaryObject.{OrdinaryObject}
 use Rattle.store.specs.declared.ProxyObject.{ProxyObject}
 use Rattle.store.specs.declared.Object.the-variants.{Ordinary, Proxy}
-use Rattle.store.specs.Store.{Store, lookup}
+use Rattle.store.specs.Store.{lookup}
 use Rattle.internal_methods.specs.declared.Failure.{Failure}
 use Rattle.internal_methods.specs.declared.Failure.the-variants.{Refused}
-use Rattle.internal_methods.specs.Monad.{Answer, State, state, Out, failed, M, pure, fails, next, _>>=_, _>>_, throwIf, answered, ask, tick, if_then_else_, dispatched, dispatch}
+use Rattle.internal_methods.specs.Monad.{Answer, State, state, Out, failed, M, pure, fails, next, _>>=_, _>>_, throwIf, ask, tick, if_then_else_, dispatched, dispatch}
 use Rattle.internal_methods.specs.Answers.{asValue, askValue, askBoolean, asPrototype, askPrototype, asDescriptor, askDescriptor, keysOf, listed, asKeys, askKeys}
 use Rattle.internal_methods.specs.Methods.{Context, Written, Methods}
 use Rattle.internal_methods.specs.Ordinary.{ordinaryGet, ordinarySet}
 use Rattle.internal_methods.specs.Proxy.{hasTrap}
-use Rattle.internal_methods.specs.Internal.{level, methods}
+use Rattle.internal_methods.specs.Internal.{methods}
 use Rattle.internal_methods.specs.Readable.{Reading, anyValue, prototype, descriptor, keyList, isUnreadable, ReadsAs, HasTrap, HasAccessor, TableHolds}
 use Rattle.internal_methods.proofs.Walk.{Any, allowing, Trapped, TrappedWrite, getPrototypeOf-proxy, setPrototypeOf-proxy, isExtensible-proxy, preventExtensions-proxy, getOwnProperty-proxy, defineOwnProperty-proxy, hasProperty-proxy, get-proxy, set-proxy, delete-proxy, ownPropertyKeys-proxy}
 use Rattle.internal_methods.proofs.Walk as walk

@@ -16,13 +16,11 @@ use Rattle.property.specs.declared.Property.the-variants.{Data, Accessor}
 use Rattle.property.specs.declared.OwnProperty.{OwnProperty}
 use Rattle.property.specs.declared.OwnProperty.the-variants.{Absent, Present}
 use Rattle.property.specs.declared.Validation.{Validation}
-use Rattle.text.specs.Strings.{Strings}
 use Rattle.store.specs.declared.OrdinaryObject.{OrdinaryObject}
 use Rattle.store.specs.declared.ProxyObject.{ProxyObject}
 use Rattle.store.specs.declared.Object.the-variants.{Ordinary, Proxy}
 use Rattle.store.specs.Store.{lookup, put, own, withoutProperty}
 use Rattle.internal_methods.specs.declared.Failure.the-variants.{Refused, TypeError}
-use Rattle.property.specs.declared.DescriptorObject.{DescriptorObject}
 use Rattle.internal_methods.specs.Monad.{Answer, M, pure, fails, _>>=_, _>>_, throwIf, throwAny, ask, if_then_else_, dispatch}
 use Rattle.internal_methods.specs.Answers.{asValue, askValue, askBoolean, asPrototype, askPrototype, undefinedDescriptor, asDescriptor, askDescriptor, keysOf, listed, unlisted, asKeys, askKeys}
 use Rattle.internal_methods.specs.Methods.{Context, Methods, Written}

@@ -4,7 +4,7 @@ use native.Mathlib.Omega.{arith}
 use mathlib.Core.Path.{_≡_, refl, sym, subst}
 use mathlib.Core.Bool.{Bool, true, false}
 use mathlib.Core.Option.{Option, none, some}
-use mathlib.Core.List.{List, [], _∷_}
+use mathlib.Core.List.{List, []}
 use Rattle.value.specs.declared.PropertyKey.{PropertyKey}
 use Rattle.store.specs.declared.ProxyObject.{ProxyObject}
 use Rattle.internal_methods.specs.Monad.{State, Out, failed, done, M, pure, fails, next, _>>=_, _>>_, throwAny, if_then_else_}

@@ -1,10 +1,9 @@
 -- A method's end as an operation's end, in the definitions. Assumes nothing.
-use Prim.Native.Nat.{ℕ, _<_, _≤_}
+use Prim.Native.Nat.{ℕ}
 use native.Mathlib.Omega.{arith}
-use mathlib.Core.Path.{_≡_, refl, sym, ap, _∙_}
-use mathlib.Core.Bool.{Bool, true, false, _||_}
+use mathlib.Core.Path.{_≡_, refl, sym}
+use mathlib.Core.Bool.{Bool, true}
 use mathlib.Core.List.{List}
-use lib.Dec.{eqb}
 use mathlib.Core.Option.{Option, none, some}
 use borrow.Author.Tests.{eqb-true, ne-eqb}
 use Rattle.value.specs.declared.PropertyKey.{PropertyKey}
@@ -17,9 +16,8 @@ use Rattle.value.specs.declared.Value.{Value}
 use Rattle.property.specs.declared.OwnProperty.{OwnProperty}
 use Rattle.property.specs.declared.OwnProperty.the-variants.{Absent, Present}
 use Rattle.store.specs.Store.{Store}
-use Rattle.store.specs.Words.{storeOf, isStore}
-use Rattle.internal_methods.specs.Monad.{State, Out, M, pure, next, _>>=_}
-use Rattle.store_write.specs.Write.{fitsIn}
+use Rattle.store.specs.Words.{isStore}
+use Rattle.internal_methods.specs.Monad.{State, M, pure, next, _>>=_}
 use Rattle.calls.specs.declared.ValueOut.{ValueOut}
 use Rattle.calls.specs.declared.ValueOut.the-variants as value
 use Rattle.calls.specs.declared.BooleanOut.{BooleanOut}

@@ -1,5 +1,5 @@
 -- What ValidateAndApplyPropertyDescriptor keeps, adds and gives. Assumes nothing.
-use mathlib.Core.Path.{_≡_, refl, sym, ap, _∙_, subst}
+use mathlib.Core.Path.{_≡_, refl, ap, _∙_, subst}
 use mathlib.Core.Bool.{Bool, true, false, not, _&&_, _||_, Bool·beq, cond, false≢true, true≢false}
 use borrow.Author.Tests.{not-false}
 use Rattle.value.specs.declared.Value.{Value}
@@ -18,7 +18,7 @@ use Rattle.property.specs.declared.OwnProperty.{OwnProperty}
 use Rattle.property.specs.declared.OwnProperty.the-variants.{Absent, Present}
 use Rattle.property.specs.declared.Validation.{Validation}
 use Rattle.property.specs.declared.Validation.the-variants.{Rejected, Unchanged, Becomes}
-use Rattle.property.specs.Fields.{has, hasFlag, isTrue, isFalse, unlike, unlikeFlag, orElse, orElseFlag, valueField, writableField, getField, setField, enumerable, configurable, isAccessor}
+use Rattle.property.specs.Fields.{has, isTrue, isFalse, unlike, unlikeFlag, orElse, orElseFlag, valueField, writableField, getField, setField, enumerable, configurable, isAccessor}
 use Rattle.property.specs.Descriptor.{isAccessorDescriptor, isDataDescriptor, isGenericDescriptor, complete}
 use Rattle.property.specs.Validate.{hasNoFields, applied, validateKind, validateFixed, validate, isAccepted, isCompatible}
 

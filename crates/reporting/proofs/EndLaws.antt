@@ -1,16 +1,15 @@
 -- The end of a run over lent memory is the definitions' end. Assumes nothing.
 use Prim.Native.Nat.{ℕ}
-use mathlib.Core.Path.{_≡_, refl, sym, ap, _∙_}
-use mathlib.Core.Bool.{Bool, true, false}
+use mathlib.Core.Path.{_≡_, refl, sym}
+use mathlib.Core.Bool.{true}
 use mathlib.Core.List.{List}
 use Rattle.value.specs.declared.Value.{Value}
-use Rattle.store.specs.Store.{Store, World}
 use Rattle.store.specs.Words.{storeOf, isStore, worldOf}
 use Rattle.store_write.specs.declared.write.Write.{Write}
-use Rattle.store_write.specs.Write.{applied, writtenTo, Becomes}
+use Rattle.store_write.specs.Write.{applied}
 use Rattle.internal_methods.specs.declared.Failure.{Failure}
 use Rattle.internal_methods.specs.declared.Failure.the-variants.{Refused, TypeError, Thrown}
-use Rattle.internal_methods.specs.Monad.{Answer, State, failed, done}
+use Rattle.internal_methods.specs.Monad.{State, failed}
 use Rattle.record.specs.Sheet.{sheetOf}
 use Rattle.calls.specs.declared.Progress.{Progress}
 use Rattle.calls.specs.Outs.{stateOf}
@@ -19,14 +18,13 @@ use Rattle.steps.specs.declared.Completion.the-variants as completion
 use Rattle.steps.specs.declared.Outcome.{Outcome}
 use Rattle.steps.specs.declared.Outcome.the-variants as outcome
 use Rattle.store_write.specs.declared.write.Write.the-variants.{Nothing}
-use Rattle.steps.specs.declared.Report.{Report}
-use Rattle.steps.specs.Response.{Effect, reportOf, refusal}
-use Rattle.steps.specs.Step.{ended, refusing}
+use Rattle.steps.specs.Response.{reportOf}
+use Rattle.steps.specs.Step.{ended}
 use Rattle.reporting.specs.declared.Performed.{Performed}
 use Rattle.reporting.specs.declared.Performed.the-variants.{Failed, Done}
-use Rattle.reporting.specs.Performed.{Taken, outPerformed, isPlain, resultOf}
+use Rattle.reporting.specs.Performed.{Taken, outPerformed, isPlain}
 use Rattle.reporting.specs.Reports.{failureResponse, completionReport, performedReport, Finished}
-use Rattle.reporting.specs.Memory.{Shown, shown, shownBy, WordsAfter, Committed}
+use Rattle.reporting.specs.Memory.{Shown, shown, shownBy, WordsAfter}
 
 module _ (words cells sheet output : List ℕ) where
   abbrev endedAs : Performed → Shown

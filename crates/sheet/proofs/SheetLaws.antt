@@ -6,9 +6,8 @@ use mathlib.Core.Bool.{Bool, true, false, _&&_}
 use mathlib.Core.List.{List, [], _∷_}
 use lib.Dec.{eqb, leb}
 use lib.ListN.{length}
-use borrow.Author.Tests.{eq-eqb, ne-eqb, eqb-true, le-leb, lt-leb, leb-true, leb-false}
+use borrow.Author.Tests.{ne-eqb, le-leb, lt-leb, leb-true}
 use Rattle.value.specs.declared.Value.{Value}
-use Rattle.internal_methods.specs.Monad.{Answer, value, descriptor, keys, throw}
 use Rattle.sheet.specs.declared.AnswerEnd.{AnswerEnd}
 use Rattle.sheet.specs.declared.AnswerEnd.the-variants.{At, Past}
 use Rattle.sheet.specs.declared.NextAnswer.{NextAnswer}

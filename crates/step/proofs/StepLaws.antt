@@ -2,13 +2,13 @@
 use Prim.Native.Nat.{ℕ, _≤_, _<_}
 use native.Mathlib.Omega.{arith}
 use mathlib.Core.Path.{_≡_, refl, sym, ap, _∙_}
-use mathlib.Core.Bool.{Bool, true, false, _&&_, cond}
-use mathlib.Core.Option.{Option, none, some}
+use mathlib.Core.Bool.{Bool, true, false, cond}
+use mathlib.Core.Option.{none, some}
 use mathlib.Core.List.{List}
 use Rattle.value.proofs.Bools.{and-true}
 use Rattle.text.specs.declared.EntryAnswer.{EntryAnswer}
 use Rattle.text.specs.declared.EntryAnswer.the-variants as answer
-use Rattle.text.specs.Strings.{Strings, Entry, enter}
+use Rattle.text.specs.Strings.{Entry, enter}
 use Rattle.text.specs.Strings as entry
 use Rattle.text.specs.Table.{isTable, stringsOf}
 use Rattle.text.specs.Answers.{entryOf, enterCells, cellsAfter}

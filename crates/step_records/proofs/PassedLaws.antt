@@ -1,25 +1,25 @@
 -- What holds of a step and its sheet once none of the tests over them fails. Assumes nothing.
-use Prim.Native.Nat.{ℕ, _+_, _<_, _≤_, _^_}
+use Prim.Native.Nat.{ℕ, _<_, _≤_, _^_}
 use native.Mathlib.Omega.{arith}
-use mathlib.Core.Path.{_≡_, refl, sym, ap, _∙_}
-use mathlib.Core.Bool.{Bool, true, false, _&&_}
-use mathlib.Core.Option.{Option, none, some}
-use mathlib.Core.List.{List, [], _∷_}
-use lib.Dec.{eqb, leb, ltb}
+use mathlib.Core.Path.{_≡_, refl}
+use mathlib.Core.Bool.{Bool, true, false}
+use mathlib.Core.Option.{none}
+use mathlib.Core.List.{List, _∷_}
+use lib.Dec.{eqb, leb}
 use lib.ListN.{length}
 use borrow.Author.Tests.{ltb-true, leb-true, eqb-true}
 use Rattle.value.proofs.Bools.{and-true}
 use Rattle.value.specs.declared.Value.{Value}
 use Rattle.value.specs.declared.Value.the-variants.{Undefined, Null, Boolean, Integer32, Float64, String, Symbol, Object, Function}
 use Rattle.value.specs.PropertyKey.{keyOf}
-use Rattle.store.specs.Store.{World, lookup}
+use Rattle.store.specs.Store.{World}
 use Rattle.store_write.specs.Write.{numberIn}
 use Rattle.record.specs.Bytes.{byteAt}
-use Rattle.record.specs.Tests.{Counts, isKnown, failing, firstFailing, isDescriptor}
+use Rattle.record.specs.Tests.{Counts, isKnown, firstFailing}
 use Rattle.record.specs.Step.{stepOf, isStep, isCode, areKindsUsable}
 use Rattle.record.specs.Sheet.{sheetOf, isSheet, sheetPasses}
 use Rattle.steps.specs.Operation.{keyOrFirst}
-use Rattle.steps.specs.Step.{countsOf, isProxy, recordTests}
+use Rattle.steps.specs.Step.{countsOf, recordTests}
 
 passed : (n : ℕ) (b : Bool) (ts : List (ℕ × Bool)) → firstFailing ((n, b) ∷ ts) ≡ none → b ≡ true
 unfolding firstFailing

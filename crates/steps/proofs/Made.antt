@@ -1,27 +1,25 @@
 -- A step whose records passed their tests names only objects that are made. Assumes nothing.
 use Prim.Native.Nat.{ℕ, zero, suc, _<_}
 use native.Mathlib.Nat.{not-suc-le-zero, le-of-suc-le-suc}
-use mathlib.Core.Path.{_≡_, refl, sym, ap, _∙_, subst}
-use mathlib.Core.Bool.{Bool, true, false, not, _&&_, _||_, false≢true}
-use mathlib.Core.Option.{Option, none, some}
+use mathlib.Core.Path.{_≡_, refl, sym, subst}
+use mathlib.Core.Bool.{Bool, true, false, not, false≢true}
+use mathlib.Core.Option.{none, some}
 use mathlib.Core.List.{List, [], _∷_, _++_}
 use lib.Dec.{eqb, ltb}
 use lib.ListN.{length, getElem?}
 use borrow.Author.Tests.{ltb-true}
 use Rattle.value.specs.declared.Value.{Value}
 use Rattle.value.specs.declared.Value.the-variants as value
-use Rattle.value.specs.Value.{objectOf}
 use Rattle.value.specs.Words.{pick}
 use Rattle.value.proofs.Bools.{and-true}
 use Rattle.store.specs.declared.Object.{Object}
-use Rattle.store.specs.declared.Object.the-variants.{Ordinary, Proxy}
 use Rattle.store.specs.Store.{Store, World, lookup, add}
 use Rattle.store.proofs.StoreLaws.{lookup-add}
 use Rattle.internal_methods.specs.Monad.{Answer}
 use Rattle.internal_methods.proofs.StoreClosed.{Made, MadeValue, MadeObject, Closed, closed-object, closed-after}
 use Rattle.internal_methods.proofs.Budget.{MadeAnswer, MadeAnswers, nil, cons}
 use Rattle.record.specs.declared.Step.{Step}
-use Rattle.record.specs.Tests.{Counts, isMade, descriptorPasses, failing, firstFailing}
+use Rattle.record.specs.Tests.{isMade, failing, firstFailing}
 use Rattle.record.specs.Step.{stepOf, usesObject, stepPasses, areObjectsMade, unless}
 use Rattle.record.specs.Sheet.{sheetOf, answerPasses, sheetPasses}
 use Rattle.steps.specs.Operation.{Operation, makeObject, makeProxy, revoke, getPrototypeOf, setPrototypeOf, isExtensible, preventExtensions, getOwnProperty, defineOwnProperty, hasProperty, get, set, delete, ownPropertyKeys, operationOf, asked}

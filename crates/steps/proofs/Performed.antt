@@ -1,7 +1,7 @@
 -- What each operation's result says of the store, and that every object lasts through it. Assumes nothing.
 use Prim.Native.Nat.{ℕ}
-use mathlib.Core.Path.{_≡_, refl, sym, ap, _∙_}
-use mathlib.Core.Bool.{Bool, true, false}
+use mathlib.Core.Path.{_≡_, refl}
+use mathlib.Core.Bool.{Bool, true}
 use mathlib.Core.Option.{Option, none, some}
 use mathlib.Core.List.{List}
 use Rattle.value.specs.declared.Value.{Value}
@@ -18,7 +18,7 @@ use Rattle.internal_methods.proofs.Base.{Under, Frozen, Shut}
 use Rattle.internal_methods.proofs.Later.{Grows, grows-refl, grows-add, grows-proxy}
 use Rattle.internal_methods.proofs.Reports.{Changed, Faithful, SamePrototype, Defined, Gone, KeysTied, HasTied, isExtensible-report, getOwnProperty-report, get-report, preventExtensions-report, defineOwnProperty-report, delete-report, getPrototypeOf-report, setPrototypeOf-report, ownPropertyKeys-report, hasProperty-report, set-report}
 use Rattle.steps.specs.Operation.{Operation, makeObject, makeProxy, revoke, getPrototypeOf, setPrototypeOf, isExtensible, preventExtensions, getOwnProperty, defineOwnProperty, hasProperty, get, set, delete, ownPropertyKeys}
-use Rattle.steps.specs.Perform.{Result, value, descriptor, absent, keys, ownResult, boolean, reading, writing, make, revoked, perform}
+use Rattle.steps.specs.Perform.{Result, value, keys, ownResult, boolean, reading, writing, make, revoked, perform}
 
 -- what a result says, from the store before it and the store after it
 abbrev pub Says : Store → Operation → Result → Store → Type 0

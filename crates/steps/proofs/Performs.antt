@@ -4,20 +4,18 @@ use native.Mathlib.Nat.{le-refl}
 use mathlib.Core.Path.{_≡_, refl, sym, ap, _∙_, subst}
 use mathlib.Core.Bool.{Bool, true, false, false≢true}
 use mathlib.Core.Option.{Option, none, some}
-use mathlib.Core.List.{List, []}
 use lib.Dec.{ltb}
 use lib.ListN.{length}
-use Rattle.value.specs.declared.Value.{Value}
 use Rattle.value.specs.declared.Value.the-variants as language
 use Rattle.store.specs.declared.Object.{Object}
 use Rattle.store.specs.declared.Object.the-variants.{Ordinary, Proxy}
 use Rattle.store.specs.Store.{Store, lookup, add, maximumObjects}
 use Rattle.internal_methods.specs.declared.Failure.{Failure}
-use Rattle.internal_methods.specs.declared.Failure.the-variants.{Refused, TypeError, Thrown}
-use Rattle.internal_methods.specs.Monad.{Answer, State, Out, failed, done, M, pure, fails, if_then_else_}
+use Rattle.internal_methods.specs.declared.Failure.the-variants.{Refused}
+use Rattle.internal_methods.specs.Monad.{State, failed, done, M, pure, fails, if_then_else_}
 use Rattle.internal_methods.specs.Methods.{Context, Written}
-use Rattle.internal_methods.proofs.StoreClosed.{Made, MadeValue, MadeObject, Closed, closed-put, closed-object}
-use Rattle.internal_methods.proofs.Budget.{MadeAnswers, Met, Steady, KeptBy, steady-pure, steady-bind, steady-above, ends-alike, ends-failed, ends-done, SteadyMethods}
+use Rattle.internal_methods.proofs.StoreClosed.{MadeObject, Closed, closed-put, closed-object}
+use Rattle.internal_methods.proofs.Budget.{MadeAnswers, Met, Steady, KeptBy, steady-pure, steady-bind, steady-above, ends-alike, ends-failed, ends-done}
 use Rattle.steps.specs.Operation.{Operation, makeObject, makeProxy, revoke, getPrototypeOf, setPrototypeOf, isExtensible, preventExtensions, getOwnProperty, defineOwnProperty, hasProperty, get, set, delete, ownPropertyKeys}
 use Rattle.steps.specs.Perform.{Result, value, keys, ownResult, boolean, reading, writing, make, revoked, perform}
 use Rattle.steps.proofs.Made.{MadeOperation, closed-add}

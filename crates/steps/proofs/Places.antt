@@ -1,7 +1,7 @@
 -- The world at each place of a list of calls: what holds of every one of them, and how they follow one another. Assumes nothing.
 use Prim.Native.Nat.{ℕ, zero, suc, _≤_, zero-le}
 use native.Mathlib.Nat.{le-of-suc-le-suc, not-suc-le-zero, le-refl}
-use mathlib.Core.Path.{_≡_, refl, ap}
+use mathlib.Core.Path.{_≡_, ap}
 use mathlib.Core.Bool.{false≢true}
 use mathlib.Core.Option.{none}
 use mathlib.Core.List.{List, [], _∷_}

@@ -1,21 +1,21 @@
 -- How a step and the entering of a string end, and what they leave. Assumes nothing.
 use Prim.Native.Nat.{ℕ, _+_, _-_, _≤_}
 use native.Mathlib.Omega.{arith}
-use mathlib.Core.Path.{_≡_, refl, sym, ap, _∙_}
+use mathlib.Core.Path.{_≡_, refl, ap, _∙_}
 use mathlib.Core.Bool.{Bool, true, false, false≢true}
 use mathlib.Core.Option.{Option, none, some}
-use mathlib.Core.List.{List, [], _∷_}
+use mathlib.Core.List.{List, []}
 use Rattle.text.specs.Strings.{Strings, Entry, enter}
 use Rattle.text.specs.Strings as entry
 use Rattle.value.specs.declared.Value.{Value}
 use Rattle.value.specs.declared.Value.the-variants as language
 use Rattle.store.specs.Store.{Store, World}
 use Rattle.internal_methods.specs.declared.Failure.the-variants.{Refused, TypeError, Thrown}
-use Rattle.internal_methods.specs.Monad.{Answer, State, state, Out, failed, done}
+use Rattle.internal_methods.specs.Monad.{Answer, State, Out, failed, done}
 use Rattle.record.specs.Sheet.{sheetOf}
 use Rattle.record.specs.Tests.{firstFailing}
 use Rattle.steps.specs.Perform.{Result, value, maximumCalls}
-use Rattle.steps.specs.Response.{Ending, refused, result, typeError, thrown, Response, Effect}
+use Rattle.steps.specs.Response.{Ending, refused, result, typeError, thrown, Effect}
 use Rattle.steps.specs.Step.{recordTests, outputHolds, outputAfter, withStore, refusing, responding, completed, ended, ran, tested, step}
 use Rattle.steps.specs.StringEntry.{enterString, entered}
 

@@ -1,13 +1,13 @@
 -- Laws of the exported functions. Assumes nothing.
-use Prim.Native.Nat.{ℕ, suc, _*_, _/_, _%_, _+_, _^_, _<_, _≤_}
+use Prim.Native.Nat.{ℕ, _/_, _%_, _≤_}
 use native.Mathlib.Omega.{arith}
 use mathlib.Core.Path.{_≡_, refl, sym, ap, _∙_}
-use mathlib.Core.Bool.{Bool, true, false, _&&_}
-use mathlib.Core.List.{List, [], _∷_, _++_, map}
+use mathlib.Core.Bool.{Bool, true, false}
+use mathlib.Core.List.{List, [], _∷_, map}
 use lib.Dec.{eqb}
-use lib.ListN.{length, take, drop, length-map, take-append-drop}
+use lib.ListN.{length, take, take-append-drop}
 use lib.Seq.{length-take-le}
-use borrow.Author.Tests.{eqb-true, eqb-false, leb-true, ltb-true, eq-eqb, ne-eqb}
+use borrow.Author.Tests.{eqb-true, eqb-false, leb-true, ltb-true}
 use Rattle.value.specs.declared.PropertyKey.{PropertyKey}
 use Rattle.value.specs.declared.PropertyKey.the-variants.{String, Symbol}
 use Rattle.value.specs.Words.{pick}
@@ -16,12 +16,11 @@ use Rattle.property.specs.declared.Property.{Property}
 use Rattle.property.specs.declared.OwnProperty.{OwnProperty}
 use Rattle.property.specs.declared.OwnProperty.the-variants.{Absent, Present}
 use Rattle.text.specs.Table.{isTable, stringsOf}
-use Rattle.store.specs.Store.{own}
 use Rattle.store.specs.OwnKeys.{ordinaryOwnPropertyKeys}
 use Rattle.store.specs.Words.{isStore, storeOf, wordAt, withNewRow, withoutRow}
 use Rattle.store_read.specs.Answers.{Listed, keyFromWord, keyToWord}
 use Rattle.store_write.specs.Write.{Joins, New, numberIn}
-use Rattle.store_export.specs.Export.{isListable, isJoined, isAbsent, isNew, isAddable, isRemovable, rowProperty, keyWordsOf, listAnswer, listed, added, addAnswer, removed, removeAnswer, refused}
+use Rattle.store_export.specs.Export.{isListable, isJoined, isAbsent, isNew, isAddable, isRemovable, rowProperty, keyWordsOf, listAnswer, listed, added, addAnswer, removed, removeAnswer}
 
 -- Own keys -------------------------------------------------------------------------------
 

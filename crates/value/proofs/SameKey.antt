@@ -1,6 +1,6 @@
 -- Equality of property keys. Assumes nothing.
-use mathlib.Core.Path.{_≡_, refl, sym, ap, _∙_}
-use mathlib.Core.Bool.{Bool, true, false, false≢true}
+use mathlib.Core.Path.{_≡_, refl, ap}
+use mathlib.Core.Bool.{true, false, false≢true}
 use borrow.Author.Tests.{eqb-true, eq-eqb}
 use Rattle.value.specs.declared.PropertyKey.{PropertyKey}
 use Rattle.value.specs.declared.PropertyKey.the-variants.{String, Symbol}

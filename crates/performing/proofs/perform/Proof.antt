@@ -3,12 +3,6 @@ use borrow.Author.Needs.{needs}
 use borrow.Author.Needs.{needs}
 use Rattle.performing.proofs.perform.Statement.{statement}
 use Rattle.performing.proofs.perform.Tie as tie
-use Rattle.performing.proofs.perform.Reads as reads
-use Rattle.performing.proofs.perform.Lts as lts
-use Rattle.performing.proofs.perform_creation.Reads as perform-creation-reads
-use Rattle.performing.proofs.reads.is_reading.Reads as is-reading-reads
-use Rattle.performing.proofs.reads.perform_reading.Reads as perform-reading-reads
-use Rattle.performing.proofs.writes.perform_writing.Reads as perform-writing-reads
 
 perform-reading-requires : tie.Need-perform-reading-requires
 perform-reading-requires c κs = (c .before .before .before .before .before .pre .0, sym (c .before .is-reading .ensures) ∙ c .if1 .taken)

@@ -1,19 +1,12 @@
 use denote.Ref.{now}
 use native.Mathlib.Omega.{arith}
-use mathlib.Core.Path.{_≡_, sym, _∙_}
-use borrow.Author.Needs.{needs}
+use mathlib.Core.Path.{_≡_}
 use Rattle.calls.specs.Outs.{context}
 use Rattle.steps.specs.Operation.{operationOf}
 use Rattle.steps.specs.Perform.{maximumCalls}
 use Rattle.performing.proofs.CreationLaws.{object-made, proxy-made, proxy-revoked}
-use borrow.Author.Needs.{needs}
 use Rattle.performing.proofs.perform_creation.Statement.{statement}
 use Rattle.performing.proofs.perform_creation.Tie as tie
-use Rattle.performing.proofs.perform_creation.Reads as reads
-use Rattle.performing.proofs.perform_creation.Lts as lts
-use Rattle.performing.proofs.creation.make_object.Reads as make-object-reads
-use Rattle.performing.proofs.creation.make_proxy.Reads as make-proxy-reads
-use Rattle.performing.proofs.creation.revoke.Reads as revoke-reads
 
 make-object-requires : tie.Need-make-object-requires
 make-object-requires c κs = c .before .before .before .before .pre .0 .readable .store

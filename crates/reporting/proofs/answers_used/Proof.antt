@@ -1,15 +1,12 @@
 use denote.Ref.{now}
 use Prim.Native.Nat.{_≤_}
 use native.Mathlib.Omega.{arith}
-use mathlib.Core.Path.{sym, _∙_}
+use mathlib.Core.Path.{sym}
 use lib.ListN.{length}
 use Rattle.record.specs.Sheet.{sheetOf, answersAt}
 use borrow.Author.Needs.{needs}
 use Rattle.reporting.proofs.answers_used.Statement.{statement}
 use Rattle.reporting.proofs.answers_used.Tie as tie
-use Rattle.reporting.proofs.answers_used.Reads as reads
-use Rattle.reporting.proofs.answers_used.Lts as lts
-use Rattle.sheet.proofs.counting.answers_left.Reads as answers-left-reads
 
 returns : tie.Need-returns
 unfolding sheetOf

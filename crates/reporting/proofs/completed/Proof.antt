@@ -1,10 +1,6 @@
 use borrow.Author.Needs.{needs}
 use Rattle.reporting.proofs.completed.Statement.{statement}
 use Rattle.reporting.proofs.completed.Tie as tie
-use Rattle.reporting.proofs.completed.Reads as reads
-use Rattle.reporting.proofs.completed.Lts as lts
-use Rattle.reporting.proofs.answers_used.Reads as answers-used-reads
-use Rattle.reporting.proofs.calls_made.Reads as calls-made-reads
 
 returns : tie.Need-returns
 returns c = rw (c .before .answers-used .ensures, c .calls-made .ensures)

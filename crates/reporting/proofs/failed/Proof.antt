@@ -1,11 +1,6 @@
 use borrow.Author.Needs.{needs}
 use Rattle.reporting.proofs.failed.Statement.{statement}
 use Rattle.reporting.proofs.failed.Tie as tie
-use Rattle.reporting.proofs.failed.Reads as reads
-use Rattle.reporting.proofs.failed.Lts as lts
-use Rattle.reporting.proofs.answers_used.Reads as answers-used-reads
-use Rattle.reporting.proofs.calls_made.Reads as calls-made-reads
-use Rattle.reporting.proofs.refused.Reads as refused-reads
 
 returns : tie.Need-returns
 returns c = rw (c .before .before .f .given .1) (c .refused .ensures)

@@ -1,12 +1,7 @@
-use mathlib.Core.Path.{refl, sym, _∙_}
+use mathlib.Core.Path.{refl}
 use borrow.Author.Needs.{needs}
 use Rattle.reporting.proofs.finish.Statement.{statement}
 use Rattle.reporting.proofs.finish.Tie as tie
-use Rattle.reporting.proofs.finish.Reads as reads
-use Rattle.reporting.proofs.finish.Lts as lts
-use Rattle.reporting.proofs.completed.Reads as completed-reads
-use Rattle.reporting.proofs.failed.Reads as failed-reads
-use Rattle.store_write.proofs.commit.Reads as commit-reads
 
 commit-requires : tie.Need-commit-requires
 commit-requires c κs = (rw (c .before .before .p2 .given .1) at (c .before .before .before .before .before .before .pre .1 .1)) .0

@@ -1,8 +1,6 @@
 use borrow.Author.Needs.{needs}
 use Rattle.reporting.proofs.start.Statement.{statement}
 use Rattle.reporting.proofs.start.Tie as tie
-use Rattle.reporting.proofs.start.Reads as reads
-use Rattle.reporting.proofs.start.Lts as lts
 
 returns : tie.Need-returns
 returns c = rw (c .wide .ensures .0)

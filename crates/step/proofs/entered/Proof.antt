@@ -1,9 +1,6 @@
 use borrow.Author.Needs.{needs}
 use Rattle.step.proofs.entered.Statement.{statement}
 use Rattle.step.proofs.entered.Tie as tie
-use Rattle.step.proofs.entered.Reads as reads
-use Rattle.step.proofs.entered.Lts as lts
-use Rattle.reporting.proofs.refused.Reads as refused-reads
 
 returns : tie.Need-returns
 returns c = rw (c .before .before .answer .given .1) (c .refused .ensures)

@@ -1,23 +1,15 @@
 use denote.Ref.{now}
 use native.Mathlib.Omega.{arith}
-use mathlib.Core.Path.{sym, _∙_}
 use Rattle.store.specs.Words.{worldOf}
 use Rattle.steps.specs.Step.{countsOf}
 use Rattle.store_read.proofs.ListLaws.{few-strings}
-use Rattle.step_records.proofs.PassedLaws.{step-formed, step-length, sheet-there, sheet-formed, sheet-known, key-fits, code-low, code-high}
+use Rattle.step_records.proofs.PassedLaws.{step-length, sheet-there, sheet-formed, sheet-known, key-fits, code-low, code-high}
 use Rattle.performing.proofs.FitLaws.{sheet-fits}
 use Rattle.reporting.proofs.EndLaws.{finished-words, kept-words}
 use Rattle.step.proofs.StepLaws.{run-listed, run-performed, below}
 use borrow.Author.Needs.{needs}
 use Rattle.step.proofs.run.Statement.{statement}
 use Rattle.step.proofs.run.Tie as tie
-use Rattle.step.proofs.run.Reads as reads
-use Rattle.step.proofs.run.Lts as lts
-use Rattle.performing.proofs.listing.list.Reads as list-reads
-use Rattle.performing.proofs.perform.Reads as perform-reads
-use Rattle.reporting.proofs.finish.Reads as finish-reads
-use Rattle.reporting.proofs.start.Reads as start-reads
-use Rattle.step_records.proofs.reading.step_of.Reads as step-of-reads
 
 step-of-requires : tie.Need-step-of-requires
 step-of-requires c κs = omega (arith, step-length (worldOf (now (c .before .before .before .before .before .args .words)) (now (c .before .before .before .before .before .args .strings))) (now (c .before .before .before .before .before .args .bytes)) (now (c .before .before .before .before .before .args .sheet)) (c .before .before .before .before .before .pre .1))

@@ -8,11 +8,6 @@ use Rattle.step.proofs.StepLaws.{memory-readable, step-refused, step-ra
 use borrow.Author.Needs.{needs}
 use Rattle.step.proofs.step.Statement.{statement}
 use Rattle.step.proofs.step.Tie as tie
-use Rattle.step.proofs.step.Reads as reads
-use Rattle.step.proofs.step.Lts as lts
-use Rattle.step_records.proofs.record_refusal.Reads as record-refusal-reads
-use Rattle.reporting.proofs.refused.Reads as refused-reads
-use Rattle.step.proofs.run.Reads as run-reads
 
 record-refusal-requires : tie.Need-record-refusal-requires
 record-refusal-requires c κs = ((memory-readable (now (c .before .before .before .before .before .before .before .before .before .args .words)) (now (c .before .before .before .before .before .before .before .before .before .args .strings)) (sym (c .before .before .is-memory .ensures) ∙ c .before .if1 .taken)) .store, (memory-readable (now (c .before .before .before .before .before .before .before .before .before .args .words)) (now (c .before .before .before .before .before .before .before .before .before .args .strings)) (sym (c .before .before .is-memory .ensures) ∙ c .before .if1 .taken)) .table)

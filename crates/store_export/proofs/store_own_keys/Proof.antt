@@ -1,4 +1,3 @@
-use denote.Ref.{now}
 use mathlib.Core.Path.{sym, _∙_}
 use Rattle.store_export.proofs.ExportLaws.{listable, list-count, list-words}
 use Rattle.store_export.specs.Export.{listed, listAnswer}

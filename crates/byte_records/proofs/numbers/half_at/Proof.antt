@@ -3,9 +3,6 @@ use Rattle.byte_records.proofs.ByteLaws.{half-of}
 use borrow.Author.Needs.{needs}
 use Rattle.byte_records.proofs.numbers.half_at.Statement.{statement}
 use Rattle.byte_records.proofs.numbers.half_at.Tie as tie
-use Rattle.byte_records.proofs.numbers.half_at.Reads as reads
-use Rattle.byte_records.proofs.numbers.half_at.Lts as lts
-use Rattle.byte_records.proofs.numbers.short_at.Reads as short-at-reads
 
 returns : tie.Need-returns
 returns c = rw (half-of _ _) (omega arith, omega arith)

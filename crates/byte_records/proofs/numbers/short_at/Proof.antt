@@ -3,8 +3,6 @@ use Rattle.byte_records.proofs.ByteLaws.{short-of}
 use borrow.Author.Needs.{needs}
 use Rattle.byte_records.proofs.numbers.short_at.Statement.{statement}
 use Rattle.byte_records.proofs.numbers.short_at.Tie as tie
-use Rattle.byte_records.proofs.numbers.short_at.Reads as reads
-use Rattle.byte_records.proofs.numbers.short_at.Lts as lts
 
 returns : tie.Need-returns
 returns c = rw (short-of _ _) (omega arith, omega arith)

@@ -3,9 +3,6 @@ use Rattle.byte_records.proofs.ByteLaws.{word-of}
 use borrow.Author.Needs.{needs}
 use Rattle.byte_records.proofs.numbers.word_at.Statement.{statement}
 use Rattle.byte_records.proofs.numbers.word_at.Tie as tie
-use Rattle.byte_records.proofs.numbers.word_at.Reads as reads
-use Rattle.byte_records.proofs.numbers.word_at.Lts as lts
-use Rattle.byte_records.proofs.numbers.half_at.Reads as half-at-reads
 
 returns : tie.Need-returns
 returns c = rw (word-of _ _) (omega arith)

@@ -6,8 +6,6 @@ use Rattle.record.specs.Bytes.{areZero}
 use Rattle.byte_records.proofs.ByteLaws.{zero-end, zero-not, zero-step}
 use Rattle.byte_records.proofs.value_record.are_zero.Statement.{statement}
 use Rattle.byte_records.proofs.value_record.are_zero.Tie as tie
-use Rattle.byte_records.proofs.value_record.are_zero.Reads as reads
-use Rattle.byte_records.proofs.value_record.are_zero.Lts as lts
 
 abbrev Inv-loop : tie.InvT-loop
 Inv-loop bytes at n end i₀ i = (end ≡ at + n) × ((i ≤ end) × (areZero bytes at n ≡ areZero bytes i (end - i)))

@@ -3,9 +3,6 @@ use Rattle.record.specs.Bytes.{isValueAt}
 use borrow.Author.Needs.{needs}
 use Rattle.byte_records.proofs.value_record.is_value_at.Statement.{statement}
 use Rattle.byte_records.proofs.value_record.is_value_at.Tie as tie
-use Rattle.byte_records.proofs.value_record.is_value_at.Reads as reads
-use Rattle.byte_records.proofs.value_record.is_value_at.Lts as lts
-use Rattle.byte_records.proofs.numbers.word_at.Reads as word-at-reads
 
 returns : tie.Need-returns
 unfolding isValueAt

@@ -8,8 +8,6 @@ use Rattle.record.specs.Bytes.{bytesOf}
 use Rattle.byte_records.proofs.ByteLaws.{store-step, store-end}
 use Rattle.byte_records.proofs.value_record.put_word.Statement.{statement}
 use Rattle.byte_records.proofs.value_record.put_word.Tie as tie
-use Rattle.byte_records.proofs.value_record.put_word.Reads as reads
-use Rattle.byte_records.proofs.value_record.put_word.Lts as lts
 
 abbrev Inv-loop : tie.InvT-loop
 Inv-loop out₀ at x rest₀ k₀ out rest k = (k ≤ 8) × ((length out ≡ length out₀) × (sets out₀ at (bytesOf 8 x) ≡ sets out (at + k) (bytesOf (8 - k) rest)))

@@ -1,13 +1,10 @@
 use Rattle.calls.specs.Outs.{stateOf}
-use mathlib.Core.Path.{sym, _∙_}
 use Rattle.internal_methods.specs.Monad.{pure, fails}
 use Rattle.internal_methods.specs.Answers.{asPrototype}
-use Rattle.calls.proofs.AnswerLaws.{no-prototype, no-descriptor}
+use Rattle.calls.proofs.AnswerLaws.{no-descriptor}
 use borrow.Author.Needs.{needs}
 use Rattle.calls.proofs.answers.as_undefined.Statement.{statement}
 use Rattle.calls.proofs.answers.as_undefined.Tie as tie
-use Rattle.calls.proofs.answers.as_undefined.Reads as reads
-use Rattle.calls.proofs.answers.as_undefined.Lts as lts
 
 returns : tie.Need-returns
 unfolding pure fails asPrototype

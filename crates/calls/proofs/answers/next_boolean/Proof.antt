@@ -1,17 +1,12 @@
 use denote.Ref.{now}
 use Rattle.text.specs.Table.{stringsOf}
-use mathlib.Core.Path.{sym, _∙_}
+use mathlib.Core.Path.{sym}
 use Rattle.internal_methods.specs.Monad.{pure, fails, next, _>>=_}
 use Rattle.internal_methods.specs.Answers.{askBoolean, askPrototype}
 use Rattle.calls.proofs.AnswerLaws.{same-boolean}
 use borrow.Author.Needs.{needs}
 use Rattle.calls.proofs.answers.next_boolean.Statement.{statement}
 use Rattle.calls.proofs.answers.next_boolean.Tie as tie
-use Rattle.calls.proofs.answers.next_boolean.Reads as reads
-use Rattle.calls.proofs.answers.next_boolean.Lts as lts
-use Rattle.calls.proofs.answers.next_value.Reads as next-value-reads
-use Rattle.calls.proofs.answers.text_length.Reads as text-length-reads
-use Rattle.value_operations.proofs.to_boolean.Reads as to-boolean-reads
 
 returns : tie.Need-returns
 unfolding pure fails next _>>=_ askBoolean askPrototype

@@ -1,16 +1,10 @@
 use denote.Ref.{now}
-use mathlib.Core.Path.{sym, _∙_}
 use Rattle.internal_methods.specs.Monad.{pure, fails, next, _>>=_}
 use Rattle.internal_methods.specs.Answers.{askValue, asValue, askDescriptor, asDescriptor}
 use Rattle.calls.proofs.AnswerLaws.{asked-none, asked-value, asked-descriptor, asked-keys, asked-throw, left-value, left-descriptor, left-keys, left-throw}
 use borrow.Author.Needs.{needs}
 use Rattle.calls.proofs.answers.next_descriptor.Statement.{statement}
 use Rattle.calls.proofs.answers.next_descriptor.Tie as tie
-use Rattle.calls.proofs.answers.next_descriptor.Reads as reads
-use Rattle.calls.proofs.answers.next_descriptor.Lts as lts
-use Rattle.calls.proofs.answers.as_undefined.Reads as as-undefined-reads
-use Rattle.calls.proofs.answers.past.Reads as past-reads
-use Rattle.sheet.proofs.next_answer.Reads as next-answer-reads
 
 past-requires : tie.Need-past-requires
 past-requires c κs = left-value (now (c .before .before .before .before .before .args .sheet)) (c .before .before .before .before .before .args .s) _ (c .before .before .before .next-answer .ensures) _ _ (c .before .v .given .1)

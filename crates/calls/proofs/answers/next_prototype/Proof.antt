@@ -1,14 +1,9 @@
-use mathlib.Core.Path.{sym, _∙_}
+use mathlib.Core.Path.{sym}
 use Rattle.internal_methods.specs.Monad.{pure, fails, next, _>>=_}
 use Rattle.internal_methods.specs.Answers.{askBoolean, askPrototype}
-use Rattle.calls.proofs.AnswerLaws.{same-boolean}
 use borrow.Author.Needs.{needs}
 use Rattle.calls.proofs.answers.next_prototype.Statement.{statement}
 use Rattle.calls.proofs.answers.next_prototype.Tie as tie
-use Rattle.calls.proofs.answers.next_prototype.Reads as reads
-use Rattle.calls.proofs.answers.next_prototype.Lts as lts
-use Rattle.calls.proofs.answers.as_prototype.Reads as as-prototype-reads
-use Rattle.calls.proofs.answers.next_value.Reads as next-value-reads
 
 returns : tie.Need-returns
 unfolding pure fails next _>>=_ askBoolean askPrototype

@@ -1,14 +1,11 @@
 use denote.Ref.{now}
 use Rattle.text.specs.Table.{stringsOf}
-use mathlib.Core.Path.{sym, _∙_}
+use mathlib.Core.Path.{sym}
 use Rattle.store_read.proofs.ReadLaws.{read-table}
 use Rattle.calls.proofs.AnswerLaws.{no-text}
 use borrow.Author.Needs.{needs}
 use Rattle.calls.proofs.answers.text_length.Statement.{statement}
 use Rattle.calls.proofs.answers.text_length.Tie as tie
-use Rattle.calls.proofs.answers.text_length.Reads as reads
-use Rattle.calls.proofs.answers.text_length.Lts as lts
-use Rattle.text.proofs.length_of.Reads as length-of-reads
 
 returns : tie.Need-returns
 returns c = rw (c .before .before .v .given .1, sym (read-table _ (c .before .before .before .before .before .pre))) (c .length-of .ensures)

@@ -6,10 +6,6 @@ use Rattle.calls.proofs.EnterLaws.{entering-flat, entering-spent, enter
 use borrow.Author.Needs.{needs}
 use Rattle.calls.proofs.entry.enter.Statement.{statement}
 use Rattle.calls.proofs.entry.enter.Tie as tie
-use Rattle.calls.proofs.entry.enter.Reads as reads
-use Rattle.calls.proofs.entry.enter.Lts as lts
-use Rattle.calls.proofs.entry.object_entered.Reads as object-entered-reads
-use Rattle.store_read.proofs.object_at.Reads as object-at-reads
 
 returns : tie.Need-returns
 returns c = entering-flat _ _ _ (c .if1 .taken)

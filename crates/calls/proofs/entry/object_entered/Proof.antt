@@ -1,8 +1,6 @@
 use borrow.Author.Needs.{needs}
 use Rattle.calls.proofs.entry.object_entered.Statement.{statement}
 use Rattle.calls.proofs.entry.object_entered.Tie as tie
-use Rattle.calls.proofs.entry.object_entered.Reads as reads
-use Rattle.calls.proofs.entry.object_entered.Lts as lts
 
 returns : tie.Need-returns
 returns c = rw (c .before .before .x2 .given .1, c .if1 .taken)

@@ -1,5 +1,5 @@
 use borrow.Author.Needs.{needs}
-use mathlib.Core.Path.{sym, _∙_}
+use mathlib.Core.Path.{sym}
 use Rattle.record.proofs.RefusalLaws.{is-failed, is-passed}
 use Rattle.descriptor_entries.specs.Records.{laterTwo}
 use Rattle.descriptor_entries.proofs.operations.validate_read.Statement.{statement}

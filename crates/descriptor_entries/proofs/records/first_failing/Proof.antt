@@ -1,4 +1,3 @@
-use borrow.Author.Needs.{needs}
 use Rattle.record.specs.Tests.{firstFailing}
 use Rattle.descriptor_entries.specs.Records.{later}
 use Rattle.descriptor_entries.proofs.records.first_failing.Statement.{statement}

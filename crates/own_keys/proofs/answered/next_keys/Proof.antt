@@ -9,12 +9,6 @@ use Rattle.own_keys.proofs.ListLaws.{keys-within, loadable, listed-keys
 use borrow.Author.Needs.{needs}
 use Rattle.own_keys.proofs.answered.next_keys.Statement.{statement}
 use Rattle.own_keys.proofs.answered.next_keys.Tie as tie
-use Rattle.own_keys.proofs.answered.next_keys.Reads as reads
-use Rattle.own_keys.proofs.answered.next_keys.Lts as lts
-use Rattle.key_lists.proofs.key_bytes.are_keys.Reads as are-keys-reads
-use Rattle.calls.proofs.answers.past.Reads as past-reads
-use Rattle.own_keys.proofs.answered.unlisted_failure.Reads as unlisted-failure-reads
-use Rattle.sheet.proofs.next_answer.Reads as next-answer-reads
 
 past-requires : tie.Need-past-requires
 past-requires c κs = left-value (now (c .before .before .before .before .before .before .args .sheet)) (c .before .before .before .before .before .before .args .s) _ (c .before .before .before .before .next-answer .ensures) _ _ (c .before .before .v .given .1)

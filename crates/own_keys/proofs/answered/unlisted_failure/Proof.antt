@@ -3,8 +3,6 @@ use Rattle.own_keys.proofs.ListLaws.{no-list}
 use borrow.Author.Needs.{needs}
 use Rattle.own_keys.proofs.answered.unlisted_failure.Statement.{statement}
 use Rattle.own_keys.proofs.answered.unlisted_failure.Tie as tie
-use Rattle.own_keys.proofs.answered.unlisted_failure.Reads as reads
-use Rattle.own_keys.proofs.answered.unlisted_failure.Lts as lts
 
 returns : tie.Need-returns
 unfolding fails

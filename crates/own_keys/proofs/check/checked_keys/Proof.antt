@@ -6,11 +6,6 @@ use Rattle.key_lists.proofs.MessageLaws.{not-rejected, rejected-some}
 use borrow.Author.Needs.{needs}
 use Rattle.own_keys.proofs.check.checked_keys.Statement.{statement}
 use Rattle.own_keys.proofs.check.checked_keys.Tie as tie
-use Rattle.own_keys.proofs.check.checked_keys.Reads as reads
-use Rattle.own_keys.proofs.check.checked_keys.Lts as lts
-use Rattle.own_keys.proofs.loading.load_list.Reads as load-list-reads
-use Rattle.own_keys.proofs.marks.mark_configurable.Reads as mark-configurable-reads
-use Rattle.own_keys.proofs.check.rejected_in.Reads as rejected-in-reads
 
 mark-configurable-requires : tie.Need-mark-configurable-requires
 mark-configurable-requires c κs = (c .before .before .before .before .before .before .before .before .before .before .before .before .pre .0, (omega (arith, c .before .before .before .before .load-list .ensures .0 .fits, c .before .before .before .before .load-list .ensures .0 .size), omega (arith, c .before .before .before .before .load-list .ensures .1, c .before .before .before .before .before .before .before .before .before .before .before .before .pre .1 .1 .1 .1 .0)))

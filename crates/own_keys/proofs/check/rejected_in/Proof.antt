@@ -2,10 +2,6 @@ use native.Mathlib.Omega.{arith}
 use borrow.Author.Needs.{needs}
 use Rattle.own_keys.proofs.check.rejected_in.Statement.{statement}
 use Rattle.own_keys.proofs.check.rejected_in.Tie as tie
-use Rattle.own_keys.proofs.check.rejected_in.Reads as reads
-use Rattle.own_keys.proofs.check.rejected_in.Lts as lts
-use Rattle.key_lists.proofs.key_bytes.load_keys.Reads as load-keys-reads
-use Rattle.key_lists.proofs.target_keys.rejected_marked.Reads as rejected-marked-reads
 
 rejected-marked-requires : tie.Need-rejected-marked-requires
 rejected-marked-requires c κs = (omega (arith, c .before .before .before .before .before .before .before .before .before .pre .0), (omega (arith, c .before .before .before .before .before .before .before .before .before .pre .1 .0), (c .before .before .before .before .before .before .before .before .before .pre .1 .1 .0, (omega (arith, c .before .before .before .before .before .before .before .before .before .pre .1 .1 .1 .0 .few, c .before .before .before .before .before .before .before .before .before .pre .1 .1 .1 .1, c .before .before .list .given), c .before .before .before .load-keys .ensures .1))))

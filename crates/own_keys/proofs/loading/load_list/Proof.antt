@@ -4,10 +4,6 @@ use native.Mathlib.Omega.{arith}
 use borrow.Author.Needs.{needs}
 use Rattle.own_keys.proofs.loading.load_list.Statement.{statement}
 use Rattle.own_keys.proofs.loading.load_list.Tie as tie
-use Rattle.own_keys.proofs.loading.load_list.Reads as reads
-use Rattle.own_keys.proofs.loading.load_list.Lts as lts
-use Rattle.key_lists.proofs.key_bytes.load_keys.Reads as load-keys-reads
-use Rattle.store_read.proofs.own_key_order.list_own_keys.Reads as list-own-keys-reads
 
 load-keys-requires : tie.Need-load-keys-requires
 load-keys-requires c κs = let l = rw (c .before .before .list .given .1) at (c .before .before .before .before .before .before .before .before .pre .1 .0) in (l .within, (omega (arith, l .few, c .before .before .before .before .before .before .before .before .pre .1 .1), (l .all-keys, l .known)))

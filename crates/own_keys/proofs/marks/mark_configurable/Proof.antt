@@ -12,11 +12,6 @@ use Rattle.calls.specs.Outs.{context, stateOf}
 use Rattle.own_keys.proofs.MarkLaws.{sortedOnto, sorted-start, sorted-failed, sorted-more, sorted-end}
 use Rattle.own_keys.proofs.marks.mark_configurable.Statement.{statement}
 use Rattle.own_keys.proofs.marks.mark_configurable.Tie as tie
-use Rattle.own_keys.proofs.marks.mark_configurable.Reads as reads
-use Rattle.own_keys.proofs.marks.mark_configurable.Lts as lts
-use Rattle.own_keys.proofs.marks.mark_of.Reads as mark-of-reads
-use Rattle.own_property.proofs.get_own_property.Reads as get-own-property-reads
-use Rattle.store_read.proofs.key_from_word.Reads as key-from-word-reads
 
 abbrev Inv-loop : tie.InvT-loop
 Inv-loop words strings allowance sheet target keys m marks₀ depth t₀ i₀ marks t i =

@@ -5,11 +5,6 @@ use Rattle.key_lists.proofs.MessageLaws.{no-duplicate, some-duplicate}
 use borrow.Author.Needs.{needs}
 use Rattle.own_keys.proofs.trap.own_keys_trap.Statement.{statement}
 use Rattle.own_keys.proofs.trap.own_keys_trap.Tie as tie
-use Rattle.own_keys.proofs.trap.own_keys_trap.Reads as reads
-use Rattle.own_keys.proofs.trap.own_keys_trap.Lts as lts
-use Rattle.extensibility.proofs.is_extensible.Reads as is-extensible-reads
-use Rattle.own_keys.proofs.trap.duplicate_in.Reads as duplicate-in-reads
-use Rattle.own_keys.proofs.answered.next_keys.Reads as next-keys-reads
 
 duplicate-in-requires : tie.Need-duplicate-in-requires
 duplicate-in-requires c κs = (rw (c .before .before .first .given .1) at (c .before .before .before .before .next-keys .ensures .1), c .before .before .before .before .before .before .before .before .before .pre .1 .1)

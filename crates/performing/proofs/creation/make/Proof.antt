@@ -1,18 +1,12 @@
 use native.Mathlib.Omega.{arith}
 use Rattle.store.proofs.WordLaws.{object-length}
 use denote.Ref.{now}
-use mathlib.Core.Path.{refl, sym, _∙_}
+use mathlib.Core.Path.{refl, sym}
 use borrow.Author.Tests.{lt-ltb, le-ltb}
-use Rattle.store.specs.Store.{lookup}
-use Rattle.store.specs.Words.{storeOf}
-use Rattle.calls.proofs.EnterLaws.{objectless, objectful}
 use Rattle.performing.specs.Creation.{makeOut}
 use borrow.Author.Needs.{needs}
 use Rattle.performing.proofs.creation.make.Statement.{statement}
 use Rattle.performing.proofs.creation.make.Tie as tie
-use Rattle.performing.proofs.creation.make.Reads as reads
-use Rattle.performing.proofs.creation.make.Lts as lts
-use Rattle.store_read.proofs.object_count.Reads as object-count-reads
 
 returns : tie.Need-returns
 unfolding makeOut

@@ -1,11 +1,7 @@
 use borrow.Author.Needs.{needs}
-use mir.Syntax.{w32}
-use mir.Val.{ofZ, toZ}
 use Rattle.performing.proofs.CreationLaws.{negative-mask, natural-mask, mask-fits}
 use Rattle.performing.proofs.creation.mask_number.Statement.{statement}
 use Rattle.performing.proofs.creation.mask_number.Tie as tie
-use Rattle.performing.proofs.creation.mask_number.Reads as reads
-use Rattle.performing.proofs.creation.mask_number.Lts as lts
 
 returns : tie.Need-returns
 returns c = negative-mask (c .before .args .n) (search needs) (c .if1 .taken)

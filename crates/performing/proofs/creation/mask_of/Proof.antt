@@ -7,9 +7,6 @@ use Rattle.performing.proofs.CreationLaws.{no-mask}
 use borrow.Author.Needs.{needs}
 use Rattle.performing.proofs.creation.mask_of.Statement.{statement}
 use Rattle.performing.proofs.creation.mask_of.Tie as tie
-use Rattle.performing.proofs.creation.mask_of.Reads as reads
-use Rattle.performing.proofs.creation.mask_of.Lts as lts
-use Rattle.performing.proofs.creation.mask_number.Reads as mask-number-reads
 
 returns : tie.Need-returns
 returns c = let e : toZ w32 (ofZ w32 (c .before .before .v .given .0 .0)) ≡ c .before .before .v .given .0 .0 = search needs in rw (c .before .before .v .given .1) (c .mask-number .ensures ∙ ap (λ (z : ℤ). maskNumber z) e)

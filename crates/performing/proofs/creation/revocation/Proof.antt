@@ -1,8 +1,6 @@
 use borrow.Author.Needs.{needs}
 use Rattle.performing.proofs.creation.revocation.Statement.{statement}
 use Rattle.performing.proofs.creation.revocation.Tie as tie
-use Rattle.performing.proofs.creation.revocation.Reads as reads
-use Rattle.performing.proofs.creation.revocation.Lts as lts
 
 returns-2 : tie.Need-returns-2
 returns-2 c = rw (c .before .x .given .1)

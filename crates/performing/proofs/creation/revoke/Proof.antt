@@ -1,18 +1,12 @@
 use Rattle.performing.proofs.CreationLaws.{revocation-fits}
 use denote.Ref.{now}
 use mathlib.Core.Path.{refl, sym, _∙_}
-use borrow.Author.Tests.{lt-ltb, le-ltb}
 use Rattle.store.specs.Store.{lookup}
 use Rattle.store.specs.Words.{storeOf}
 use Rattle.calls.proofs.EnterLaws.{objectless, objectful}
-use Rattle.performing.specs.Creation.{makeOut}
 use borrow.Author.Needs.{needs}
 use Rattle.performing.proofs.creation.revoke.Statement.{statement}
 use Rattle.performing.proofs.creation.revoke.Tie as tie
-use Rattle.performing.proofs.creation.revoke.Reads as reads
-use Rattle.performing.proofs.creation.revoke.Lts as lts
-use Rattle.performing.proofs.creation.revocation.Reads as revocation-reads
-use Rattle.store_read.proofs.object_at.Reads as object-at-reads
 
 returns : tie.Need-returns
 returns c = (rw (objectless (lookup (storeOf (now (c .before .before .before .before .args .words))) (c .before .before .before .before .args .o)) (sym (c .before .before .object-at .ensures) ∙ c .enum-told .given .1)), (record { store = c .before .before .before .before .pre; bounds = tt }, refl))

@@ -7,12 +7,6 @@ use Rattle.performing.proofs.ListingLaws.{listing-failed, listing-done}
 use borrow.Author.Needs.{needs}
 use Rattle.performing.proofs.listing.list.Statement.{statement}
 use Rattle.performing.proofs.listing.list.Tie as tie
-use Rattle.performing.proofs.listing.list.Reads as reads
-use Rattle.performing.proofs.listing.list.Lts as lts
-use Rattle.performing.proofs.listing.write_out.Reads as write-out-reads
-use Rattle.own_keys.proofs.own_property_keys.Reads as own-property-keys-reads
-use Rattle.reporting.proofs.failed.Reads as failed-reads
-use Rattle.reporting.proofs.start.Reads as start-reads
 
 own-property-keys-requires : tie.Need-own-property-keys-requires
 unfolding sheetOf

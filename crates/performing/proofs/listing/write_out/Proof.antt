@@ -5,12 +5,6 @@ use Rattle.performing.proofs.ListingLaws.{written-out, not-written}
 use borrow.Author.Needs.{needs}
 use Rattle.performing.proofs.listing.write_out.Statement.{statement}
 use Rattle.performing.proofs.listing.write_out.Tie as tie
-use Rattle.performing.proofs.listing.write_out.Reads as reads
-use Rattle.performing.proofs.listing.write_out.Lts as lts
-use Rattle.key_lists.proofs.key_bytes.write_keys.Reads as write-keys-reads
-use Rattle.own_keys.proofs.loading.load_list.Reads as load-list-reads
-use Rattle.reporting.proofs.completed.Reads as completed-reads
-use Rattle.reporting.proofs.refused.Reads as refused-reads
 
 returns : tie.Need-returns
 returns c = written-out (now (c .before .before .before .before .before .before .before .before .before .before .before .before .before .before .before .before .args .words)) (now (c .before .before .before .before .before .before .before .before .before .before .before .before .before .before .before .before .args .strings)) (now (c .before .before .before .before .before .before .before .before .before .before .before .before .before .before .before .before .args .output)) _ _ (sheetOf (now (c .before .before .before .before .before .before .before .before .before .before .before .before .before .before .before .before .args .sheet))) (stateOf (now (c .before .before .before .before .before .before .before .before .before .before .before .before .before .before .before .before .args .sheet)) (c .before .before .before .before .before .before .before .before .before .before .before .before .before .before .before .before .args .s)) _ _ (c .before .before .before .before .before .before .before .before .before .load-list .ensures .0) _ _ (c .before .before .before .write-keys .ensures) (c .before .before .before .before .before .before .if1 .taken) (c .completed .ensures)

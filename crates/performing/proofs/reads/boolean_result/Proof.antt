@@ -1,8 +1,6 @@
 use borrow.Author.Needs.{needs}
 use Rattle.performing.proofs.reads.boolean_result.Statement.{statement}
 use Rattle.performing.proofs.reads.boolean_result.Tie as tie
-use Rattle.performing.proofs.reads.boolean_result.Reads as reads
-use Rattle.performing.proofs.reads.boolean_result.Lts as lts
 
 returns : tie.Need-returns
 returns c = rw (c .before .out .given .1)

@@ -2,8 +2,6 @@ use borrow.Author.Tests.{ne-eqb}
 use Rattle.performing.specs.Results.{isReading}
 use Rattle.performing.proofs.reads.is_reading.Statement.{statement}
 use Rattle.performing.proofs.reads.is_reading.Tie as tie
-use Rattle.performing.proofs.reads.is_reading.Reads as reads
-use Rattle.performing.proofs.reads.is_reading.Lts as lts
 
 returns : tie.Need-returns
 unfolding isReading

@@ -3,9 +3,6 @@ use Rattle.performing.proofs.ResultLaws.{key-there, key-missing}
 use borrow.Author.Needs.{needs}
 use Rattle.performing.proofs.reads.key_or_first.Statement.{statement}
 use Rattle.performing.proofs.reads.key_or_first.Tie as tie
-use Rattle.performing.proofs.reads.key_or_first.Reads as reads
-use Rattle.performing.proofs.reads.key_or_first.Lts as lts
-use Rattle.value_operations.proofs.keys.key_of.Reads as key-of-reads
 
 returns : tie.Need-returns
 returns c = key-there (keyOf (c .before .before .before .before .args .v)) _ _ (c .before .before .before .key-of .ensures) (c .before .k .given .1)

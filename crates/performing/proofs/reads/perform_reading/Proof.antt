@@ -1,5 +1,5 @@
 use denote.Ref.{now}
-use mathlib.Core.Path.{sym, _∙_}
+use mathlib.Core.Path.{sym}
 use borrow.Author.Needs.{needs}
 use Rattle.store.specs.Words.{storeOf}
 use Rattle.calls.specs.Outs.{stateOf}
@@ -8,17 +8,6 @@ use Rattle.steps.specs.Perform.{perform}
 use Rattle.performing.proofs.ResultLaws.{value-told, boolean-told, own-told, value-taken, boolean-taken, own-taken, last-reading}
 use Rattle.performing.proofs.reads.perform_reading.Statement.{statement}
 use Rattle.performing.proofs.reads.perform_reading.Tie as tie
-use Rattle.performing.proofs.reads.perform_reading.Reads as reads
-use Rattle.performing.proofs.reads.perform_reading.Lts as lts
-use Rattle.extensibility.proofs.is_extensible.Reads as is-extensible-reads
-use Rattle.getting.proofs.get.Reads as get-reads
-use Rattle.has_property.proofs.has_property.Reads as has-property-reads
-use Rattle.own_property.proofs.get_own_property.Reads as get-own-property-reads
-use Rattle.performing.proofs.reads.boolean_result.Reads as boolean-result-reads
-use Rattle.performing.proofs.reads.key_or_first.Reads as key-or-first-reads
-use Rattle.performing.proofs.reads.own_property_result.Reads as own-property-result-reads
-use Rattle.performing.proofs.reads.value_result.Reads as value-result-reads
-use Rattle.prototypes.proofs.get_prototype_of.Reads as get-prototype-of-reads
 
 get-prototype-of-requires : tie.Need-get-prototype-of-requires
 get-prototype-of-requires c κs = c .before .before .before .before .before .pre .0 .readable

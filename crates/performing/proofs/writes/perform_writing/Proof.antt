@@ -1,5 +1,5 @@
 use denote.Ref.{now}
-use mathlib.Core.Path.{sym, _∙_}
+use mathlib.Core.Path.{sym}
 use borrow.Author.Needs.{needs}
 use Rattle.store.specs.Words.{storeOf}
 use Rattle.calls.specs.Outs.{stateOf}
@@ -10,16 +10,6 @@ use Rattle.performing.proofs.WritingLaws.{last-writing}
 use borrow.Author.Needs.{needs}
 use Rattle.performing.proofs.writes.perform_writing.Statement.{statement}
 use Rattle.performing.proofs.writes.perform_writing.Tie as tie
-use Rattle.performing.proofs.writes.perform_writing.Reads as reads
-use Rattle.performing.proofs.writes.perform_writing.Lts as lts
-use Rattle.definition.proofs.define_own_property.Reads as define-own-property-reads
-use Rattle.deletion.proofs.delete.Reads as delete-reads
-use Rattle.performing.proofs.reads.key_or_first.Reads as key-or-first-reads
-use Rattle.performing.proofs.writes.write_result.Reads as write-result-reads
-use Rattle.extensibility.proofs.prevention.prevent_extensions.Reads as prevent-extensions-reads
-use Rattle.descriptors.proofs.to_property_descriptor.Reads as to-property-descriptor-reads
-use Rattle.prototypes.proofs.set_prototype_of.Reads as set-prototype-of-reads
-use Rattle.setting.proofs.set.Reads as set-reads
 
 set-prototype-of-requires : tie.Need-set-prototype-of-requires
 set-prototype-of-requires c κs = c .before .before .before .before .before .before .pre .0 .readable

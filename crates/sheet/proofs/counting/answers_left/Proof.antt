@@ -1,16 +1,13 @@
 use denote.Ref.{now}
 use Prim.Native.Nat.{_+_, _≤_}
 use native.Mathlib.Omega.{arith}
-use mathlib.Core.Path.{_≡_, sym, _∙_}
+use mathlib.Core.Path.{_≡_}
 use borrow.Author.Needs.{needs}
 use lib.ListN.{length}
 use Rattle.record.specs.Sheet.{answersAt}
 use Rattle.sheet.proofs.CountLaws.{count-end, count-none, count-value, count-descriptor, count-keys, count-throw}
 use Rattle.sheet.proofs.counting.answers_left.Statement.{statement}
 use Rattle.sheet.proofs.counting.answers_left.Tie as tie
-use Rattle.sheet.proofs.counting.answers_left.Reads as reads
-use Rattle.sheet.proofs.counting.answers_left.Lts as lts
-use Rattle.sheet.proofs.next_answer.Reads as next-answer-reads
 
 abbrev Inv-loop : tie.InvT-loop
 Inv-loop sheet at left place₀ rest₀ count₀ place rest count = (count + length (answersAt sheet place rest) ≡ length (answersAt sheet at left)) × (count + rest ≤ left)

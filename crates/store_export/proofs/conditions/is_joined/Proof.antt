@@ -1,6 +1,5 @@
 use borrow.Author.Tests.{lt-ltb, le-ltb}
 use Rattle.store_export.specs.Export.{isJoined}
-use borrow.Author.Needs.{needs}
 use Rattle.store_export.proofs.conditions.is_joined.Statement.{statement}
 use Rattle.store_export.proofs.conditions.is_joined.Tie as tie
 
