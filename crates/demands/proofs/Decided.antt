@@ -1,18 +1,17 @@
 -- Demand 1 holds of every call of every list of calls. Assumes nothing.
-use Prim.Native.Nat.{ℕ, suc, _+_, _-_, _≤_, _<_}
-use native.Mathlib.Nat.{le-refl, not-suc-le-zero, not-suc-le-self}
+use Prim.Native.Nat.{ℕ, _+_, _-_, _≤_}
+use native.Mathlib.Nat.{le-refl}
 use native.Mathlib.Omega.{arith}
-use mathlib.Core.Path.{_≡_, refl, sym, ap, _∙_, subst}
-use mathlib.Core.Bool.{Bool, true, false, not, cond, false≢true}
+use mathlib.Core.Path.{_≡_, refl, ap, _∙_, subst}
+use mathlib.Core.Bool.{Bool, true, false, cond, false≢true}
 use mathlib.Core.Option.{Option, none, some}
 use mathlib.Core.List.{List, [], _∷_, _++_}
 use lib.Dec.{leb, ltb}
 use lib.ListN.{length}
-use borrow.Author.Tests.{ltb-false, leb-true, leb-false, le-leb, lt-leb, le-ltb, not-true}
+use borrow.Author.Tests.{ltb-false, leb-true, leb-false, le-leb, lt-leb, le-ltb}
 use Rattle.text.specs.Strings.{Entry, entering, numberOf, enter, maximumLength, maximumStrings}
 use Rattle.text.specs.Strings as entry
-use Rattle.value.specs.declared.Value.the-variants as language
-use Rattle.store.specs.Store.{Store, World, add, maximumObjects, maximumProperties}
+use Rattle.store.specs.Store.{Store, World}
 use Rattle.internal_methods.specs.declared.Failure.{Failure}
 use Rattle.internal_methods.specs.declared.Failure.the-variants.{Refused, TypeError}
 use Rattle.internal_methods.specs.Monad.{Answer, State, state, Out, failed, done}
@@ -20,23 +19,20 @@ use Rattle.internal_methods.proofs.StoreClosed.{Closed}
 use Rattle.internal_methods.proofs.Budget as met
 use Rattle.internal_methods.proofs.Longer.{Suffix, spent-reads-all}
 use Rattle.internal_methods.proofs.Longer as longer
-use Rattle.internal_methods.proofs.Reader.{isNine, Ended}
-use Rattle.internal_methods.proofs.Reader as reader
-use Rattle.internal_methods.proofs.Richer.{isTen, callsLeft, Shifted}
-use Rattle.internal_methods.proofs.Room.{isSeven}
 use Rattle.record.specs.Sheet.{sheetOf}
 use Rattle.record.specs.Tests.{firstFailing}
-use Rattle.steps.specs.Operation.{makesObject, asked}
-use Rattle.steps.specs.Perform.{Result, value, boolean, maximumCalls, perform}
+use Rattle.steps.specs.Operation.{asked}
+use Rattle.steps.specs.Perform.{Result, maximumCalls, perform}
 use Rattle.steps.specs.Response.{Ending, refused, typeError, Effect}
-use Rattle.steps.specs.Step.{contextOf, recordTests, refusing, completed, ran, step}
+use Rattle.steps.specs.Step.{contextOf, recordTests, refusing, completed, ran, step, callsMade}
 use Rattle.steps.specs.StringEntry.{enterString}
 use Rattle.steps.specs.Run.{Call, worldAt}
-use Rattle.demands.specs.Refusals.{runWith, callsMade, Refusal, inadmissible, full, spent, unreadable, exhausted, short, Accepted, by-result, by-typeError, by-throw, Unless, is-result, otherwise, LeftOf, leftIn, StepDecided, EntryRefusal, long, EntryDecided}
+use Rattle.demands.specs.Refusals.{Refusal, inadmissible, full, spent, unreadable, exhausted, short, Accepted, by-result, by-typeError, by-throw, Unless, is-result, otherwise, LeftOf, leftIn, StepDecided, EntryRefusal, long, EntryDecided}
 use Rattle.demands.specs.Refusals as refusal
 use Rattle.steps.proofs.Made.{names-made}
 use Rattle.steps.proofs.Performs.{Fails, Performs, crowded, method, performs}
-use Rattle.steps.proofs.Lifted.{perform-longer, perform-reader, perform-richer, RoomOut, perform-room, MakesOut, perform-makes}
+use Rattle.steps.proofs.Lifted.{perform-longer}
+use Rattle.steps.proofs.Runs.{Crowded, by-objects, by-properties, crowded-ran, full-ran, exhausted-ran, seven, nine, ten}
 use Rattle.steps.proofs.Places.{closed-at}
 use Rattle.steps.proofs.Steps.{Ends, step-is, ends, EntryEnds, entry-ends}
 use Rattle.steps.proofs.Steps as how
@@ -77,116 +73,18 @@ left-is (done a s) = refl
 spent-met : (ω : World) (s : State) → Fails (contextOf ω) (Refused 8) s → s .answers ≡ []
 spent-met ω s (method (met.spent e)) = e
 
-module _ (ω : World) (bytes sheet output : List ℕ) (passes : firstFailing (recordTests ω bytes sheet) ≡ none) where
-  abbrev first : State
-  first = state (sheetOf sheet) maximumCalls
-
-  -- 7, by the operation
-  seven : (s : State) → ran ω bytes sheet ≡ failed (Refused 7) s → Refusal ω bytes sheet output 7
-  unfolding ran
-  seven s e = by-operation (makesObject (asked bytes)) refl
-    where
-      of-making : {x : Out (Result × Store)} → makesObject (asked bytes) ≡ true → MakesOut (contextOf ω) maximumCalls first x → x ≡ failed (Refused 7) s → Refusal ω bytes sheet output 7
-      of-making m (MakesOut.made o h) q = absurd (false≢true cc)
-      of-making m (MakesOut.crowded h) q = refusal.crowded passes m (ltb-false _ _ h)
-
-      of-room : {x y : Out (Result × Store)} → RoomOut (contextOf ω) x y → x ≡ failed (Refused 7) s → runWith ω bytes (suc (length (ω .store .properties))) (sheetOf sheet) maximumCalls ≡ y → Refusal ω bytes sheet output 7
-      of-room (RoomOut.done h) q r = absurd (false≢true cc)
-      of-room (RoomOut.failed {f} h) q r = let g : f ≡ Refused 7 = cc in absurd (false≢true (sym h ∙ ap isSeven g))
-      of-room (RoomOut.added f h) q r = full passes (ltb-false _ _ (not-true _ f)) r h
-
-      by-operation : (b : Bool) → makesObject (asked bytes) ≡ b → Refusal ω bytes sheet output 7
-      by-operation true m = of-making m (perform-makes (contextOf ω) maximumCalls maximumProperties (asked bytes) m first) e
-      by-operation false m = of-room (perform-room (contextOf ω) maximumCalls (asked bytes) m first) e refl
-
-  -- 9, by the last answer
-  nine : (s : State) → ran ω bytes sheet ≡ failed (Refused 9) s → Refusal ω bytes sheet output 9
-  unfolding ran
-  nine s e = of-end (perform-reader maximumCalls (contextOf ω) (asked bytes) .ended first) e
-    where
-      of-end : {x : Out (Result × Store)} → Ended (perform maximumCalls (contextOf ω) (asked bytes)) first x → x ≡ failed (Refused 9) s → Refusal ω bytes sheet output 9
-      of-end (reader.done used q h) g = absurd (false≢true cc)
-      of-end (reader.unreadable {t} used a r u q h) g = let i : t ≡ s = cc in unreadable used a r passes q u (e ∙ ap (failed (Refused 9)) (sym i)) (λ v. h v (t .answers))
-      of-end (reader.other {f} h) g = let i : f ≡ Refused 9 = cc in absurd (false≢true (sym h ∙ ap isNine i))
-
-  -- 10, by larger budgets
-  abbrev spentBy : ℕ → Type 0
-  spentBy more = maximumCalls < callsMade (maximumCalls + more) (runWith ω bytes maximumProperties (sheetOf sheet) (maximumCalls + more))
-
-  made-more : (more : ℕ) (x : Out (Result × Store)) → callsLeft x < more → maximumCalls < callsMade (maximumCalls + more) x
-  made-more more (failed f t) h = omega (arith, h)
-  made-more more (done a t) h = omega (arith, h)
-
-  ten : (s : State) → ran ω bytes sheet ≡ failed (Refused 10) s → s .calls ≡ 0 → Refusal ω bytes sheet output 10
-  unfolding ran
-  ten s e z = exhausted passes (ap (callsMade maximumCalls) e ∙ ap (λ (n : ℕ). maximumCalls - n) z) larger
-    where
-      of-shift : (more : ℕ) → 0 < more → {x y : Out (Result × Store)} → Shifted more maximumCalls x y → x ≡ failed (Refused 10) s → maximumCalls < callsMade (maximumCalls + more) y
-      of-shift more p (Shifted.done h) g = absurd (false≢true cc)
-      of-shift more p (Shifted.failed {f = f} h) g = let i : f ≡ Refused 10 = cc in absurd (not-suc-le-zero (subst (λ (n : ℕ). 0 < n) (h (ap isTen i)) p))
-      of-shift more p (Shifted.exhausted {o = o} q h) g = made-more more o h
-
-      larger : (more : ℕ) → 0 < more → spentBy more
-      larger more p = of-shift more p (perform-richer maximumCalls (maximumCalls + more) (omega arith) (contextOf ω) (asked bytes) .shifted more first (le-refl _) (le-refl _)) e
-
--- The conditions decide the run ---------------------------------------------------------------
-
-module _ (ω : World) (bytes sheet : List ℕ) where
-  abbrev from : State
-  from = state (sheetOf sheet) maximumCalls
-
-  crowded-ran : makesObject (asked bytes) ≡ true → maximumObjects ≤ length (ω .store .objects) → ran ω bytes sheet ≡ failed (Refused 7) from
-  unfolding ran
-  crowded-ran m h = of-making (perform-makes (contextOf ω) maximumCalls maximumProperties (asked bytes) m from)
-    where
-      of-making : {x : Out (Result × Store)} → MakesOut (contextOf ω) maximumCalls from x → x ≡ failed (Refused 7) from
-      of-making (MakesOut.made o e) = absurd (false≢true (sym (le-ltb _ _ h) ∙ e))
-      of-making (MakesOut.crowded e) = refl
-
-  full-ran : (τ : Store) (s : State) → maximumProperties ≤ length (ω .store .properties) → runWith ω bytes (suc (length (ω .store .properties))) (sheetOf sheet) maximumCalls ≡ done (boolean true, τ) s
-      → length (τ .properties) ≡ suc (length (ω .store .properties)) → (t : State) × (ran ω bytes sheet ≡ failed (Refused 7) t)
-  unfolding ran
-  full-ran τ s l r h = by-operation (makesObject (asked bytes)) refl
-    where
-      of-making : {x : Out (Result × Store)} → MakesOut (contextOf ω) maximumCalls from x → x ≡ done (boolean true, τ) s → (t : State) × (perform maximumCalls (contextOf ω) (asked bytes) .run from ≡ failed (Refused 7) t)
-      of-making (MakesOut.made o e) q =
-          let x : Result × Store = (value (language.Object (length (ω .store .objects))), add (ω .store) o) in
-          let y : Result × Store = (boolean true, τ) in
-          let i : x ≡ y = cc in
-          let j : value (language.Object (length (ω .store .objects))) ≡ boolean true = ap (λ (x : Result × Store). x .0) i in
-          absurd (false≢true cc)
-      of-making (MakesOut.crowded e) q = absurd (false≢true cc)
-
-      of-room : {x y : Out (Result × Store)} → RoomOut (contextOf ω) x y → y ≡ done (boolean true, τ) s → (t : State) × (x ≡ failed (Refused 7) t)
-      of-room (RoomOut.done {a = a} {t = t} b) q =
-          let i : a ≡ (boolean true, τ) = cc in
-          let bound : length (a .1 .properties) ≤ length (ω .store .properties) = b (ap not (le-ltb _ _ l)) in
-          let more : length (a .1 .properties) ≡ suc (length (ω .store .properties)) = ap (λ (x : Result × Store). length (x .1 .properties)) i ∙ h in
-          absurd (not-suc-le-self _ (subst (λ (n : ℕ). n ≤ length (ω .store .properties)) more bound))
-      of-room (RoomOut.failed e) q = absurd (false≢true cc)
-      of-room (RoomOut.added {t = t} f e) q = (t, refl)
-
-      by-operation : (b : Bool) → makesObject (asked bytes) ≡ b → (t : State) × (perform maximumCalls (contextOf ω) (asked bytes) .run from ≡ failed (Refused 7) t)
-      by-operation true m = of-making (perform-makes (contextOf ω) maximumCalls (suc (length (ω .store .properties))) (asked bytes) m from) r
-      by-operation false m = of-room (perform-room (contextOf ω) maximumCalls (asked bytes) m from) r
-
-  exhausted-ran : maximumCalls < callsMade (maximumCalls + 1) (runWith ω bytes maximumProperties (sheetOf sheet) (maximumCalls + 1)) → (t : State) × (ran ω bytes sheet ≡ failed (Refused 10) t)
-  unfolding ran
-  exhausted-ran h = of-shift (perform-richer maximumCalls (maximumCalls + 1) (omega arith) (contextOf ω) (asked bytes) .shifted 1 from (le-refl _) (le-refl _)) h
-    where
-      of-shift : {x y : Out (Result × Store)} → Shifted 1 maximumCalls x y → maximumCalls < callsMade (maximumCalls + 1) y → (t : State) × (x ≡ failed (Refused 10) t)
-      of-shift (Shifted.done {t = t} q) g = let z : suc maximumCalls ≤ maximumCalls = omega (arith, g) in absurd (not-suc-le-self _ z)
-      of-shift (Shifted.failed {t = t} q) g = let z : suc maximumCalls ≤ maximumCalls = omega (arith, g) in absurd (not-suc-le-self _ z)
-      of-shift (Shifted.exhausted {t = t} q l) g = (t, refl)
-
 module _ (ω : World) (bytes sheet output : List ℕ) (closed : Closed (ω .store)) where
+  no-room : firstFailing (recordTests ω bytes sheet) ≡ none → Crowded ω bytes sheet → Refusal ω bytes sheet output 7
+  no-room p (by-objects m h) = refusal.crowded p m h
+  no-room p (by-properties l r h) = full p l r h
+
   -- a failure of the run is a refusal by its number, or is accepted
   met-refusal : (n : ℕ) (s : State) → firstFailing (recordTests ω bytes sheet) ≡ none → ran ω bytes sheet ≡ failed (Refused n) s → Fails (contextOf ω) (Refused n) s → Refusal ω bytes sheet output n
-  met-refusal n s p e (crowded h) = seven ω bytes sheet output p s e
-  met-refusal n s p e (method (met.full h)) = seven ω bytes sheet output p s e
+  met-refusal n s p e (crowded h) = no-room p (seven ω bytes sheet s e)
+  met-refusal n s p e (method (met.full h)) = no-room p (seven ω bytes sheet s e)
   met-refusal n s p e (method (met.spent h)) = spent p e h
-  met-refusal n s p e (method met.unreadable) = nine ω bytes sheet output p s e
-  met-refusal n s p e (method (met.exhausted h)) = ten ω bytes sheet output p s e h
+  met-refusal n s p e (method met.unreadable) = let u = nine ω bytes sheet s e in unreadable (u .used) (u .last) (u .asked-for) p (u .splits) (u .unreadable) e (u .throws)
+  met-refusal n s p e (method (met.exhausted h)) = exhausted p (ap (callsMade maximumCalls) e ∙ ap (λ (i : ℕ). maximumCalls - i) h) (ten ω bytes sheet s e)
 
   errs : (n : ℕ) (s : State) → Fails (contextOf ω) (TypeError n) s → Accepted (typeError n)
   errs n s (method (met.error m i j)) = by-typeError n i j

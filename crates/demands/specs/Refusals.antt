@@ -18,17 +18,8 @@ use Rattle.record.specs.Tests.{firstFailing}
 use Rattle.steps.specs.Operation.{makesObject, asked}
 use Rattle.steps.specs.Perform.{Result, boolean, maximumCalls, perform}
 use Rattle.steps.specs.Response.{Ending, refused, result, typeError, thrown, Response, Effect}
-use Rattle.steps.specs.Step.{contextOf, recordTests, outputHolds, refusing, ran, step}
+use Rattle.steps.specs.Step.{contextOf, recordTests, outputHolds, refusing, ran, runWith, callsMade, step}
 use Rattle.steps.specs.StringEntry.{enterString}
-
--- the same step with another allowance of properties, other answers and another budget of calls
-abbrev pub runWith : World → List ℕ → ℕ → List Answer → ℕ → Out (Result × Store)
-runWith ω bytes allowance answers calls = perform calls (record { store = ω .store; strings = ω .strings; allowance = allowance }) (asked bytes) .run (state answers calls)
-
--- the calls that a run made of its budget
-abbrev pub callsMade : ℕ → Out (Result × Store) → ℕ
-callsMade budget (failed f s) = budget - s .calls
-callsMade budget (done a s) = budget - s .calls
 
 -- document 01's refusals, by their numbers: each condition says why
 pub data Refusal (ω : World) (bytes sheet output : List ℕ) : ℕ → Type 0 where

@@ -22,7 +22,7 @@ use Rattle.internal_methods.specs.Monad.{Answer, State, state, Out, M, p
 use Rattle.internal_methods.specs.Methods.{Context, Methods, Written}
 use Rattle.internal_methods.specs.Ordinary.{isFull, applyValidation}
 use Rattle.internal_methods.specs.Internal.{methods}
-use Rattle.internal_methods.proofs.Walk.{Message, message, Any, AnswerBy, MethodsBy, Relation, Asking, askValue-by, askPrototype-by, askDescriptor-by, askKeys-by, level-by}
+use Rattle.internal_methods.proofs.Walk.{Message, message, Any, AnswerBy, MethodsBy, Relation, Asking, askValue-by, askBoolean-by, askPrototype-by, askDescriptor-by, askKeys-by, level-by}
 use Rattle.internal_methods.proofs.StoreClosed.{Made, MadeValue, Closed, Kept, kept-same, kept-put, kept-with, kept-without}
 
 abbrev pub MadeAnswer : Store → Answer → Type 0
@@ -219,6 +219,7 @@ steady-relation c n closed = record {
   writes-binds-value = steady-bind;
   writes-binds-own = steady-bind;
   asks-value = askValue-by (steady-asking c n);
+  asks-boolean = askBoolean-by (steady-asking c n) (c .strings);
   asks-prototype = askPrototype-by (steady-asking c n);
   asks-descriptor = askDescriptor-by (steady-asking c n);
   asks-keys = askKeys-by (steady-asking c n);

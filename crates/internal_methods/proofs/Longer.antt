@@ -21,7 +21,7 @@ use Rattle.internal_methods.specs.Answers.{askKeys}
 use Rattle.internal_methods.specs.Methods.{Context}
 use Rattle.internal_methods.specs.Ordinary.{applyValidation}
 use Rattle.internal_methods.specs.Internal.{methods}
-use Rattle.internal_methods.proofs.Walk.{Any, allowing, Relation, RelatedMethods, AnswerBy, Asking, askValue-by, askPrototype-by, askDescriptor-by, askKeys-by, methods-by}
+use Rattle.internal_methods.proofs.Walk.{Any, allowing, Relation, RelatedMethods, AnswerBy, Asking, askValue-by, askBoolean-by, askPrototype-by, askDescriptor-by, askKeys-by, methods-by}
 
 -- the first is a tail of the second
 pub data Suffix : List Answer → List Answer → Type 0 where
@@ -191,6 +191,7 @@ longer-relation c = record {
   writes-binds-value = λ h k. longer-bind h (λ v. k v tt);
   writes-binds-own = λ h k. longer-bind h (λ x. k x tt);
   asks-value = askValue-by longer-asking;
+  asks-boolean = askBoolean-by longer-asking (c .strings);
   asks-prototype = askPrototype-by longer-asking;
   asks-descriptor = askDescriptor-by longer-asking;
   asks-keys = askKeys-by longer-asking;

@@ -12,6 +12,7 @@ use Rattle.property.specs.declared.OwnProperty.{OwnProperty}
 use Rattle.property.specs.declared.OwnProperty.the-variants.{Absent, Present}
 use Rattle.property.specs.declared.Validation.{Validation}
 use Rattle.property.specs.declared.Validation.the-variants.{Rejected, Unchanged, Becomes}
+use Rattle.text.specs.Strings.{Strings}
 use Rattle.store.specs.declared.OrdinaryObject.{OrdinaryObject}
 use Rattle.store.specs.declared.ProxyObject.{ProxyObject}
 use Rattle.store.specs.declared.Object.{Object}
@@ -20,7 +21,7 @@ use Rattle.store.specs.Store.{Store, lookup}
 use Rattle.internal_methods.specs.declared.Failure.{Failure}
 use Rattle.internal_methods.specs.declared.Failure.the-variants.{Refused, TypeError, Thrown}
 use Rattle.internal_methods.specs.Monad.{Answer, State, state, Out, M, pure, fails, next, _>>=_, _>>_, throwIf, answered, ask, counted, tick, if_then_else_, dispatched, dispatch}
-use Rattle.internal_methods.specs.Answers.{asValue, askValue, asPrototype, askPrototype, asDescriptor, askDescriptor, keysOf, listed, asKeys, askKeys}
+use Rattle.internal_methods.specs.Answers.{asValue, askValue, askBoolean, asPrototype, askPrototype, asDescriptor, askDescriptor, keysOf, listed, asKeys, askKeys}
 use Rattle.internal_methods.specs.Readable.{Reading, anyValue, prototype, descriptor, keyList, isUnreadable}
 use Rattle.internal_methods.specs.Methods.{Context}
 use Rattle.internal_methods.specs.Ordinary.{applyValidation}
@@ -173,6 +174,10 @@ pub askValue-reader : Reader askValue
 unfolding askValue _>>=_ next ask asValue
 askValue-reader = record { ended = λ s. value-ended (s .calls) (s .answers) }
 
+pub askBoolean-reader : (strings : Strings) → Reader (askBoolean strings)
+unfolding askBoolean
+askBoolean-reader strings = reader-bind askValue-reader (λ v. reader-pure _)
+
 pub askPrototype-reader : Reader askPrototype
 unfolding askPrototype askValue _>>=_ next ask asValue asPrototype
 askPrototype-reader = record { ended = λ s. prototype-ended (s .calls) (s .answers) }
@@ -207,6 +212,7 @@ reader-relation c = record {
   writes-binds-value = λ h k. reader-bind h (λ v. k v tt);
   writes-binds-own = λ h k. reader-bind h (λ x. k x tt);
   asks-value = askValue-reader;
+  asks-boolean = askBoolean-reader (c .strings);
   asks-prototype = askPrototype-reader;
   asks-descriptor = askDescriptor-reader;
   asks-keys = askKeys-reader;

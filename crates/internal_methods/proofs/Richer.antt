@@ -23,7 +23,7 @@ use Rattle.internal_methods.specs.Monad.{Answer, State, state, Out, M, p
 use Rattle.internal_methods.specs.Methods.{Context, Methods}
 use Rattle.internal_methods.specs.Ordinary.{applyValidation}
 use Rattle.internal_methods.specs.Internal.{methods}
-use Rattle.internal_methods.proofs.Walk.{Any, Relation, MethodsBy, Asking, askValue-by, askPrototype-by, askDescriptor-by, askKeys-by, level-by}
+use Rattle.internal_methods.proofs.Walk.{Any, Relation, MethodsBy, Asking, askValue-by, askBoolean-by, askPrototype-by, askDescriptor-by, askKeys-by, level-by}
 use Rattle.internal_methods.proofs.Longer.{any-answer}
 
 -- the calls that are left
@@ -269,6 +269,7 @@ richer-relation c n l = record {
   writes-binds-value = λ h k. richer-bind h (λ v. k v tt);
   writes-binds-own = λ h k. richer-bind h (λ x. k x tt);
   asks-value = askValue-by (richer-asking n l);
+  asks-boolean = askBoolean-by (richer-asking n l) (c .strings);
   asks-prototype = askPrototype-by (richer-asking n l);
   asks-descriptor = askDescriptor-by (richer-asking n l);
   asks-keys = askKeys-by (richer-asking n l);

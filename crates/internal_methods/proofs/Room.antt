@@ -28,7 +28,7 @@ use Rattle.internal_methods.specs.Monad.{Answer, State, Out, M, pure, fa
 use Rattle.internal_methods.specs.Methods.{Context, Written}
 use Rattle.internal_methods.specs.Ordinary.{isFull, applyValidation}
 use Rattle.internal_methods.specs.Internal.{methods}
-use Rattle.internal_methods.proofs.Walk.{Any, allowing, Relation, RelatedMethods, Asking, askValue-by, askPrototype-by, askDescriptor-by, askKeys-by, methods-by}
+use Rattle.internal_methods.proofs.Walk.{Any, allowing, Relation, RelatedMethods, Asking, askValue-by, askBoolean-by, askPrototype-by, askDescriptor-by, askKeys-by, methods-by}
 use Rattle.internal_methods.proofs.Longer.{any-answer}
 
 -- an allowance with room for one property more
@@ -238,6 +238,7 @@ room-relation c = record {
   writes-binds-value = roomy-bind;
   writes-binds-own = roomy-bind;
   asks-value = askValue-by same-asking;
+  asks-boolean = askBoolean-by same-asking (c .strings);
   asks-prototype = askPrototype-by same-asking;
   asks-descriptor = askDescriptor-by same-asking;
   asks-keys = askKeys-by same-asking;

@@ -16,6 +16,7 @@ use Rattle.property.specs.declared.Property.the-variants.{Data, Accessor}
 use Rattle.property.specs.declared.OwnProperty.{OwnProperty}
 use Rattle.property.specs.declared.OwnProperty.the-variants.{Absent, Present}
 use Rattle.property.specs.declared.Validation.{Validation}
+use Rattle.text.specs.Strings.{Strings}
 use Rattle.store.specs.declared.OrdinaryObject.{OrdinaryObject}
 use Rattle.store.specs.declared.ProxyObject.{ProxyObject}
 use Rattle.store.specs.declared.Object.the-variants.{Ordinary, Proxy}
@@ -105,6 +106,7 @@ pub record Relation (c : Context) (allowance : ℕ) (Obj : ℕ → Type 0) (Val 
   pub writes-binds-own : {o : ℕ} {k : PropertyKey} {m m′ : M OwnProperty} {f f′ : OwnProperty → M Written} → reads (Own o k) m m′ → ((x : OwnProperty) → Own o k x → writes (f x) (f′ x)) → writes (m >>= f) (m′ >>= f′)
   -- what is asked for
   pub asks-value : reads Val askValue askValue
+  pub asks-boolean : reads Any (askBoolean (c .strings)) (askBoolean (c .strings))
   pub asks-prototype : reads Val askPrototype askPrototype
   pub asks-descriptor : reads Any askDescriptor askDescriptor
   pub asks-keys : reads Any askKeys askKeys
@@ -188,6 +190,10 @@ module _ {Val : Value → Type 0} (J : Asking Val) where
   pub askValue-by : J .reads Val askValue askValue
   unfolding askValue
   askValue-by = J .asks asValue-by
+
+  pub askBoolean-by : (strings : Strings) → J .reads Any (askBoolean strings) (askBoolean strings)
+  unfolding askBoolean
+  askBoolean-by strings = J .binds-value askValue-by λ v _. J .gives _ tt
 
   asPrototype-by : (v : Value) → Val v → J .reads Val (asPrototype v) (asPrototype v)
   unfolding asPrototype
@@ -295,10 +301,6 @@ module _ {c : Context} {allowance : ℕ} {Obj : ℕ → Type 0} {Val : Value →
       go : (x : Option ℕ) → objectOf v ≡ x → R .writes (elim x [ none ↦ m | some q ↦ k q ]) (elim x [ none ↦ m′ | some q ↦ k′ q ])
       go none e = hm
       go (some q) e = hk q (R .object v h q e)
-
-  asks-boolean : R .reads Any (askBoolean (c .strings)) (askBoolean (c .strings))
-  unfolding askBoolean
-  asks-boolean = R .binds-value (R .asks-value) λ v _. R .gives _ tt
 
   sorted-by : {getOwn getOwn′ : PropertyKey → M OwnProperty} → ((k : PropertyKey) → R .reads Any (getOwn k) (getOwn′ k))
       → (ks : List PropertyKey) → R .reads Any (sorted getOwn ks) (sorted getOwn′ ks)
@@ -437,7 +439,7 @@ module _ {c : Context} {allowance : ℕ} {Obj : ℕ → Type 0} {Val : Value →
       pub setPrototypeOf-proxy : (v : Value) → Val v → TrappedWrite (not (hasTrap p 1)) Any (askBoolean (c .strings)) (proxySetPrototypeOf c call p v) (proxySetPrototypeOf c′ call′ p v)
       unfolding proxySetPrototypeOf
       setPrototypeOf-proxy v mv =
-          trap-write asks-boolean (h .setPrototypeOf (p .target) v m mv)
+          trap-write (R .asks-boolean) (h .setPrototypeOf (p .target) v m mv)
           (λ booleanTrapResult _.
           writes-if _ (R .idle _)
           (R .writes-binds (h .isExtensible (p .target) m) λ extensibleTarget.
@@ -449,7 +451,7 @@ module _ {c : Context} {allowance : ℕ} {Obj : ℕ → Type 0} {Val : Value →
       pub isExtensible-proxy : Trapped (not (hasTrap p 2)) Any Any (askBoolean (c .strings)) (proxyIsExtensible c call p) (proxyIsExtensible c′ call′ p)
       unfolding proxyIsExtensible
       isExtensible-proxy =
-          trap asks-boolean (h .isExtensible (p .target) m)
+          trap (R .asks-boolean) (h .isExtensible (p .target) m)
           (λ booleanTrapResult _.
           R .binds (h .isExtensible (p .target) m) λ targetResult.
           R .binds (throws-if _ _ tt) λ _.
@@ -458,7 +460,7 @@ module _ {c : Context} {allowance : ℕ} {Obj : ℕ → Type 0} {Val : Value →
       pub preventExtensions-proxy : TrappedWrite (not (hasTrap p 3)) Any (askBoolean (c .strings)) (proxyPreventExtensions c call p) (proxyPreventExtensions c′ call′ p)
       unfolding proxyPreventExtensions
       preventExtensions-proxy =
-          trap-write asks-boolean (h .preventExtensions (p .target) m)
+          trap-write (R .asks-boolean) (h .preventExtensions (p .target) m)
           (λ booleanTrapResult _.
           writes-if _ (R .idle _)
           (R .writes-binds (h .isExtensible (p .target) m) λ extensibleTarget.
@@ -494,7 +496,7 @@ module _ {c : Context} {allowance : ℕ} {Obj : ℕ → Type 0} {Val : Value →
       pub defineOwnProperty-proxy : (k : PropertyKey) (d : PropertyDescriptor) → TrappedWrite (not (hasTrap p 5)) Any (askBoolean (c .strings)) (proxyDefineOwnProperty c call p k d) (proxyDefineOwnProperty c′ call′ p k d)
       unfolding proxyDefineOwnProperty
       defineOwnProperty-proxy k d =
-          trap-write asks-boolean (h .defineOwnProperty (p .target) k d m)
+          trap-write (R .asks-boolean) (h .defineOwnProperty (p .target) k d m)
           (λ booleanTrapResult _.
           writes-if _ (R .idle _)
           (R .writes-binds (own-of (p .target) k m) λ targetDesc.
@@ -514,7 +516,7 @@ module _ {c : Context} {allowance : ℕ} {Obj : ℕ → Type 0} {Val : Value →
       pub hasProperty-proxy : (k : PropertyKey) → Trapped (not (hasTrap p 6)) Any Any (askBoolean (c .strings)) (proxyHasProperty c call p k) (proxyHasProperty c′ call′ p k)
       unfolding proxyHasProperty
       hasProperty-proxy k =
-          trap asks-boolean (h .hasProperty (p .target) k m)
+          trap (R .asks-boolean) (h .hasProperty (p .target) k m)
           (λ booleanTrapResult _.
           reads-if _ (R .gives _ tt)
           (R .binds (own-of (p .target) k m) (elim [
@@ -539,7 +541,7 @@ module _ {c : Context} {allowance : ℕ} {Obj : ℕ → Type 0} {Val : Value →
       pub set-proxy : (k : PropertyKey) (v receiver : Value) → Val receiver → TrappedWrite (not (hasTrap p 8)) Any (askBoolean (c .strings)) (proxySet c call p k v receiver) (proxySet c′ call′ p k v receiver)
       unfolding proxySet
       set-proxy k v receiver mr =
-          trap-write asks-boolean (h .set (p .target) k v receiver m mr)
+          trap-write (R .asks-boolean) (h .set (p .target) k v receiver m mr)
           (λ booleanTrapResult _.
           writes-if _ (R .idle _)
           (R .writes-binds (own-of (p .target) k m) λ targetDesc.
@@ -550,7 +552,7 @@ module _ {c : Context} {allowance : ℕ} {Obj : ℕ → Type 0} {Val : Value →
       pub delete-proxy : (k : PropertyKey) → TrappedWrite (not (hasTrap p 9)) Any (askBoolean (c .strings)) (proxyDelete c call p k) (proxyDelete c′ call′ p k)
       unfolding proxyDelete
       delete-proxy k =
-          trap-write asks-boolean (h .delete (p .target) k m)
+          trap-write (R .asks-boolean) (h .delete (p .target) k m)
           (λ booleanTrapResult _.
           writes-if _ (R .idle _)
           (R .writes-binds (own-of (p .target) k m) (elim [

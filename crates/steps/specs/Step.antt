@@ -92,6 +92,15 @@ ended ω answers output (done a s) = completed ω answers output a s (outputHold
 unfoldable pub ran : World → List ℕ → List ℕ → Out (Result × Store)
 ran ω bytes sheet = perform maximumCalls (contextOf ω) (asked bytes) .run (state (sheetOf sheet) maximumCalls)
 
+-- the same step with another allowance of properties, other answers and another budget of calls
+abbrev pub runWith : World → List ℕ → ℕ → List Answer → ℕ → Out (Result × Store)
+runWith ω bytes allowance answers calls = perform calls (record { store = ω .store; strings = ω .strings; allowance = allowance }) (asked bytes) .run (state answers calls)
+
+-- the calls that a run made of its budget
+abbrev pub callsMade : ℕ → Out (Result × Store) → ℕ
+callsMade budget (failed f s) = budget - s .calls
+callsMade budget (done a s) = budget - s .calls
+
 abbrev pub tested : World → List Answer → List ℕ → Out (Result × Store) → Option ℕ → Effect
 tested ω answers output run (some n) = refusing n ω output
 tested ω answers output run none = ended ω answers output run
