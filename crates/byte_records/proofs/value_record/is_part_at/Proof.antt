@@ -1,4 +1,3 @@
-use Rattle.internal_methods.proofs.Longer.{left}
 use Rattle.record.specs.Bytes.{isPartAt}
 use borrow.Author.Needs.{needs}
 use Rattle.byte_records.proofs.value_record.is_part_at.Statement.{statement}

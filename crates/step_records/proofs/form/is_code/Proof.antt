@@ -1,4 +1,3 @@
-use Rattle.internal_methods.proofs.Longer.{left}
 use borrow.Author.Tests.{le-leb, lt-leb}
 use Rattle.step_records.proofs.form.is_code.Statement.{statement}
 use Rattle.step_records.proofs.form.is_code.Tie as tie

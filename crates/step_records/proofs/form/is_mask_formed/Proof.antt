@@ -1,4 +1,3 @@
-use Rattle.internal_methods.proofs.Longer.{left}
 use borrow.Author.Needs.{needs}
 use borrow.Author.Tests.{eq-eqb, ne-eqb}
 use Rattle.step_records.proofs.form.is_mask_formed.Statement.{statement}

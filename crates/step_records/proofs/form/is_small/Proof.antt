@@ -1,4 +1,3 @@
-use Rattle.internal_methods.proofs.Longer.{left}
 use Rattle.step_records.proofs.MaskLaws.{negative-mask, small-mask}
 use borrow.Author.Needs.{needs}
 use Rattle.step_records.proofs.form.is_small.Statement.{statement}

@@ -1,4 +1,3 @@
-use Rattle.internal_methods.proofs.Longer.{left}
 use Rattle.record.specs.Step.{isStep}
 use borrow.Author.Needs.{needs}
 use borrow.Author.Tests.{eq-eqb, ne-eqb}

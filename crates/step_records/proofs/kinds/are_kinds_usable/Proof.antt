@@ -1,4 +1,3 @@
-use Rattle.internal_methods.proofs.Longer.{left}
 use Rattle.record.specs.Step.{areKindsUsable}
 use borrow.Author.Needs.{needs}
 use mathlib.Core.Path.{_∙_, sym}

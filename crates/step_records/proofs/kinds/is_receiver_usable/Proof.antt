@@ -1,4 +1,3 @@
-use Rattle.internal_methods.proofs.Longer.{left}
 use borrow.Author.Needs.{needs}
 use mathlib.Core.Path.{_∙_, sym}
 use Rattle.step_records.proofs.kinds.is_receiver_usable.Statement.{statement}

@@ -1,4 +1,3 @@
-use Rattle.internal_methods.proofs.Longer.{left}
 use borrow.Author.Tests.{le-leb, lt-leb}
 use Rattle.step_records.proofs.parts.uses_key.Statement.{statement}
 use Rattle.step_records.proofs.parts.uses_key.Tie as tie

@@ -1,4 +1,3 @@
-use Rattle.internal_methods.proofs.Longer.{left}
 use borrow.Author.Tests.{eq-eqb, ne-eqb}
 use Rattle.step_records.proofs.parts.uses_receiver.Statement.{statement}
 use Rattle.step_records.proofs.parts.uses_receiver.Tie as tie
