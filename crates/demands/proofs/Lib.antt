@@ -2,3 +2,4 @@ pub mod RowsHold
 pub mod LastingHolds
 pub mod Decided
 pub mod FurtherHold
+pub mod AcceptsHold

@@ -2,3 +2,4 @@ pub mod Rows
 pub mod Lasting
 pub mod Refusals
 pub mod Further
+pub mod Accepts

@@ -94,6 +94,32 @@ seventyThousand = value 3 0x70 0x11 0x01
 abbrev pub sixteenBits : List ℕ
 sixteenBits = value 3 0x70 0x11 0x00
 
+-- The lists of calls of the rows ----------------------------------------------------
+
+-- a get trap answers 4464 where the target's a is 70000, fixed
+abbrev pub cutGet : List Call
+cutGet = begun ++ (quiet (define 0 a 1 seventyThousand) ∷ proxy 128 0 ∷ step (plain 11 1 a unused (value 7 1 0 0)) (1 ∷ 1 ∷ sixteenBits) [] ∷ [])
+
+-- a getOwnPropertyDescriptor trap answers undefined where the target is empty and non-extensible
+abbrev pub absentOwn : List Call
+absentOwn = begun ++ (preventExtensions ∷ proxy 16 0 ∷ step (plain 8 1 a unused unused) (1 ∷ 1 ∷ unused) [] ∷ [])
+
+-- an ownKeys trap answers [a,a]
+abbrev pub twiceListed : List Call
+twiceListed = begun ++ (proxy 0 4 ∷ ownKeys (keyList 2 (a ++ a)) ∷ [])
+
+-- it answers [a] where the target has a non-configurable b
+abbrev pub fixedUnlisted : List Call
+fixedUnlisted = begun ++ (quiet (define 0 b 5 null) ∷ proxy 0 4 ∷ ownKeys (keyList 1 a) ∷ [])
+
+-- it answers [] where the target has a configurable a and is non-extensible
+abbrev pub keptUnlisted : List Call
+keptUnlisted = begun ++ (quiet (define 0 a 7 null) ∷ preventExtensions ∷ proxy 0 4 ∷ ownKeys (keyList 0 []) ∷ [])
+
+-- it answers [a] where the target is empty and non-extensible
+abbrev pub newListed : List Call
+newListed = begun ++ (preventExtensions ∷ proxy 0 4 ∷ ownKeys (keyList 1 a) ∷ [])
+
 -- The last event -------------------------------------------------------------------
 
 unfoldable pub lastOf : Response → List Event → Response
@@ -165,19 +191,17 @@ rows =
     -- sealed 70000, value 4464 / 70000: false / true
     ∷ two (overSealed 4464) (overSealed 70000) (test false) (test true)
     -- get answers 4464, sealed 70000: message 17, 2 calls
-    ∷ one (lastEnds (begun ++ (quiet (define 0 a 1 seventyThousand) ∷ proxy 128 0
-    ∷ step (plain 11 1 a unused (value 7 1 0 0)) (1 ∷ 1 ∷ sixteenBits) [] ∷ []))) (ends (typeError 17) 2)
+    ∷ one (lastEnds cutGet) (ends (typeError 17) 2)
     -- own property undefined, target absent and non-extensible: absent, 2 calls
-    ∷ one (lastEnds (begun ++ (preventExtensions ∷ proxy 16 0
-    ∷ step (plain 8 1 a unused unused) (1 ∷ 1 ∷ unused) [] ∷ []))) (ends (result absent) 2)
+    ∷ one (lastEnds absentOwn) (ends (result absent) 2)
     -- keys [a,a]: 22
-    ∷ one (lastEnding (begun ++ (proxy 0 4 ∷ ownKeys (keyList 2 (a ++ a)) ∷ []))) (ending (typeError 22))
+    ∷ one (lastEnding twiceListed) (ending (typeError 22))
     -- [a], target has non-configurable b: 24
-    ∷ one (lastEnding (begun ++ (quiet (define 0 b 5 null) ∷ proxy 0 4 ∷ ownKeys (keyList 1 a) ∷ []))) (ending (typeError 24))
+    ∷ one (lastEnding fixedUnlisted) (ending (typeError 24))
     -- [], non-extensible target has configurable a: 25
-    ∷ one (lastEnding (begun ++ (quiet (define 0 a 7 null) ∷ preventExtensions ∷ proxy 0 4 ∷ ownKeys (keyList 0 []) ∷ []))) (ending (typeError 25))
+    ∷ one (lastEnding keptUnlisted) (ending (typeError 25))
     -- [a], non-extensible target empty: 26
-    ∷ one (lastEnding (begun ++ (preventExtensions ∷ proxy 0 4 ∷ ownKeys (keyList 1 a) ∷ []))) (ending (typeError 26))
+    ∷ one (lastEnding newListed) (ending (typeError 26))
     ∷ []
 
 abbrev pub givens : List Row → List (List Cell)

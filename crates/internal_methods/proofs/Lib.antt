@@ -10,6 +10,7 @@ pub mod Reports
 pub mod Walk
 pub mod Longer
 pub mod Reader
+pub mod OrdinaryRuns
 pub mod TableHolds
 pub mod Room
 pub mod Richer

@@ -9,12 +9,11 @@ use Rattle.value.specs.declared.Value.the-variants as value
 use Rattle.value.specs.declared.PropertyKey.{PropertyKey}
 use Rattle.value.specs.Value.{isUndefined, toBoolean}
 use Rattle.property.specs.declared.Property.the-variants.{Accessor}
-use Rattle.property.specs.declared.OwnProperty.{OwnProperty}
 use Rattle.property.specs.declared.OwnProperty.the-variants.{Present}
 use Rattle.text.specs.Strings.{Strings, lengthOf}
 use Rattle.store.specs.declared.OrdinaryObject.{OrdinaryObject}
 use Rattle.store.specs.declared.ProxyObject.{ProxyObject}
-use Rattle.store.specs.declared.Object.the-variants.{Ordinary, Proxy}
+use Rattle.store.specs.declared.Object.the-variants.{Proxy}
 use Rattle.store.specs.Store.{lookup}
 use Rattle.internal_methods.specs.declared.Failure.{Failure}
 use Rattle.internal_methods.specs.declared.Failure.the-variants.{Refused}
@@ -25,6 +24,7 @@ use Rattle.internal_methods.specs.Ordinary.{ordinaryGet, ordinarySet}
 use Rattle.internal_methods.specs.Proxy.{hasTrap}
 use Rattle.internal_methods.specs.Internal.{methods}
 use Rattle.internal_methods.specs.Readable.{Reading, anyValue, prototype, descriptor, keyList, isUnreadable, ReadsAs, HasTrap, HasAccessor, TableHolds}
+use Rattle.internal_methods.proofs.OrdinaryRuns.{ordinary-run, own-run}
 use Rattle.internal_methods.proofs.Walk.{Any, allowing, Trapped, TrappedWrite, getPrototypeOf-proxy, setPrototypeOf-proxy, isExtensible-proxy, preventExtensions-proxy, getOwnProperty-proxy, defineOwnProperty-proxy, hasProperty-proxy, get-proxy, set-proxy, delete-proxy, ownPropertyKeys-proxy}
 use Rattle.internal_methods.proofs.Walk as walk
 use Rattle.internal_methods.proofs.Reader.{isNine, Ended, Reader, reader-pure, reader-relation, methods-reader}
@@ -181,15 +181,9 @@ module _ (c : Context) (n calls o : ℕ) where
   asks-boolean = record { asked = boolean-asked (c .strings) }
 
   -- an ordinary object finds its own accessor, after two calls
-  ordinary-found : {A : Type 0} (f : OrdinaryObject → M A) (g : ProxyObject → M A) (r : OrdinaryObject) (a : List Answer) (m : ℕ) → lookup (c .store) o ≡ some (Ordinary r)
-      → dispatch (c .store) o f g .run (state a (suc m)) ≡ f r .run (state a m)
-  unfolding dispatch dispatched tick _>>=_ next
-  ordinary-found f g r a m e = rw e
-
   module _ (k : PropertyKey) (g s : Value) (h : HasAccessor c o k g s) (a : Answer) where
     own-read : methods (suc n) c .getOwnProperty o k .run (state (a ∷ []) (suc calls)) ≡ Out.done (Present (Accessor g s (h .enumerable) (h .configurable))) (state (a ∷ []) calls)
-    unfolding methods pure
-    own-read = ordinary-found _ _ (h .object) (a ∷ []) calls (h .found) ∙ ap (λ (x : OwnProperty). Out.done x (state (a ∷ []) calls)) (h .is)
+    own-read = own-run c o (h .object) (h .found) (a ∷ []) n calls k _ (h .is)
 
     get-asks : (receiver : Value) → isUndefined g ≡ false → ordinaryGet (methods (suc n) c) o k receiver .run (state (a ∷ []) (suc calls)) ≡ askValue .run (state (a ∷ []) calls)
     unfolding ordinaryGet _>>=_ next if_then_else_
@@ -197,7 +191,7 @@ module _ (c : Context) (n calls o : ℕ) where
 
     accessor-got : (receiver : Value) → isUndefined g ≡ false → methods (suc (suc n)) c .get o k receiver .run (state (a ∷ []) (suc (suc calls))) ≡ askValue .run (state (a ∷ []) calls)
     unfolding methods
-    accessor-got receiver u = ordinary-found _ _ (h .object) (a ∷ []) (suc calls) (h .found) ∙ get-asks receiver u
+    accessor-got receiver u = ordinary-run _ o _ _ (h .object) (h .found) (a ∷ []) (suc calls) ∙ get-asks receiver u
 
     set-asks : (v receiver : Value) → isUndefined s ≡ false → ordinarySet c (methods (suc n) c) o k v receiver .run (state (a ∷ []) (suc calls)) ≡ (askValue >> pure (true, c .store)) .run (state (a ∷ []) calls)
     unfolding ordinarySet _>>=_ next if_then_else_
@@ -205,7 +199,7 @@ module _ (c : Context) (n calls o : ℕ) where
 
     accessor-set : (v receiver : Value) → isUndefined s ≡ false → methods (suc (suc n)) c .set o k v receiver .run (state (a ∷ []) (suc (suc calls))) ≡ (askValue >> pure (true, c .store)) .run (state (a ∷ []) calls)
     unfolding methods
-    accessor-set v receiver u = ordinary-found _ _ (h .object) (a ∷ []) (suc calls) (h .found) ∙ set-asks v receiver u
+    accessor-set v receiver u = ordinary-run _ o _ _ (h .object) (h .found) (a ∷ []) (suc calls) ∙ set-asks v receiver u
 
   pub table-holds : TableHolds c n calls o
   unfolding methods
