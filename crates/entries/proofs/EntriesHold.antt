@@ -17,16 +17,18 @@ use Rattle.steps.specs.Run as call
 use Rattle.demands.specs.Refusals.{StepDecided}
 use Rattle.demands.proofs.LastingHolds.{lasting}
 use Rattle.demands.proofs.FurtherHold.{further}
-use Rattle.demands.proofs.Decided.{step-decided}
+use Rattle.demands.proofs.Decided.{step-decided, entry-decided}
+use Rattle.steps.proofs.Outputs.{output-is}
 use Rattle.reporting.specs.Memory.{Shown, shownBy, isMemory, stepOver, enterOver, WordsAfter}
-use Rattle.entries.specs.Entries.{Memory, Called, stepped, entered, Calls, none, more, reported, Kept}
+use Rattle.entries.specs.Entries.{Memory, Called, stepped, entered, Calls, none, more, reported, written, Kept}
 
 abbrev world : Memory → World
 world m = worldOf (m .words) (m .cells)
 
 -- what one call does, as the definitions have it
-record Does (m : Memory) (c : Call) (r : Report) (n : Memory) : Type 0 where
+record Does (m : Memory) (c : Call) (r : Report) (out : List ℕ) (n : Memory) : Type 0 where
   report : r ≡ reportOf (effect (world m) c .response)
+  output : out ≡ written (record { call = c; response = effect (world m) c .response })
   after : world n ≡ effect (world m) c .world
   memory : isMemory (n .words) (n .cells) ≡ true
 
@@ -45,42 +47,52 @@ over-entry : (m : Memory) (units : List ℕ) → isTable (m .cells) ≡ true →
 unfolding enterOver effect
 over-entry m units h = rw h
 
-does : (m : Memory) → isMemory (m .words) (m .cells) ≡ true → {n : Memory} {c : Call} {r : Report} {out : List ℕ} → Called m c r out n → Does m c r n
+does : (m : Memory) → isMemory (m .words) (m .cells) ≡ true → {n : Memory} {c : Call} {r : Report} {out : List ℕ} → Called m c r out n → Does m c r out n
 unfolding isMemory
-does m h (stepped bytes sheet output r after out q w) =
+does m h (stepped bytes sheet output r after out k) =
     let p = and-true (isStore (m .words)) (isTable (m .cells)) h in
-    let s = q ∙ ap (λ (e : Effect). shownBy e) (over m bytes sheet output h) in
-    record { report = ap (λ (x : Shown). x .report) s; after = ap (λ (x : Shown). x .world) s; memory = and-both _ _ (still (r .outcome) (m .words) after (p .0) w) (p .1) }
-does m h (entered units r after q t) =
+    let s = k .shows ∙ ap (λ (e : Effect). shownBy e) (over m bytes sheet output h) in
+    record {
+      report = ap (λ (x : Shown). x .report) s;
+      output = ap (λ (x : Shown). x .output) s ∙ output-is (world m) bytes sheet output;
+      after = ap (λ (x : Shown). x .world) s;
+      memory = and-both _ _ (still (r .outcome) (m .words) after (p .0) (k .writes)) (p .1);
+    }
+does m h (entered units r after k) =
     let p = and-true (isStore (m .words)) (isTable (m .cells)) h in
-    let s = q (storeOf (m .words)) ∙ ap (λ (e : Effect). shownBy e) (over-entry m units (p .1)) in
-    record { report = ap (λ (x : Shown). x .report) s; after = ap (λ (x : Shown). x .world) s; memory = and-both _ _ (p .0) (t ∙ p .1) }
+    let s = k .shows (storeOf (m .words)) ∙ ap (λ (e : Effect). shownBy e) (over-entry m units (p .1)) in
+    record { report = ap (λ (x : Shown). x .report) s; output = refl; after = ap (λ (x : Shown). x .world) s; memory = and-both _ _ (p .0) (k .table ∙ p .1) }
 
-record Follows (m : Memory) (cs : List Call) (rs : List Report) (n : Memory) : Type 0 where
+record Follows (m : Memory) (cs : List Call) (rs : List Report) (outs : List (List ℕ)) (n : Memory) : Type 0 where
   reports : rs ≡ map reported (runFrom (world m) cs)
+  outputs : outs ≡ map written (runFrom (world m) cs)
   after : world n ≡ worldFrom (world m) cs (length cs)
 
-follows : {m n : Memory} {cs : List Call} {rs : List Report} → isMemory (m .words) (m .cells) ≡ true → Calls m cs rs n → Follows m cs rs n
+follows : {m n : Memory} {cs : List Call} {rs : List Report} {outs : List (List ℕ)} → isMemory (m .words) (m .cells) ≡ true → Calls m cs rs outs n → Follows m cs rs outs n
 unfolding runFrom worldFrom
-follows h (none m) = record { reports = refl; after = refl }
-follows h (more m k n c cs r rs out d ds) =
+follows h (none m) = record { reports = refl; outputs = refl; after = refl }
+follows h (more m k n c cs r rs out outs d ds) =
     let e = does m h d in
     let f = follows (e .memory) ds in
     record {
       reports = ap (λ (x : Report). x ∷ rs) (e .report) ∙ ap (λ (x : List Report). reportOf (effect (world m) c .response) ∷ x) (f .reports ∙ ap (λ (ω : World). map reported (runFrom ω cs)) (e .after));
+      outputs = ap (λ (x : List ℕ). x ∷ outs) (e .output)
+          ∙ ap (λ (x : List (List ℕ)). written (record { call = c; response = effect (world m) c .response }) ∷ x) (f .outputs ∙ ap (λ (ω : World). map written (runFrom ω cs)) (e .after));
       after = f .after ∙ ap (λ (ω : World). worldFrom ω cs (length cs)) (e .after);
     }
 
 -- from memory that `make_empty` has emptied
-pub kept : (m n : Memory) (cs : List Call) (rs : List Report) → isMemory (m .words) (m .cells) ≡ true → storeOf (m .words) ≡ empty .store → stringsOf (m .cells) ≡ []
-    → Calls m cs rs n → Kept cs rs n
+pub kept : (m n : Memory) (cs : List Call) (rs : List Report) (outs : List (List ℕ)) → isMemory (m .words) (m .cells) ≡ true → storeOf (m .words) ≡ empty .store → stringsOf (m .cells) ≡ []
+    → Calls m cs rs outs n → Kept cs rs outs n
 unfolding run
-kept m n cs rs h s t ds =
+kept m n cs rs outs h s t ds =
     let z : world m ≡ empty = rw (s, t) in
     let f = follows h ds in
     record {
       reports-are = f .reports ∙ ap (λ (ω : World). map reported (runFrom ω cs)) z;
+      outputs-are = f .outputs ∙ ap (λ (ω : World). map written (runFrom ω cs)) z;
       lasting = lasting cs;
       further = further cs;
       decided = λ bytes sheet output. subst (λ (ω : World). StepDecided ω bytes sheet output) (sym (f .after ∙ ap (λ (ω : World). worldFrom ω cs (length cs)) z)) (step-decided cs (length cs) bytes sheet output);
+      entry-decided = λ units. entry-decided (world n) units;
     }

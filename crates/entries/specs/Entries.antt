@@ -2,45 +2,51 @@
 use Prim.Native.Nat.{ℕ}
 use mathlib.Core.Path.{_≡_}
 use mathlib.Core.List.{List, [], _∷_, map}
-use Rattle.text.specs.Table.{isTable}
-use Rattle.store.specs.Store.{Store}
 use Rattle.steps.specs.declared.Report.{Report}
-use Rattle.steps.specs.Response.{reportOf}
+use Rattle.steps.specs.Response.{Ending, reportOf}
+use Rattle.steps.specs.Step.{outputAfterEnding}
 use Rattle.steps.specs.Run.{Call, Event, run}
 use Rattle.steps.specs.Run as call
 use Rattle.demands.specs.Lasting.{Lasting}
 use Rattle.demands.specs.Further.{Further}
-use Rattle.demands.specs.Refusals.{StepDecided}
+use Rattle.demands.specs.Refusals.{StepDecided, EntryDecided}
 use Rattle.store.specs.Words.{worldOf}
-use Rattle.reporting.specs.Memory.{shown, shownBy, stepOver, shownEntry, enterOver, WordsAfter}
+use Rattle.reporting.specs.Memory.{Stepped, StringEntered}
 
 -- the store's words and the string table's cells
 pub record Memory : Type 0 where
   pub words : List ℕ
   pub cells : List ℕ
 
--- one call: the memory that it found, its report, the output after it, and the memory that it left, as its contract has them
+-- one call: the memory that it found, its report, the output after it, and the memory that it left, by what the entry ensures
 pub data Called (m : Memory) : Call → Report → List ℕ → Memory → Type 0 where
-  stepped : (bytes sheet output : List ℕ) (r : Report) (after out : List ℕ)
-      → shown r after (m .cells) out ≡ shownBy (stepOver (m .words) (m .cells) bytes sheet output)
-      → WordsAfter (r .outcome) (m .words) after
+  stepped : (bytes sheet output : List ℕ) (r : Report) (after out : List ℕ) → Stepped (m .words) (m .cells) bytes sheet output r after out
       → Called m (call.step bytes sheet output) r out (record { words = after; cells = m .cells })
-  entered : (units : List ℕ) (r : Report) (after : List ℕ)
-      → ((σ : Store) → shownEntry r σ after ≡ shownBy (enterOver σ (m .cells) units))
-      → isTable after ≡ isTable (m .cells)
+  entered : (units : List ℕ) (r : Report) (after : List ℕ) → StringEntered (m .cells) units r after
       → Called m (call.enter units) r [] (record { words = m .words; cells = after })
 
 -- each call finds exactly what its predecessor left; the last memory is what all of them left
-pub data Calls : Memory → List Call → List Report → Memory → Type 0 where
-  none : (m : Memory) → Calls m [] [] m
-  more : (m n l : Memory) (c : Call) (cs : List Call) (r : Report) (rs : List Report) (out : List ℕ) → Called m c r out n → Calls n cs rs l → Calls m (c ∷ cs) (r ∷ rs) l
+pub data Calls : Memory → List Call → List Report → List (List ℕ) → Memory → Type 0 where
+  none : (m : Memory) → Calls m [] [] [] m
+  more : (m n l : Memory) (c : Call) (cs : List Call) (r : Report) (rs : List Report) (out : List ℕ) (outs : List (List ℕ)) → Called m c r out n → Calls n cs rs outs l
+      → Calls m (c ∷ cs) (r ∷ rs) (out ∷ outs) l
 
 abbrev pub reported : Event → Report
 reported e = reportOf (e .response)
 
+-- the output that a call leaves: a key list's bytes at the start of the one that it was lent, and the rest of that
+abbrev pub outputOf : Call → Ending → List ℕ
+outputOf (call.step bytes sheet output) ending = outputAfterEnding ending output
+outputOf (call.enter units) ending = []
+
+abbrev pub written : Event → List ℕ
+written e = outputOf (e .call) (e .response .ending)
+
 -- what holds of calls of the entries from memory that holds nothing
-pub record Kept (calls : List Call) (reports : List Report) (m : Memory) : Type 0 where
+pub record Kept (calls : List Call) (reports : List Report) (outputs : List (List ℕ)) (m : Memory) : Type 0 where
   pub reports-are : reports ≡ map reported (run calls)  -- they report what the definitions' run tells
+  pub outputs-are : outputs ≡ map written (run calls)  -- and write the keys that it tells, and nothing else
   pub lasting : Lasting (run calls)  -- demand 3
   pub further : Further (run calls)
   pub decided : (bytes sheet output : List ℕ) → StepDecided (worldOf (m .words) (m .cells)) bytes sheet output  -- demand 1, of the step that comes next
+  pub entry-decided : (units : List ℕ) → EntryDecided (worldOf (m .words) (m .cells)) units  -- and of the string

@@ -4,6 +4,7 @@ use mathlib.Core.Path.{_≡_}
 use mathlib.Core.Bool.{Bool, true, false, _&&_, cond}
 use mathlib.Core.List.{List, []}
 use Rattle.text.specs.Table.{isTable, stringsOf}
+use Rattle.text.specs.Answers.{enterCells, cellsAfter}
 use Rattle.store.specs.Store.{Store, World}
 use Rattle.store.specs.Words.{isStore, worldOf}
 use Rattle.store_write.specs.declared.write.Write.{Write}
@@ -56,3 +57,14 @@ WordsAfter (Refused n) before after = after ≡ before
 WordsAfter (Result c) before after = Committed before after
 WordsAfter (TypeError n) before after = after ≡ before
 WordsAfter (Thrown v) before after = after ≡ before
+
+-- What `step` ensures: the report, what the memory holds and every output byte are those of the definitions; the words change by one write, and only with a result
+pub record Stepped (words cells bytes sheet output : List ℕ) (r : Report) (after out : List ℕ) : Type 0 where
+  pub shows : shown r after cells out ≡ shownBy (stepOver words cells bytes sheet output)
+  pub writes : WordsAfter (r .outcome) words after
+
+-- What `enter_string` ensures: the report and the strings are those of the definitions, whatever store stands beside the cells; every cell is determined
+pub record StringEntered (cells units : List ℕ) (r : Report) (after : List ℕ) : Type 0 where
+  pub shows : (σ : Store) → shownEntry r σ after ≡ shownBy (enterOver σ cells units)
+  pub cells-are : after ≡ cellsAfter cells units (enterCells cells units)
+  pub table : isTable after ≡ isTable cells

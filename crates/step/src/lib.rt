@@ -10,18 +10,14 @@ use text::EntryAnswer;
 use text::entry;
 use value::Value;
 ghost use mathlib.Core.Path.{_≡_};
-ghost use mathlib.Core.Bool.{true};
 ghost use mathlib.Core.Option.{none};
-ghost use Rattle.text.specs.Table.{isTable};
-ghost use Rattle.text.specs.Answers.{enterCells, cellsAfter};
-ghost use Rattle.store.specs.Store.{Store};
-ghost use Rattle.store.specs.Words.{isStore, worldOf};
+ghost use Rattle.store.specs.Words.{worldOf};
 ghost use Rattle.record.specs.Tests.{firstFailing};
 ghost use Rattle.record.specs.Sheet.{sheetOf};
 ghost use Rattle.calls.specs.Outs.{Readable};
 ghost use Rattle.steps.specs.Step.{recordTests, ended, ran};
 ghost use Rattle.step.specs.Entry.{entryReport};
-ghost use Rattle.reporting.specs.Memory.{shown, shownBy, stepOver, shownEntry, enterOver, WordsAfter};
+ghost use Rattle.reporting.specs.Memory.{shown, shownBy, WordsAfter, Stepped, StringEntered};
 
 // A step whose records passed their tests.
 fn run(words: &mut [u64], strings: &[u16], bytes: &[u8], sheet: &[u8], output: &mut [u8]) -> Report
@@ -46,8 +42,7 @@ pub fn step(
     sheet: &[u8],
     output: &mut [u8],
 ) -> Report
-    ensures { λ r. ⌜ shown r (now (words .exit)) (now (strings .entry)) (now (output .exit)) ≡ shownBy (stepOver (now (words .entry)) (now (strings .entry)) (now (bytes .entry)) (now (sheet .entry)) (now (output .entry))) ⌝ }
-    ensures { λ r. ⌜ WordsAfter (r .outcome) (now (words .entry)) (now (words .exit)) ⌝ }
+    ensures { λ r. ⌜ Stepped (now (words .entry)) (now (strings .entry)) (now (bytes .entry)) (now (sheet .entry)) (now (output .entry)) r (now (words .exit)) (now (output .exit)) ⌝ }
 {
     if reporting::is_memory(words, strings) {
         match step_records::record_refusal(words, strings, bytes, sheet) {
@@ -75,9 +70,7 @@ fn entered(answer: EntryAnswer) -> Report
 
 // A string's code units are entered; an equal string has its number already. Cells that are no table are refused as 1.
 pub fn enter_string(strings: &mut [u16], units: &[u16]) -> Report
-    ensures { λ r. ⌜ ((σ : Store) → shownEntry r σ (now (strings .exit)) ≡ shownBy (enterOver σ (now (strings .entry)) (now (units .entry)))) ⌝ }
-    ensures { λ _. ⌜ now (strings .exit) ≡ cellsAfter (now (strings .entry)) (now (units .entry)) (enterCells (now (strings .entry)) (now (units .entry))) ⌝ }
-    ensures { λ _. ⌜ isTable (now (strings .exit)) ≡ isTable (now (strings .entry)) ⌝ }
+    ensures { λ r. ⌜ StringEntered (now (strings .entry)) (now (units .entry)) r (now (strings .exit)) ⌝ }
 {
     entered(entry::enter(strings, units))
 }

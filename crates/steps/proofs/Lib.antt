@@ -1,4 +1,5 @@
 pub mod Steps
+pub mod Outputs
 pub mod Made
 pub mod Performed
 pub mod Performs

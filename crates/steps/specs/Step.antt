@@ -63,6 +63,13 @@ outputAfter (descriptor p) output = output
 outputAfter absent output = output
 outputAfter (keys ks) output = keysBytes ks ++ drop (valueSize * length ks) output
 
+-- the same of every ending: only a result writes
+abbrev pub outputAfterEnding : Ending → List ℕ → List ℕ
+outputAfterEnding (refused n) output = output
+outputAfterEnding (result r) output = outputAfter r output
+outputAfterEnding (typeError n) output = output
+outputAfterEnding (thrown v) output = output
+
 abbrev pub refusing : ℕ → World → List ℕ → Effect
 refusing n ω output = record { response = refusal n; world = ω; output = output }
 

@@ -6,7 +6,7 @@ use Rattle.demnyaluz.proofs.demnyaluz_enter_string.Statement.{statement
 use Rattle.demnyaluz.proofs.demnyaluz_enter_string.Tie as tie
 
 returns : tie.Need-returns
-returns c = ((λ σ. c .report-words .ensures ∙ ap (λ (s : Shown). reportWords (s .report)) (c .before .before .before .enter-string .ensures .0 σ)), c .before .before .before .enter-string .ensures .1 .0)
+returns c = ((λ σ. c .report-words .ensures ∙ ap (λ (s : Shown). reportWords (s .report)) (c .before .before .before .enter-string .ensures .shows σ)), c .before .before .before .enter-string .ensures .cells-are)
 
 pub demnyaluz-enter-string-spec : {M : Type 1} → statement M
 demnyaluz-enter-string-spec =

@@ -7,7 +7,7 @@ use Rattle.demnyaluz.proofs.demnyaluz_step.Statement.{statement}
 use Rattle.demnyaluz.proofs.demnyaluz_step.Tie as tie
 
 returns : tie.Need-returns
-returns c = (c .report-words .ensures ∙ ap (λ (s : Shown). reportWords (s .report)) (c .before .before .before .before .before .step .ensures .0), (ap (λ (s : Shown). s .world) (c .before .before .before .before .before .step .ensures .0), (ap (λ (s : Shown). s .output) (c .before .before .before .before .before .step .ensures .0), words-told _ _ _ _ (c .before .before .before .before .before .step .ensures .0) (c .before .before .before .before .before .step .ensures .1))))
+returns c = (c .report-words .ensures ∙ ap (λ (s : Shown). reportWords (s .report)) (c .before .before .before .before .before .step .ensures .shows), (ap (λ (s : Shown). s .world) (c .before .before .before .before .before .step .ensures .shows), (ap (λ (s : Shown). s .output) (c .before .before .before .before .before .step .ensures .shows), words-told _ _ _ _ (c .before .before .before .before .before .step .ensures .shows) (c .before .before .before .before .before .step .ensures .writes))))
 
 pub demnyaluz-step-spec : {M : Type 1} → statement M
 demnyaluz-step-spec =

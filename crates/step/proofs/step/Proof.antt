@@ -16,13 +16,13 @@ run-requires : tie.Need-run-requires
 run-requires c κs = ((memory-readable (now (c .before .before .before .before .before .before .before .before .before .before .before .before .before .before .args .words)) (now (c .before .before .before .before .before .before .before .before .before .before .before .before .before .before .args .strings)) (sym (c .before .before .before .before .before .before .before .is-memory .ensures) ∙ c .before .before .before .before .before .before .if1 .taken)), is-passed (firstFailing (recordTests (worldOf (now (c .before .before .before .before .before .before .before .before .before .before .before .before .before .before .args .words)) (now (c .before .before .before .before .before .before .before .before .before .before .before .before .before .before .args .strings))) (now (c .before .before .before .before .before .before .before .before .before .before .before .before .before .before .args .bytes)) (now (c .before .before .before .before .before .before .before .before .before .before .before .before .before .before .args .sheet)))) _ (c .before .before .before .before .record-refusal .ensures) (c .before .before .enum-told .given .1))
 
 returns : tie.Need-returns
-returns c = (step-refused (now (c .before .before .before .before .before .before .before .before .before .before .before .before .before .before .args .words)) (now (c .before .before .before .before .before .before .before .before .before .before .before .before .before .before .args .strings)) (now (c .before .before .before .before .before .before .before .before .before .before .before .before .before .before .args .bytes)) (now (c .before .before .before .before .before .before .before .before .before .before .before .before .before .before .args .sheet)) (now (c .before .before .before .before .before .before .before .before .before .before .before .before .before .before .args .output)) _ _ (sym (c .before .before .before .before .before .before .before .is-memory .ensures) ∙ c .before .before .before .before .before .before .if1 .taken) (is-failed (firstFailing (recordTests (worldOf (now (c .before .before .before .before .before .before .before .before .before .before .before .before .before .before .args .words)) (now (c .before .before .before .before .before .before .before .before .before .before .before .before .before .before .args .strings))) (now (c .before .before .before .before .before .before .before .before .before .before .before .before .before .before .args .bytes)) (now (c .before .before .before .before .before .before .before .before .before .before .before .before .before .before .args .sheet)))) _ _ (c .before .before .before .before .record-refusal .ensures) (c .before .before .n .given .1)) (c .refused .ensures), rw (c .refused .ensures) refl)
+returns c = record { shows = step-refused (now (c .before .before .before .before .before .before .before .before .before .before .before .before .before .before .args .words)) (now (c .before .before .before .before .before .before .before .before .before .before .before .before .before .before .args .strings)) (now (c .before .before .before .before .before .before .before .before .before .before .before .before .before .before .args .bytes)) (now (c .before .before .before .before .before .before .before .before .before .before .before .before .before .before .args .sheet)) (now (c .before .before .before .before .before .before .before .before .before .before .before .before .before .before .args .output)) _ _ (sym (c .before .before .before .before .before .before .before .is-memory .ensures) ∙ c .before .before .before .before .before .before .if1 .taken) (is-failed (firstFailing (recordTests (worldOf (now (c .before .before .before .before .before .before .before .before .before .before .before .before .before .before .args .words)) (now (c .before .before .before .before .before .before .before .before .before .before .before .before .before .before .args .strings))) (now (c .before .before .before .before .before .before .before .before .before .before .before .before .before .before .args .bytes)) (now (c .before .before .before .before .before .before .before .before .before .before .before .before .before .before .args .sheet)))) _ _ (c .before .before .before .before .record-refusal .ensures) (c .before .before .n .given .1)) (c .refused .ensures); writes = rw (c .refused .ensures) refl }
 
 returns-2 : tie.Need-returns-2
-returns-2 c = (step-ran (now (c .before .before .before .before .before .before .before .before .before .before .before .before .before .before .before .before .before .before .before .args .words)) (now (c .before .before .before .before .before .before .before .before .before .before .before .before .before .before .before .before .before .before .before .args .strings)) (now (c .before .before .before .before .before .before .before .before .before .before .before .before .before .before .before .before .before .before .before .args .bytes)) (now (c .before .before .before .before .before .before .before .before .before .before .before .before .before .before .before .before .before .before .before .args .sheet)) (now (c .before .before .before .before .before .before .before .before .before .before .before .before .before .before .before .before .before .before .before .args .output)) _ (sym (c .before .before .before .before .before .before .before .before .before .before .before .before .is-memory .ensures) ∙ c .before .before .before .before .before .before .before .before .before .before .before .if1 .taken) (is-passed (firstFailing (recordTests (worldOf (now (c .before .before .before .before .before .before .before .before .before .before .before .before .before .before .before .before .before .before .before .args .words)) (now (c .before .before .before .before .before .before .before .before .before .before .before .before .before .before .before .before .before .before .before .args .strings))) (now (c .before .before .before .before .before .before .before .before .before .before .before .before .before .before .before .before .before .before .before .args .bytes)) (now (c .before .before .before .before .before .before .before .before .before .before .before .before .before .before .before .before .before .before .before .args .sheet)))) _ (c .before .before .before .before .before .before .before .before .before .record-refusal .ensures) (c .before .before .before .before .before .before .before .enum-told .given .1)) (c .before .before .before .before .run .ensures .0), c .before .before .before .before .run .ensures .1)
+returns-2 c = record { shows = step-ran (now (c .before .before .before .before .before .before .before .before .before .before .before .before .before .before .before .before .before .before .before .args .words)) (now (c .before .before .before .before .before .before .before .before .before .before .before .before .before .before .before .before .before .before .before .args .strings)) (now (c .before .before .before .before .before .before .before .before .before .before .before .before .before .before .before .before .before .before .before .args .bytes)) (now (c .before .before .before .before .before .before .before .before .before .before .before .before .before .before .before .before .before .before .before .args .sheet)) (now (c .before .before .before .before .before .before .before .before .before .before .before .before .before .before .before .before .before .before .before .args .output)) _ (sym (c .before .before .before .before .before .before .before .before .before .before .before .before .is-memory .ensures) ∙ c .before .before .before .before .before .before .before .before .before .before .before .if1 .taken) (is-passed (firstFailing (recordTests (worldOf (now (c .before .before .before .before .before .before .before .before .before .before .before .before .before .before .before .before .before .before .before .args .words)) (now (c .before .before .before .before .before .before .before .before .before .before .before .before .before .before .before .before .before .before .before .args .strings))) (now (c .before .before .before .before .before .before .before .before .before .before .before .before .before .before .before .before .before .before .before .args .bytes)) (now (c .before .before .before .before .before .before .before .before .before .before .before .before .before .before .before .before .before .before .before .args .sheet)))) _ (c .before .before .before .before .before .before .before .before .before .record-refusal .ensures) (c .before .before .before .before .before .before .before .enum-told .given .1)) (c .before .before .before .before .run .ensures .0); writes = c .before .before .before .before .run .ensures .1 }
 
 returns-3 : tie.Need-returns-3
-returns-3 c = (step-unread (now (c .before .before .before .before .before .before .before .before .before .args .words)) (now (c .before .before .before .before .before .before .before .before .before .args .strings)) (now (c .before .before .before .before .before .before .before .before .before .args .bytes)) (now (c .before .before .before .before .before .before .before .before .before .args .sheet)) (now (c .before .before .before .before .before .before .before .before .before .args .output)) _ (sym (c .before .before .is-memory .ensures) ∙ c .before .if1 .left) (c .refused2 .ensures), rw (c .refused2 .ensures) refl)
+returns-3 c = record { shows = step-unread (now (c .before .before .before .before .before .before .before .before .before .args .words)) (now (c .before .before .before .before .before .before .before .before .before .args .strings)) (now (c .before .before .before .before .before .before .before .before .before .args .bytes)) (now (c .before .before .before .before .before .before .before .before .before .args .sheet)) (now (c .before .before .before .before .before .before .before .before .before .args .output)) _ (sym (c .before .before .is-memory .ensures) ∙ c .before .if1 .left) (c .refused2 .ensures); writes = rw (c .refused2 .ensures) refl }
 
 pub step-spec : {M : Type 1} → statement M
 step-spec =
