@@ -16,7 +16,7 @@ use Rattle.store_read.specs.Answers.{keyFromWord}
 use Rattle.internal_methods.specs.KeyList.{hasKey, withoutKey, isEmpty, checkedOff, Sorted, remaining, required, rejected}
 use Rattle.internal_methods.specs.Proxy.{sortedBy}
 use Rattle.key_lists.specs.KeyWords.{messageNumber, sortedFrom}
-use Rattle.key_lists.specs.Unchecked.{checkedMark, unchecked, isDue, dueKeys, turnMessage, lastMessage}
+use Rattle.key_lists.specs.Unchecked.{checkedMark, unchecked, isDue, dueKeys, missingMessage, turnMessage, lastMessage}
 use Rattle.key_lists.specs.declared.target_keys.TargetKey.{TargetKey}
 use Rattle.key_lists.specs.Records.{sortedKeys, recordsOf}
 

@@ -6,6 +6,7 @@ use native.Mathlib.Omega.{arith}
 use native.Mathlib.Nat.{mod-lt}
 use Prim.Native.Nat.{ℕ, zero, suc, _+_, _*_, _%_, _<_, _≤_, _^_}
 use mathlib.Core.Bool.{Bool}
+use mathlib.Core.Option.{some as just}
 use mathlib.Core.List.{List, [], _∷_, map}
 use lib.Dec.{ltb, lit<}
 use lib.ListN.{length, take, getD}
@@ -33,7 +34,7 @@ use types.Tokens.{lft-new, lft-end}
 use denote.Exit.{yes}
 use denote.RattleType.{RattleType, owns}
 use denote.Shadow.{pureI}
-use denote.Memory.{shares, pointee}
+use denote.Memory.{mem as mem-of, shares, pointee}
 use denote.Laws.{Is, Copy, Tells, shows}
 use denote.Plain.{uint-vals, uint-tells, uint-makes, uint-lawful, bool-vals, bool-tells, bool-makes}
 use denote.Builtin.{u64, usize, bool}
@@ -58,15 +59,18 @@ use Rattle.key_lists.specs.KeyWords.{messageNumber}
 use Rattle.key_lists.specs.Unchecked.{unchecked, dueKeys, turnMessage, lastMessage}
 use Rattle.key_lists.proofs.checking.check_key as check-key
 use Rattle.key_lists.proofs.checking.check_key.Symbol as check-key-def
+use Rattle.key_lists.proofs.checking.check_key.Symbol.{name as #key-lists·checking·check-key}
 use Rattle.key_lists.proofs.checking.check_key.Met as check-key-thm
 use Rattle.key_lists.proofs.checking.last_message as last-message
 use Rattle.key_lists.proofs.checking.last_message.Symbol as last-message-def
+use Rattle.key_lists.proofs.checking.last_message.Symbol.{name as #key-lists·checking·last-message}
 use Rattle.key_lists.proofs.checking.last_message.Met as last-message-thm
 use Rattle.key_lists.specs.declared.target_keys.TargetKey.{TargetKey}
 use Rattle.key_lists.specs.Records.{sortedKeys}
 use Rattle.key_lists.proofs.target_keys.TargetKey as T
 use Rattle.key_lists.proofs.target_keys.TargetKey.Laws as T′
 use Rattle.key_lists.proofs.TurnLaws.{noKey, goesOn, goes-first, goes-on, goes-last}
+use Rattle.key_lists.proofs.target_keys.rejected_message.Key.{name as #key-lists·target-keys·rejected-message}
 use Rattle.key_lists.proofs.target_keys.rejected_message as rejected-message
 use Rattle.key_lists.proofs.target_keys.rejected_message.Statement as stated
 use Rattle.key_lists.proofs.target_keys.rejected_message.Code as code
