@@ -25,6 +25,9 @@ for crate in "$@"; do
 done
 if [ -z "$names" ]; then echo 'edits: 0 tried'; exit 0; fi
 cd "$copy"
+# Edits wait for their neighbours: two for each processor keep all busy.
+RT_JOBS=${RT_JOBS:-$(($(nproc) * 2))}
+export RT_JOBS
 status=0
 # shellcheck disable=SC2086
 rt must-fail $names > log || status=$?
