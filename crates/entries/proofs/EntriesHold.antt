@@ -48,7 +48,7 @@ unfolding enterOver effect
 over-entry m units h = rw h
 
 does : (m : Memory) → isMemory (m .words) (m .cells) ≡ true → {n : Memory} {c : Call} {r : Report} {out : List ℕ} → Called m c r out n → Does m c r out n
-unfolding isMemory
+unfolding isMemory effect
 does m h (stepped bytes sheet output r after out k) =
     let p = and-true (isStore (m .words)) (isTable (m .cells)) h in
     let s = k .shows ∙ ap (λ (e : Effect). shownBy e) (over m bytes sheet output h) in
