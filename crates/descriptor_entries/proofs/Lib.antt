@@ -1,1 +1,2 @@
 pub mod OperationLaws
+pub mod DecidedHolds

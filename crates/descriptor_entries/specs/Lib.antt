@@ -1,3 +1,4 @@
 pub mod Entries
 pub mod Operations
 pub mod Records
+pub mod Decided
