@@ -8,14 +8,12 @@ ghost use mathlib.Core.List.{[]};
 ghost use lib.Dec.{eqb};
 ghost use lib.ListN.{length};
 ghost use Rattle.text.specs.Table.{tableSize, stringsOf, isTable};
-ghost use Rattle.text.specs.Answers.{enterCells, cellsAfter};
 ghost use Rattle.store.specs.Store.{Store, empty};
-ghost use Rattle.store.specs.Words.{storeSize, storeOf, isStore, worldOf};
+ghost use Rattle.store.specs.Words.{storeSize, storeOf, isStore};
 ghost use Rattle.store_write.specs.Write as store_writes;
 ghost use Rattle.text.specs.Answers as table_answers;
-ghost use Rattle.steps.specs.Response.{reportOf};
 ghost use Rattle.reporting.specs.ReportWords.{reportWords};
-ghost use Rattle.reporting.specs.Memory.{stepOver, enterOver, WordsAfter};
+ghost use Rattle.reporting.specs.Memory.{StepExported, StringExported};
 ghost use Rattle.descriptor_entries.specs.Entries.{completeOver, validateOver, mergeOver, verdictReport, isAccepted};
 ghost use Rattle.internal_methods.specs.Messages.{messageText};
 ghost use Rattle.message.specs.Written.{written};
@@ -30,10 +28,7 @@ pub extern "C" fn demnyaluz_step(
     output: &mut [u8],
     report: &mut [u64; 10],
 )
-    ensures reported { λ _. ⌜ now (report .exit) ≡ reportWords (reportOf (stepOver (now (words .entry)) (now (strings .entry)) (now (bytes .entry)) (now (sheet .entry)) (now (output .entry)) .response)) ⌝ }
-    ensures world { λ _. ⌜ worldOf (now (words .exit)) (now (strings .entry)) ≡ stepOver (now (words .entry)) (now (strings .entry)) (now (bytes .entry)) (now (sheet .entry)) (now (output .entry)) .world ⌝ }
-    ensures written { λ _. ⌜ now (output .exit) ≡ stepOver (now (words .entry)) (now (strings .entry)) (now (bytes .entry)) (now (sheet .entry)) (now (output .entry)) .output ⌝ }
-    ensures words { λ _. ⌜ WordsAfter (reportOf (stepOver (now (words .entry)) (now (strings .entry)) (now (bytes .entry)) (now (sheet .entry)) (now (output .entry)) .response) .outcome) (now (words .entry)) (now (words .exit)) ⌝ }
+    ensures { λ _. ⌜ StepExported (now (words .entry)) (now (strings .entry)) (now (bytes .entry)) (now (sheet .entry)) (now (output .entry)) (now (report .exit)) (now (words .exit)) (now (output .exit)) ⌝ }
 {
     *report = report_words::report_words(step::step(words, strings, bytes, sheet, output));
 }
@@ -41,8 +36,7 @@ pub extern "C" fn demnyaluz_step(
 // A string's code units are entered.
 #[no_mangle]
 pub extern "C" fn demnyaluz_enter_string(strings: &mut [u16], units: &[u16], report: &mut [u64; 10])
-    ensures reported { λ _. ⌜ ((σ : Store) → now (report .exit) ≡ reportWords (reportOf (enterOver σ (now (strings .entry)) (now (units .entry)) .response))) ⌝ }
-    ensures cells { λ _. ⌜ now (strings .exit) ≡ cellsAfter (now (strings .entry)) (now (units .entry)) (enterCells (now (strings .entry)) (now (units .entry))) ⌝ }
+    ensures { λ _. ⌜ StringExported (now (strings .entry)) (now (units .entry)) (now (report .exit)) (now (strings .exit)) ⌝ }
 {
     *report = report_words::report_words(step::enter_string(strings, units));
 }

@@ -1,1 +1,2 @@
 pub mod EntriesHold
+pub mod ExportsHold

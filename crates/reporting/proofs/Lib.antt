@@ -1,2 +1,3 @@
 pub mod EndLaws
 pub mod ContractLaws
+pub mod ReportLaws

@@ -15,6 +15,7 @@ use Rattle.steps.specs.declared.Report.{Report}
 use Rattle.steps.specs.Response.{Effect, reportOf}
 use Rattle.steps.specs.Step.{step, refusing}
 use Rattle.steps.specs.StringEntry.{enterString}
+use Rattle.reporting.specs.ReportWords.{reportWords, reportFrom}
 
 -- what a call shows: its report, and what the memory holds after it
 pub record Shown : Type 0 where
@@ -68,3 +69,13 @@ pub record StringEntered (cells units : List ℕ) (r : Report) (after : List ℕ
   pub shows : (σ : Store) → shownEntry r σ after ≡ shownBy (enterOver σ cells units)
   pub cells-are : after ≡ cellsAfter cells units (enterCells cells units)
   pub table : isTable after ≡ isTable cells
+
+-- What `demnyaluz_step` ensures: the ten words are those of the definitions' report, and of the report that they tell all holds that `step` ensures
+pub record StepExported (words cells bytes sheet output report after out : List ℕ) : Type 0 where
+  pub reported : report ≡ reportWords (reportOf (stepOver words cells bytes sheet output .response))
+  pub tells : Stepped words cells bytes sheet output (reportFrom report) after out
+
+-- What `demnyaluz_enter_string` ensures, likewise
+pub record StringExported (cells units report after : List ℕ) : Type 0 where
+  pub reported : (σ : Store) → report ≡ reportWords (reportOf (enterOver σ cells units .response))
+  pub tells : StringEntered cells units (reportFrom report) after

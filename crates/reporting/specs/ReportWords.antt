@@ -1,10 +1,11 @@
--- A report as ten words, for C. What is not used is 0, as are the words of undefined. Assumes nothing.
+-- A report as ten words, for C, and the report that ten words tell. What is not used is 0, as are the words of undefined. Assumes nothing.
 use Prim.Native.Nat.{ℕ}
 use mathlib.Core.List.{List, [], _∷_}
+use lib.Dec.{eqb}
 use Rattle.value.specs.declared.Value.{Value}
 use Rattle.value.specs.declared.Value.the-variants.{Undefined}
-use Rattle.value.specs.Words.{kindOf, payloadOf}
-use Rattle.store.specs.Words.{flagsOf, primary, secondary}
+use Rattle.value.specs.Words.{pick, kindOf, payloadOf, valueOf}
+use Rattle.store.specs.Words.{wordAt, propertyOf, flagsOf, primary, secondary}
 use Rattle.steps.specs.declared.Completion.{Completion}
 use Rattle.steps.specs.declared.Completion.the-variants as completion
 use Rattle.steps.specs.declared.Outcome.{Outcome}
@@ -77,3 +78,28 @@ reportWords r =
     ∷ kindOf (outcomeSecond (r .outcome))
     ∷ payloadOf (outcomeSecond (r .outcome))
     ∷ []
+
+-- Reading them: form and detail, then the two values
+unfoldable pub completionFrom : ℕ → ℕ → Value → Value → Completion
+completionFrom form detail a b =
+    pick (eqb form 1) (completion.Value a)
+    (pick (eqb form 2) (completion.Descriptor (propertyOf detail a b))
+    (pick (eqb form 3) completion.Absent
+    (completion.Keys detail)))
+
+unfoldable pub outcomeFrom : ℕ → ℕ → Completion → Value → Outcome
+outcomeFrom number n c v =
+    pick (eqb number 0) (outcome.Refused n)
+    (pick (eqb number 1) (outcome.Result c)
+    (pick (eqb number 2) (outcome.TypeError n)
+    (outcome.Thrown v)))
+
+unfoldable pub reportFrom : List ℕ → Report
+reportFrom words =
+    let first = valueOf (wordAt words 6) (wordAt words 7) in
+    let second = valueOf (wordAt words 8) (wordAt words 9) in
+    record {
+      outcome = outcomeFrom (wordAt words 0) (wordAt words 1) (completionFrom (wordAt words 4) (wordAt words 5) first second) first;
+      answers = wordAt words 2;
+      calls = wordAt words 3;
+    }

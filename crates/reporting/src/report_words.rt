@@ -10,7 +10,7 @@ use value_operations::encoding;
 ghost use mathlib.Core.Path.{_≡_};
 ghost use Rattle.store.specs.Words.{flagsOf, primary, secondary};
 ghost use Rattle.steps.specs.Response.{outcomeNumber, refusalOrMessage};
-ghost use Rattle.reporting.specs.ReportWords.{completionForm, completionDetail, completionFirst, completionSecond, outcomeForm, outcomeDetail, outcomeFirst, outcomeSecond, reportWords};
+ghost use Rattle.reporting.specs.ReportWords.{completionForm, completionDetail, completionFirst, completionSecond, outcomeForm, outcomeDetail, outcomeFirst, outcomeSecond, reportWords, reportFrom};
 
 pub fn flags_of(p: Property) -> u64
     ensures { λ r. ⌜ r ≡ flagsOf p ⌝ }
@@ -149,8 +149,9 @@ fn outcome_second(o: Outcome) -> Value
     }
 }
 
+// The words tell the report again.
 pub fn report_words(report: Report) -> [u64; 10]
-    ensures { λ r. ⌜ r ≡ reportWords report ⌝ }
+    ensures { λ r. ⌜ (r ≡ reportWords report) × (reportFrom r ≡ report) ⌝ }
 {
     let outcome = report.outcome;
     let first = encoding::words_of(outcome_first(outcome));

@@ -258,7 +258,7 @@ accessor-again g s true false = refl
 accessor-again g s false true = refl
 accessor-again g s false false = refl
 
-property-again : (p : Property) → propertyOf (flagsOf p) (primary p) (secondary p) ≡ p
+pub property-again : (p : Property) → propertyOf (flagsOf p) (primary p) (secondary p) ≡ p
 property-again (Data v w e c) = data-again v _ w e c
 property-again (Accessor g s e c) = accessor-again g s e c
 

@@ -1,12 +1,10 @@
-use mathlib.Core.Path.{ap, _∙_}
-use Rattle.reporting.specs.ReportWords.{reportWords}
-use Rattle.reporting.specs.Memory.{Shown}
+use Rattle.reporting.proofs.ContractLaws.{string-exported}
 use borrow.Author.Needs.{needs}
 use Rattle.demnyaluz.proofs.demnyaluz_enter_string.Statement.{statement}
 use Rattle.demnyaluz.proofs.demnyaluz_enter_string.Tie as tie
 
 returns : tie.Need-returns
-returns c = ((λ σ. c .report-words .ensures ∙ ap (λ (s : Shown). reportWords (s .report)) (c .before .before .before .enter-string .ensures .shows σ)), c .before .before .before .enter-string .ensures .cells-are)
+returns c = string-exported (c .report-words .ensures) (c .before .before .before .enter-string .ensures)
 
 pub demnyaluz-enter-string-spec : {M : Type 1} → statement M
 demnyaluz-enter-string-spec =
