@@ -11,6 +11,7 @@ use Rattle.demands.specs.Lasting.{Lasting}
 use Rattle.demands.specs.Further.{Further}
 use Rattle.demands.specs.Refusals.{StepDecided, EntryDecided}
 use Rattle.store.specs.Words.{worldOf}
+use Rattle.reporting.specs.Seen.{responseSeen}
 use Rattle.reporting.specs.Memory.{Stepped, StringEntered}
 
 -- the store's words and the string table's cells
@@ -42,11 +43,19 @@ outputOf (call.enter units) ending = []
 abbrev pub written : Event → List ℕ
 written e = outputOf (e .call) (e .response .ending)
 
+-- what a caller reads from reports and outputs, the keys of a key list from their bytes
+unfoldable pub eventsSeen : List Call → List Report → List (List ℕ) → List Event
+eventsSeen (c ∷ calls) (r ∷ reports) (out ∷ outputs) = record { call = c; response = responseSeen r out } ∷ eventsSeen calls reports outputs
+eventsSeen (c ∷ calls) (r ∷ reports) [] = []
+eventsSeen (c ∷ calls) [] outputs = []
+eventsSeen [] reports outputs = []
+
 -- what holds of calls of the entries from memory that holds nothing
 pub record Kept (calls : List Call) (reports : List Report) (outputs : List (List ℕ)) (m : Memory) : Type 0 where
   pub reports-are : reports ≡ map reported (run calls)  -- they report what the definitions' run tells
   pub outputs-are : outputs ≡ map written (run calls)  -- and write the keys that it tells, and nothing else
-  pub lasting : Lasting (run calls)  -- demand 3
-  pub further : Further (run calls)
+  pub seen : eventsSeen calls reports outputs ≡ run calls  -- so that what is read is that run
+  pub lasting : Lasting (eventsSeen calls reports outputs)  -- demand 3
+  pub further : Further (eventsSeen calls reports outputs)
   pub decided : (bytes sheet output : List ℕ) → StepDecided (worldOf (m .words) (m .cells)) bytes sheet output  -- demand 1, of the step that comes next
   pub entry-decided : (units : List ℕ) → EntryDecided (worldOf (m .words) (m .cells)) units  -- and of the string

@@ -6,7 +6,7 @@ ghost use mathlib.Core.Path.{_≡_};
 ghost use mathlib.Core.Bool.{true};
 ghost use mathlib.Core.Option.{some};
 ghost use mathlib.Core.List.{_++_, map};
-ghost use Prim.Native.Nat.{ℕ, _+_, _*_, _<_, _≤_};
+ghost use Prim.Native.Nat.{ℕ, _+_, _*_, _^_, _<_, _≤_};
 ghost use lib.ListN.{length, getD, take, drop};
 ghost use Rattle.value.specs.PropertyKey.{keyOf};
 ghost use Rattle.internal_methods.specs.Answers.{keysOf};
@@ -74,10 +74,11 @@ pub fn load_keys(sheet: &[u8], first: usize, n: usize, out: &mut [u64])
     }
 }
 
-// The bytes of the keys of the first n words; those after them stay.
+// The bytes of the keys of the first n words; those after them stay. The words are of 64 bits, so the keys are read back.
 pub fn write_keys(list: &[u64], n: usize, out: &mut [u8])
     requires { ⌜ (n ≤ length (now list)) × (9 * n ≤ length (now out)) ⌝ }
     ensures { λ _. ⌜ now (out .exit) ≡ keysBytes (map keyFromWord (take n (now (list .entry)))) ++ drop (9 * n) (now (out .entry)) ⌝ }
+    ensures { λ _. ⌜ ((i : ℕ) → getD (now (list .entry)) i 0 < 2 ^ 64) ⌝ }
 {
     let mut i: usize = 0;
     while i < n {

@@ -1,12 +1,15 @@
 -- The end of a step that lists keys. Assumes nothing.
-use Prim.Native.Nat.{ℕ, _*_, _≤_, _<_}
+use Prim.Native.Nat.{ℕ, zero, suc, _*_, _/_, _%_, _^_, _≤_, _<_}
+use native.Mathlib.Omega.{arith}
 use mathlib.Core.Path.{_≡_, sym, ap, _∙_}
-use mathlib.Core.Bool.{true, false}
-use mathlib.Core.List.{List, _++_, map}
-use lib.Dec.{leb}
-use lib.ListN.{length, take, drop}
+use mathlib.Core.Bool.{Bool, true, false}
+use mathlib.Core.List.{List, [], _∷_, _++_, map}
+use lib.Dec.{eqb, leb}
+use lib.ListN.{length, getD, take, drop}
 use borrow.Author.Tests.{le-leb, lt-leb}
 use Rattle.value.specs.declared.PropertyKey.{PropertyKey}
+use Rattle.value.specs.declared.PropertyKey.the-variants.{String, Symbol}
+use Rattle.value.specs.Words.{pick}
 use Rattle.store.specs.Words.{storeOf, worldOf}
 use Rattle.store_read.specs.Answers.{keyFromWord, Listed}
 use Rattle.store_read.proofs.ListLaws.{listed-length}
@@ -26,25 +29,41 @@ use Rattle.steps.specs.Step.{keysBytes, ended}
 use Rattle.reporting.specs.Reports.{start, failureResponse, completionReport}
 use Rattle.reporting.specs.Memory.{Shown, shown, shownBy}
 use Rattle.reporting.proofs.EndLaws.{failing}
+use Rattle.reporting.proofs.SeenLaws.{isShort, areShort, keys-seen}
 
 module _ (words cells output : List ℕ) (answers : List Answer) (s : State) (ks : List PropertyKey) where
-  pub keys-held : leb (9 * length ks) (length output) ≡ true
+  pub keys-held : areShort ks → leb (9 * length ks) (length output) ≡ true
       → shown (completionReport answers (Keys (length ks)) s) words cells (keysBytes ks ++ drop (9 * length ks) output)
       ≡ shownBy (ended (worldOf words cells) answers output (done (keys ks, storeOf words) s))
-  keys-held e = rw e
+  keys-held h e = rw (e, keys-seen ks (drop (9 * length ks) output) h)
 
   pub keys-refused : leb (9 * length ks) (length output) ≡ false
       → shown (reportOf (refusal 11)) words cells output
       ≡ shownBy (ended (worldOf words cells) answers output (done (keys ks, storeOf words) s))
   keys-refused e = rw e
 
+-- keys in words of 64 bits
+short-key : (w : ℕ) → w < 2 ^ 64 → isShort (keyFromWord w)
+unfolding keyFromWord
+short-key w h = go (eqb (w % 2) 0)
+  where
+    go : (b : Bool) → isShort (pick b (String (w / 2)) (Symbol (w / 2)))
+    go true = omega (arith, h)
+    go false = omega (arith, h)
+
+short-keys : (n : ℕ) (ws : List ℕ) → ((i : ℕ) → getD ws i 0 < 2 ^ 64) → areShort (map keyFromWord (take n ws))
+short-keys zero ws h = tt
+short-keys (suc n) [] h = tt
+short-keys (suc n) (w ∷ ws) h = (short-key w (h 0), short-keys n ws (λ i. h (suc i)))
+
 -- what was written, and what was not
 module _ (words cells output before after : List ℕ) (answers : List Answer) (s : State) (ks : List PropertyKey) (n : ℕ) (l : Listed before after n ks) (r : Report) where
-  pub written-out : (out : List ℕ) → out ≡ keysBytes (map keyFromWord (take n after)) ++ drop (9 * n) output → 9 * n ≤ length output → r ≡ completionReport answers (Keys n) s
+  pub written-out : (out : List ℕ) → out ≡ keysBytes (map keyFromWord (take n after)) ++ drop (9 * n) output → ((i : ℕ) → getD after i 0 < 2 ^ 64) → 9 * n ≤ length output → r ≡ completionReport answers (Keys n) s
       → shown r words cells out ≡ shownBy (ended (worldOf words cells) answers output (done (keys ks, storeOf words) s))
-  written-out out w h q =
+  written-out out w b h q =
       let e : n ≡ length ks = listed-length before after n ks l in
-      rw (q, w, l .listed, e) (keys-held words cells output answers s ks (le-leb (9 * length ks) (length output) (rw (sym e) h)))
+      let short : areShort ks = rw (sym (l .listed)) (short-keys n after b) in
+      rw (q, w, l .listed, e) (keys-held words cells output answers s ks short (le-leb (9 * length ks) (length output) (rw (sym e) h)))
 
   pub not-written : length output < 9 * n → r ≡ reportOf (refusal 11)
       → shown r words cells output ≡ shownBy (ended (worldOf words cells) answers output (done (keys ks, storeOf words) s))

@@ -1,3 +1,4 @@
 pub mod EndLaws
 pub mod ContractLaws
 pub mod ReportLaws
+pub mod SeenLaws

@@ -1,4 +1,5 @@
 pub mod Performed
 pub mod Reports
+pub mod Seen
 pub mod Memory
 pub mod ReportWords

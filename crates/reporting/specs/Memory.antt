@@ -12,22 +12,24 @@ use Rattle.store_write.specs.Write.{writtenTo}
 use Rattle.steps.specs.declared.Outcome.{Outcome}
 use Rattle.steps.specs.declared.Outcome.the-variants.{Refused, Result, TypeError, Thrown}
 use Rattle.steps.specs.declared.Report.{Report}
-use Rattle.steps.specs.Response.{Effect, reportOf}
+use Rattle.steps.specs.Response.{Response, Effect, reportOf}
 use Rattle.steps.specs.Step.{step, refusing}
 use Rattle.steps.specs.StringEntry.{enterString}
+use Rattle.reporting.specs.Seen.{responseSeen}
 use Rattle.reporting.specs.ReportWords.{reportWords, reportFrom}
 
--- what a call shows: its report, and what the memory holds after it
+-- what a call shows: its report, the response that is read from that and the output, and what the memory holds after it
 pub record Shown : Type 0 where
   pub report : Report
+  pub response : Response
   pub world : World
   pub output : List ℕ
 
 abbrev pub shown : Report → List ℕ → List ℕ → List ℕ → Shown
-shown r words cells output = record { report = r; world = worldOf words cells; output = output }
+shown r words cells output = record { report = r; response = responseSeen r output; world = worldOf words cells; output = output }
 
 abbrev pub shownBy : Effect → Shown
-shownBy e = record { report = reportOf (e .response); world = e .world; output = e .output }
+shownBy e = record { report = reportOf (e .response); response = e .response; world = e .world; output = e .output }
 
 -- words that are no store and cells that are no table are records of a wrong length or count: refusal 1
 unfoldable pub isMemory : List ℕ → List ℕ → Bool
@@ -38,7 +40,7 @@ stepOver words cells bytes sheet output = cond (isMemory words cells) (step (wor
 
 -- entering a string reads no store, so any store may stand beside the cells
 abbrev pub shownEntry : Report → Store → List ℕ → Shown
-shownEntry r σ cells = record { report = r; world = record { store = σ; strings = stringsOf cells }; output = [] }
+shownEntry r σ cells = record { report = r; response = responseSeen r []; world = record { store = σ; strings = stringsOf cells }; output = [] }
 
 unfoldable pub enterOver : Store → List ℕ → List ℕ → Effect
 enterOver σ cells units =

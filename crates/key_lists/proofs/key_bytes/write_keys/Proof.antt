@@ -33,7 +33,7 @@ same-length : tie.Need-same-length Inv-loop μ-loop
 same-length c = c .before .loop .inv .1 .0
 
 returns : tie.Need-returns Inv-loop μ-loop
-returns c = write-end _ _ _ (c .before .loop .i) (c .before .before .before .before .args .n) (omega arith) (c .before .loop .inv .1 .1)
+returns c = (write-end _ _ _ (c .before .loop .i) (c .before .before .before .before .args .n) (omega arith) (c .before .loop .inv .1 .1), λ i. c .before .before .before .shared-slice-known .given i .fits)
 
 pub write-keys-spec : {M : Type 1} → statement M
 write-keys-spec =

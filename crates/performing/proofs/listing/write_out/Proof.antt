@@ -7,7 +7,7 @@ use Rattle.performing.proofs.listing.write_out.Statement.{statement}
 use Rattle.performing.proofs.listing.write_out.Tie as tie
 
 returns : tie.Need-returns
-returns c = written-out (now (c .before .before .before .before .before .before .before .before .before .before .before .before .before .before .before .before .args .words)) (now (c .before .before .before .before .before .before .before .before .before .before .before .before .before .before .before .before .args .strings)) (now (c .before .before .before .before .before .before .before .before .before .before .before .before .before .before .before .before .args .output)) _ _ (sheetOf (now (c .before .before .before .before .before .before .before .before .before .before .before .before .before .before .before .before .args .sheet))) (stateOf (now (c .before .before .before .before .before .before .before .before .before .before .before .before .before .before .before .before .args .sheet)) (c .before .before .before .before .before .before .before .before .before .before .before .before .before .before .before .before .args .s)) _ _ (c .before .before .before .before .before .before .before .before .before .load-list .ensures .0) _ _ (c .before .before .before .write-keys .ensures) (c .before .before .before .before .before .before .if1 .taken) (c .completed .ensures)
+returns c = written-out (now (c .before .before .before .before .before .before .before .before .before .before .before .before .before .before .before .before .args .words)) (now (c .before .before .before .before .before .before .before .before .before .before .before .before .before .before .before .before .args .strings)) (now (c .before .before .before .before .before .before .before .before .before .before .before .before .before .before .before .before .args .output)) _ _ (sheetOf (now (c .before .before .before .before .before .before .before .before .before .before .before .before .before .before .before .before .args .sheet))) (stateOf (now (c .before .before .before .before .before .before .before .before .before .before .before .before .before .before .before .before .args .sheet)) (c .before .before .before .before .before .before .before .before .before .before .before .before .before .before .before .before .args .s)) _ _ (c .before .before .before .before .before .before .before .before .before .load-list .ensures .0) _ _ (c .before .before .before .write-keys .ensures .0) (c .before .before .before .write-keys .ensures .1) (c .before .before .before .before .before .before .if1 .taken) (c .completed .ensures)
 
 returns-2 : tie.Need-returns-2
 returns-2 c = not-written (now (c .before .before .before .before .before .before .before .before .before .before .before .args .words)) (now (c .before .before .before .before .before .before .before .before .before .before .before .args .strings)) (now (c .before .before .before .before .before .before .before .before .before .before .before .args .output)) _ _ (sheetOf (now (c .before .before .before .before .before .before .before .before .before .before .before .args .sheet))) (stateOf (now (c .before .before .before .before .before .before .before .before .before .before .before .args .sheet)) (c .before .before .before .before .before .before .before .before .before .before .before .args .s)) _ _ (c .before .before .before .before .load-list .ensures .0) _ (c .before .if1 .left) (c .refused .ensures)
