@@ -33,14 +33,15 @@ status=0
 rt must-fail $names > log || status=$?
 grep '^rt: must-fail\|NOT PROVED\|FAILED' log || true
 # The module of src/MODULE.rt has its proofs in proofs/MODULE, the root (src/lib.rt, src/main.rt) in the other folders. An error at `close` says
-# that something called there is not proved: a function whose proof nobody wrote, and only the changed one can be that.
+# that something called there is not proved: a function whose proof nobody wrote, and only the changed one can be that. An edit of a definition
+# is refused by a law.
 elsewhere=0
 for edit in crates/*/must-fail/*.edit; do
     crate=$(echo "$edit" | cut -d/ -f2)
     label=$(basename "$edit" .edit)
     module=$(sed -n 's,^file: src/\(.*\)\.rt$,\1,p' "$edit" | head -n 1)
     first=$(sed -n "s,^rt: must-fail $crate/$label: refused.*first at \([^;]*\);.*,\1,p" log)
-    if [ -z "$module" ] || [ -z "$first" ]; then continue; fi
+    if [ -z "$module" ] || [ -z "$first" ] || grep -q '^file: specs/' "$edit"; then continue; fi
     case $first in "src/$module.rt"* | "proofs/$module/"*) continue ;; esac
     folder=$(echo "$first" | cut -d/ -f2)
     case $module in lib | main) if [ ! -f "crates/$crate/src/$folder.rt" ]; then continue; fi ;; esac
