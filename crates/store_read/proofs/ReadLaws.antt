@@ -1,19 +1,19 @@
 -- Laws of reading the store's words. Assumes nothing.
-use Prim.Native.Nat.{ℕ, zero, suc, _+_, _-_, _/_, _%_, _^_, _<_, _≤_}
+use Prim.Native.Nat.{ℕ, zero, suc, _+_, _-_, _*_, _/_, _%_, _^_, _<_, _≤_}
 use native.Mathlib.Omega.{arith}
 use native.Mathlib.Numerals.{add-one}
-use mathlib.Core.Path.{_≡_, refl, sym, ap, _∙_}
-use mathlib.Core.Bool.{Bool, true, false, _&&_}
+use mathlib.Core.Path.{_≡_, refl, sym, ap, subst, _∙_}
+use mathlib.Core.Bool.{Bool, true, false, not, _&&_}
 use mathlib.Core.Option.{none, some}
 use mathlib.Core.List.{List}
 use lib.Dec.{eqb, ltb}
 use lib.ListN.{getD, getElem?}
-use borrow.Author.Tests.{ltb-true, ltb-false, eq-eqb, ne-eqb}
+use borrow.Author.Tests.{ltb-true, ltb-false, lt-ltb, le-ltb, eq-eqb, ne-eqb}
 use Rattle.value.specs.Bits.{bit}
 use Rattle.value.specs.declared.PropertyKey.{PropertyKey}
 use Rattle.value.specs.declared.PropertyKey.the-variants.{String, Symbol}
 use Rattle.value.specs.PropertyKey.{sameKey}
-use Rattle.value.specs.Words.{pick}
+use Rattle.value.specs.Words.{pick, valueOf}
 use Rattle.value.proofs.Bools.{refuted}
 use Rattle.value.proofs.SameKey.{key-eq}
 use Rattle.property.specs.declared.OwnProperty.the-variants.{Absent, Present}
@@ -21,11 +21,13 @@ use Rattle.text.specs.Table.{tabulate, stringsOf, isTable}
 use Rattle.text.specs.Answers.{readTable}
 use Rattle.store.specs.declared.Entry.{Entry}
 use Rattle.store.specs.declared.Object.{Object}
+use Rattle.store.specs.declared.Object.the-variants as object
 use Rattle.store_read.specs.declared.Place.the-variants.{Nothing, At}
 use Rattle.store.specs.Store.{isAt, find, own, lookup}
-use Rattle.store.specs.Words.{storeOf, objectIn, propertyIn, entryIn, keyOf, keyWord, wordAt, keyAt}
+use Rattle.store.specs.Words.{storeOf, objectOf, objectIn, propertyIn, entryIn, keyOf, keyWord, wordAt, keyAt}
 use Rattle.store.proofs.WordLaws.{at-word}
-use Rattle.store_read.specs.Answers.{firstPlace, findPlace, keyWords}
+use Rattle.store_read.specs.declared.Place.{Place}
+use Rattle.store_read.specs.Answers.{firstPlace, findPlace, keyWords, placed, classWeight, numberIn}
 
 -- Tabulated lists --------------------------------------------------------------------------
 
@@ -41,6 +43,17 @@ unfolding tabulate
 get-tabulate-none f i zero k h = refl
 get-tabulate-none f i (suc n) zero h = absurd (omega arith)
 get-tabulate-none f i (suc n) (suc k) h = get-tabulate-none f (suc i) n k (omega arith)
+
+-- an object's words, by whether it is ordinary
+pub ordinary-words : (head a b : ℕ) → head < 2 → object.Ordinary (record { prototype = valueOf a b; extensible = eqb head 1 }) ≡ objectOf head a b
+unfolding objectOf
+ordinary-words zero a b h = refl
+ordinary-words (suc zero) a b h = refl
+ordinary-words (suc (suc n)) a b h = absurd (omega arith)
+
+pub proxy-words : (head a b : ℕ) → 2 ≤ head → object.Proxy (record { target = a; traps = b; revoked = not (eqb head 2) }) ≡ objectOf head a b
+unfolding objectOf
+proxy-words head a b h = rw (ne-eqb head 0 (λ (e : head ≡ 0). omega arith), ne-eqb head 1 (λ (e : head ≡ 1). omega arith))
 
 -- The first that passes a test -----------------------------------------------------------------
 
@@ -63,6 +76,18 @@ module _ {A : Type 0} (test : A → Bool) (f : ℕ → A) where
   first-none i zero h = refl
   first-none i (suc n) h = rw (h i) (first-none (suc i) n h)
 
+pub placed-in : (i n : ℕ) → i < n → placed i n ≡ At i
+placed-in i n h = rw (lt-ltb i n h)
+
+pub placed-out : (i n : ℕ) → n ≤ i → placed i n ≡ Nothing
+placed-out i n h = rw (le-ltb i n h)
+
+pub hit-placed : (i n m : ℕ) → n ≡ m → i < n → placed i m ≡ At i
+hit-placed i n m e h = placed-in i m (omega arith)
+
+pub all-placed : (n m : ℕ) → n ≡ m → placed n m ≡ Nothing
+all-placed n m e = placed-out n m (omega arith)
+
 -- two tests that agree find one place
 pub first-same : {A B : Type 0} (p : A → Bool) (q : B → Bool) (f : ℕ → A) (g : ℕ → B) (i n : ℕ) → ((j : ℕ) → p (f j) ≡ q (g j))
     → firstPlace p i (tabulate f i n) ≡ firstPlace q i (tabulate g i n)
@@ -84,11 +109,26 @@ module _ (words : List ℕ) (o : ℕ) where
   unfolding findPlace storeOf isAt entryIn
   no-owner k h = first-none _ _ 0 (wordAt words 1) (λ i. let e : eqb (wordAt words (keyAt i) % 32) o ≡ false = ne-eqb _ _ (λ (z : wordAt words (keyAt i) % 32 ≡ o). omega arith) in rw e)
 
--- nor, below 2 ^ 64, a number from 2 ^ 58 on
-abbrev numberIn : PropertyKey → ℕ
-numberIn (String s) = s
-numberIn (Symbol s) = s
+pub key-joined : (o : ℕ) (k : PropertyKey) → o + classWeight k + 64 * numberIn k ≡ keyWord o k
+key-joined o (String s) = omega arith
+key-joined o (Symbol s) = refl
 
+-- what finding the key's word says of its place
+module _ (words : List ℕ) (o i n number weight : ℕ) (k : PropertyKey) (owned : o < 32) (numbered : number ≡ numberIn k) (weighed : weight ≡ classWeight k)
+    (there : placed i (wordAt words 1) ≡ firstPlace (λ (w : ℕ). eqb w (o + weight + 64 * number)) 0 (keyWords words)) (counted : n ≡ wordAt words 1) where
+  at-place : placed i n ≡ findPlace (storeOf words .properties) o k
+  at-place =
+      let e : placed i n ≡ firstPlace (λ (w : ℕ). eqb w (o + weight + 64 * number)) 0 (keyWords words) = rw counted there in
+      let w : o + weight + 64 * number ≡ keyWord o k = rw (numbered, weighed) (key-joined o k) in
+      e ∙ subst (λ (word : ℕ). firstPlace (λ (w : ℕ). eqb w word) 0 (keyWords words) ≡ findPlace (storeOf words .properties) o k) (sym w) (place-word words o k owned)
+
+  pub word-found : i < n → At i ≡ findPlace (storeOf words .properties) o k
+  word-found h = sym (placed-in i n h) ∙ at-place
+
+  pub word-missing : n ≤ i → Nothing ≡ findPlace (storeOf words .properties) o k
+  word-missing h = sym (placed-out i n h) ∙ at-place
+
+-- nor, below 2 ^ 64, a number from 2 ^ 58 on
 number-in : (b : Bool) (n : ℕ) → numberIn (pick b (String n) (Symbol n)) ≡ n
 number-in true n = refl
 number-in false n = refl

@@ -32,6 +32,10 @@ unfoldable pub firstPlace : {A : Type 0} → (A → Bool) → ℕ → List A →
 firstPlace test i [] = Nothing
 firstPlace test i (x ∷ xs) = pick (test x) (At i) (firstPlace test (suc i) xs)
 
+-- the place i of n, or none where there are only n
+abbrev pub placed : ℕ → ℕ → Place
+placed i n = pick (ltb i n) (At i) Nothing
+
 -- the place of the first property k of the object o
 unfoldable pub findPlace : List Entry → ℕ → PropertyKey → Place
 findPlace es o k = firstPlace (λ (e : Entry). isAt e o k) 0 es
@@ -42,6 +46,15 @@ keyIn words i = wordAt words (keyAt i)
 -- the key words in use
 abbrev pub keyWords : List ℕ → List ℕ
 keyWords words = tabulate (keyIn words) 0 (wordAt words 1)
+
+-- a key word is its owner, this weight, and 64 times this number
+abbrev pub classWeight : PropertyKey → ℕ
+classWeight (String s) = 0
+classWeight (Symbol s) = 32
+
+abbrev pub numberIn : PropertyKey → ℕ
+numberIn (String s) = s
+numberIn (Symbol s) = s
 
 -- Own keys as words ---------------------------------------------------------------------
 

@@ -7,30 +7,49 @@ use value::PropertyKey;
 use value_operations::encoding;
 ghost use mathlib.Core.Path.{_≡_};
 ghost use mathlib.Core.Bool.{true};
-ghost use Prim.Native.Nat.{ℕ, _<_};
+ghost use Prim.Native.Nat.{ℕ, _<_, _≤_};
 ghost use lib.Dec.{eqb};
 ghost use Rattle.store.specs.Store as store;
-ghost use Rattle.store.specs.Words.{isStore, storeOf, propertyIn};
-ghost use Rattle.store_read.specs.Answers.{findPlace, firstPlace, keyWords};
+ghost use Rattle.store.specs.Words.{isStore, storeOf, wordAt, propertyIn};
+ghost use Rattle.store_read.specs.Answers.{findPlace, firstPlace, keyWords, placed, numberIn, classWeight};
 
 const ROWS: usize = 354;
 
 pub const NUMBERS: u64 = 288230376151711744;
 
-// Where the first key word stands that equals the word.
-fn find_word(words: &[u64], word: u64) -> Place
+// Where the first key word stands that equals the word, or how many there are.
+fn find_word(words: &[u64], word: u64) -> usize
     requires { ⌜ isStore (now words) ≡ true ⌝ }
-    ensures { λ r. ⌜ r ≡ firstPlace (λ (w : ℕ). eqb w word) 0 (keyWords (now (words .entry))) ⌝ }
+    ensures { λ r. ⌜ placed r (wordAt (now (words .entry)) 1) ≡ firstPlace (λ (w : ℕ). eqb w word) 0 (keyWords (now (words .entry))) ⌝ }
 {
     let n = crate::property_count(words);
     let mut i: usize = 0;
     while i < n {
         if words[KEYS + i] == word {
-            return Place::At(i);
+            return i;
         }
         i += 1;
     }
-    Place::Nothing
+    n
+}
+
+fn number_in(key: PropertyKey) -> u64
+    ensures { λ r. ⌜ r ≡ numberIn key ⌝ }
+{
+    match key {
+        PropertyKey::String(s) => s,
+        PropertyKey::Symbol(s) => s,
+    }
+}
+
+// What tells a symbol's key word from a string's.
+fn class_weight(key: PropertyKey) -> u64
+    ensures { λ r. ⌜ (r ≡ classWeight key) × (r ≤ 32) ⌝ }
+{
+    match key {
+        PropertyKey::String(_) => 0,
+        PropertyKey::Symbol(_) => 32,
+    }
 }
 
 // No key word holds an object from 32 on, or a number from 2^58 on.
@@ -38,20 +57,14 @@ pub fn find(words: &[u64], o: u64, key: PropertyKey) -> Place
     requires { ⌜ isStore (now words) ≡ true ⌝ }
     ensures { λ r. ⌜ r ≡ findPlace (storeOf (now (words .entry)) .properties) o key ⌝ }
 {
+    let number = number_in(key);
     if o < 32 {
-        match key {
-            PropertyKey::String(s) => {
-                if s < NUMBERS {
-                    return find_word(words, o + 64 * s);
-                }
-                return Place::Nothing;
+        if number < NUMBERS {
+            let i = find_word(words, o + class_weight(key) + 64 * number);
+            if i < crate::property_count(words) {
+                return Place::At(i);
             }
-            PropertyKey::Symbol(s) => {
-                if s < NUMBERS {
-                    return find_word(words, o + 32 + 64 * s);
-                }
-                return Place::Nothing;
-            }
+            return Place::Nothing;
         }
     }
     Place::Nothing

@@ -47,16 +47,10 @@ pub fn property_count(words: &[u64]) -> usize
 fn object_of(head: u64, a: u64, b: u64) -> Object
     ensures { λ r. ⌜ r ≡ objectOf head a b ⌝ }
 {
-    if head == 0 {
+    if head < 2 {
         return Object::Ordinary(OrdinaryObject {
             prototype: encoding::value_of(a, b),
-            extensible: false,
-        });
-    }
-    if head == 1 {
-        return Object::Ordinary(OrdinaryObject {
-            prototype: encoding::value_of(a, b),
-            extensible: true,
+            extensible: head == 1,
         });
     }
     Object::Proxy(ProxyObject {

@@ -9,7 +9,7 @@ use Rattle.text.specs.Table.{tabulate}
 use Rattle.store.specs.Words.{wordAt}
 use Rattle.store_read.specs.Answers.{firstPlace, keyWords, keyIn}
 use Rattle.store.proofs.WordLaws.{sized, property-length}
-use Rattle.store_read.proofs.ReadLaws.{first-hit, first-step, first-end}
+use Rattle.store_read.proofs.ReadLaws.{first-hit, first-step, first-end, hit-placed, all-placed}
 use Rattle.store_read.proofs.finding.find_word.Statement.{statement}
 use Rattle.store_read.proofs.finding.find_word.Tie as tie
 
@@ -24,13 +24,13 @@ loop-holds : tie.Need-loop-holds Inv-loop μ-loop
 loop-holds c = let e = c .property-count .ensures .0 ∙ property-length _ in (e, (omega arith, rw (e, sub-zero)))
 
 returns : tie.Need-returns Inv-loop μ-loop
-returns c = first-hit _ _ _ _ (c .before .before .loop-test .taken) (eq-eqb _ _ (c .if1 .taken)) ∙ sym (c .before .before .before .loop .inv .1 .1)
+returns c = let e = c .before .before .before .loop .inv in hit-placed _ _ _ (e .0) (c .before .before .loop-test .taken) ∙ (first-hit _ _ _ _ (c .before .before .loop-test .taken) (eq-eqb _ _ (c .if1 .taken)) ∙ sym (e .1 .1))
 
 loop-again : tie.Need-loop-again Inv-loop μ-loop
 loop-again c = (c .before .before .before .loop .inv .0, (omega arith, c .before .before .before .loop .inv .1 .1 ∙ first-step _ _ _ _ (c .before .before .loop-test .taken) (ne-eqb _ _ (c .if1 .left))))
 
 returns-2 : tie.Need-returns-2 Inv-loop μ-loop
-returns-2 c = first-end _ _ _ _ (c .loop-test .left) ∙ sym (c .before .loop .inv .1 .1)
+returns-2 c = let e = c .before .loop .inv in all-placed _ _ (e .0) ∙ (first-end _ _ _ _ (c .loop-test .left) ∙ sym (e .1 .1))
 
 pub find-word-spec : {M : Type 1} → statement M
 find-word-spec =
