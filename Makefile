@@ -1,5 +1,5 @@
 # rt is Rattle's command: it proves the crates of crates.txt and runs their programs.
-.PHONY: run test edits bench vectors messages engines engine-check engine-damage install-engines lib c-test bindings example fuzz
+.PHONY: run test edits bench cost vectors messages engines engine-check engine-damage install-engines lib c-test bindings example fuzz
 
 # A day of steps and string entries over one store, a line for each.
 run:
@@ -14,14 +14,19 @@ test:
 edits:
 	tests/edits.sh $(CRATES)
 
-# The store beside a Vec of structs in Rust, and steps beside node, in ns: docs/BENCHMARKS.md. It needs rustc and node.
+# The store beside a Vec of structs in Rust, then steps beside the engines that are installed, in ns, with docs/benchmarks.svg: docs/BENCHMARKS.md.
+# It needs rustc and node.
 bench:
 	rt staticlib store_export
 	rustc --edition 2021 -O -C target-cpu=x86-64 -L target/staticlib -o target/bench bench/bench.rs
 	target/bench
 	rt staticlib demnyaluz
 	rustc --edition 2021 -O -C target-cpu=x86-64 -L target/staticlib -o target/steps bench/steps.rs
-	target/steps
+	node bench/compare.mjs
+
+# The instructions of a step, counted, beside those of bench/cost.txt; it fails where one is a tenth worse. It needs gcc and valgrind.
+cost: lib
+	tests/cost.sh
 
 # The outside vectors, the day's calls and the fixed list of node's answers, made anew: the same bytes, unless the scripts or node's texts changed.
 vectors:

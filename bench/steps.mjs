@@ -1,16 +1,23 @@
-// The work of bench/steps.rs on this engine's own objects, in ns for one turn: a name, a tab and a number for each line.
+// The work of bench/steps.rs on this engine's own objects, in ns for one turn: a name, a tab and a number for each line. For node and for jsc.
+const shell = typeof process === 'undefined';
+const now = shell ? () => preciseTime() * 1e9 : () => Number(process.hrtime.bigint());
+const say = shell ? print : console.log;
 const best = (turns, work) => {
   for (let i = 0; i < turns; i++) work();
   let least = Infinity;
   for (let round = 0; round < 40; round++) {
-    const start = process.hrtime.bigint();
+    const start = now();
     for (let i = 0; i < turns; i++) work();
-    least = Math.min(least, Number(process.hrtime.bigint() - start) / turns);
+    least = Math.min(least, (now() - start) / turns);
   }
   return least;
 };
 let kept;
-const line = (name, turns, work) => console.log(`${name}\t${best(turns, () => { kept = work(); }).toFixed(1)}`);
+const line = (name, turns, work) => say(`${name}\t${best(turns, () => { kept = work(); }).toFixed(1)}`);
+
+const plain = {};
+for (let i = 0; i < 17; i++) plain[`key${i}`] = i;
+line('get, own property, the last of 17', 20000, () => Reflect.get(plain, 'key16', plain));
 
 const sealed = Object.defineProperty({}, 'visits', { value: 70000, enumerable: true });
 const trapped = new Proxy(sealed, { get: () => 70000 });
@@ -25,9 +32,6 @@ line('getOwnPropertyDescriptor trap', 20000, () => Reflect.getOwnPropertyDescrip
 
 const extensible = new Proxy({}, { isExtensible: () => true });
 line('isExtensible trap', 20000, () => Reflect.isExtensible(extensible));
-
-const plain = { visits: 7 };
-line('get, own property', 20000, () => Reflect.get(plain, 'visits', plain));
 
 const changing = {};
 line('define, then delete', 20000, () => {

@@ -1,6 +1,5 @@
-// Steps through the C interface beside node's own objects, in ns: one line for each kind of work, with the ratio.
+// Steps through the C interface, in ns for one turn: a name, a tab and a number for each line. bench/compare.mjs runs it beside the engines.
 use std::hint::black_box;
-use std::process::Command;
 use std::time::Instant;
 
 #[link(name = "demnyaluz", kind = "static")]
@@ -97,15 +96,11 @@ fn best(turns: u32, mut work: impl FnMut()) -> f64 {
 }
 
 fn main() {
-    let node = Command::new("node").arg("bench/steps.mjs").output().expect("node");
-    assert!(node.status.success());
-    let theirs: Vec<(String, f64)> = String::from_utf8(node.stdout).unwrap().lines().map(|l| { let (n, x) = l.split_once('\t').unwrap(); (n.to_string(), x.parse().unwrap()) }).collect();
-
     let none = descriptor(0, 0, &NONE);
     let visits = value(5, 0);
     let count = value(3, 70000);
     let empty = sheet(&[]);
-    let get = |o: u8| step(11, o, &visits, &NONE, &value(7, o as u64), &none);
+    let get = |o: u8, key: &[u8]| step(11, o, key, &NONE, &value(7, o as u64), &none);
     let proxy = |target: u8, mask: u64| step(2, target, &NONE, &value(3, mask), &NONE, &none);
     let make = step(1, 0, &NONE, &value(1, 0), &NONE, &none);
 
@@ -121,7 +116,15 @@ fn main() {
     m.must(&proxy(0, 16), &empty); // 10: a getOwnPropertyDescriptor trap
     m.must(&make, &empty); // 11
     m.must(&proxy(11, 4), &empty); // 12: an isExtensible trap
-    m.must(&step(9, 11, &visits, &NONE, &NONE, &descriptor(15, 7, &value(3, 7))), &empty);
+
+    let mut plain = Memory::new();
+    for i in 0..17 {
+        plain.enter(&format!("key{i}"));
+    }
+    plain.must(&make, &empty);
+    for i in 0..17 {
+        plain.must(&step(9, 0, &value(5, i), &NONE, &NONE, &descriptor(15, 7, &value(3, i))), &empty);
+    }
 
     let mut listing = Memory::new();
     for i in 0..256 {
@@ -145,24 +148,23 @@ fn main() {
     let delete = step(13, 11, &name, &NONE, &NONE, &none);
     let own_keys = step(14, 1, &NONE, &NONE, &NONE, &none);
     let all = sheet(&[keys]);
-    let (get0, get1, get9, own10, ext12) = (get(11), get(1), get(9), step(8, 10, &visits, &NONE, &NONE, &none), step(6, 12, &NONE, &NONE, &NONE, &none));
+    let (get0, get1, get9, own10, ext12) = (get(0, &value(5, 16)), get(1, &visits), get(9, &visits), step(8, 10, &visits, &NONE, &NONE, &none), step(6, 12, &NONE, &NONE, &NONE, &none));
 
-    let ours = [
-        best(20000, || { black_box(m.run(black_box(&get1), &told)); }),
-        best(20000, || { black_box(m.run(black_box(&get9), &told)); }),
-        best(20000, || { black_box(m.run(black_box(&own10), &described)); }),
-        best(20000, || { black_box(m.run(black_box(&ext12), &yes)); }),
-        best(20000, || { black_box(m.run(black_box(&get0), &empty)); }),
-        best(20000, || { m.run(black_box(&define), &empty); black_box(m.run(black_box(&delete), &empty)); }),
-        best(300, || { black_box(listing.run(black_box(&own_keys), &all)); }),
+    let lines = [
+        ("get, own property, the last of 17", best(20000, || { black_box(plain.run(black_box(&get0), &empty)); })),
+        ("get, frozen, trap", best(20000, || { black_box(m.run(black_box(&get1), &told)); })),
+        ("get, eight forwarding proxies, then the trap", best(20000, || { black_box(m.run(black_box(&get9), &told)); })),
+        ("getOwnPropertyDescriptor trap", best(20000, || { black_box(m.run(black_box(&own10), &described)); })),
+        ("isExtensible trap", best(20000, || { black_box(m.run(black_box(&ext12), &yes)); })),
+        ("define, then delete", best(20000, || { m.run(black_box(&define), &empty); black_box(m.run(black_box(&delete), &empty)); })),
+        ("ownKeys trap, 256 keys over 144", best(300, || { black_box(listing.run(black_box(&own_keys), &all)); })),
     ];
-    for (bytes, answers) in [(&get1, &told), (&get9, &told), (&own10, &described), (&ext12, &yes), (&get0, &empty), (&define, &empty), (&delete, &empty)] {
+    plain.must(&get0, &empty);
+    for (bytes, answers) in [(&get1, &told), (&get9, &told), (&own10, &described), (&ext12, &yes), (&define, &empty), (&delete, &empty)] {
         m.must(bytes, answers);
     }
     listing.must(&own_keys, &all);
-
-    println!("{:<46}{:>12}{:>12}{:>8}", "ns for one turn", "here", "node", "ratio");
-    for ((name, theirs), ours) in theirs.iter().zip(ours) {
-        println!("{name:<46}{ours:>12.1}{theirs:>12.1}{:>8.2}", ours / theirs);
+    for (name, ns) in lines {
+        println!("{name}\t{ns:.1}");
     }
 }

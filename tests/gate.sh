@@ -1,6 +1,6 @@
 #!/bin/sh
 # The gate: formatting; that what the documents name is there; `rt ci`, which proves everything from nothing and tries the must-fail edits; then, over
-# what was just proved, calls against node's own objects, the C program and the Rust crate's tests. It fails at the first that fails. The tally of
+# what was just proved, calls against node's own objects, the C program, the Rust crate's tests and the instructions of a step. It fails at the first that fails. The tally of
 # `rt ci` is printed last.
 set -eu
 cd "$(dirname "$0")/.."
@@ -9,10 +9,10 @@ trap 'rm -f "$log"' EXIT
 # Checks wait for those that they rest on, and edits for their neighbours: two for each processor keep all busy.
 RT_JOBS=${RT_JOBS:-$(($(nproc) * 2))}
 export RT_JOBS
-tests/install.sh node gcc cargo
+tests/install.sh node gcc cargo valgrind
 rt fmt --check
 node tests/paths.mjs
 { rt ci || echo 'rt ci failed'; } | tee "$log"
 grep -q ' passed, 0 failed$' "$log"
-make engine-check c-test bindings
+make engine-check c-test bindings cost
 grep ' passed, 0 failed$' "$log"
