@@ -1,3 +1,4 @@
 pub mod EnterLaws
+pub mod HandedLaws
 pub mod AnswerLaws
 pub mod Cycle

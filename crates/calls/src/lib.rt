@@ -12,7 +12,9 @@ pub mod answers;
 mod entry;
 
 pub use entry::enter;
+pub use entry::hand_on;
 pub use entry::has_trap;
+pub use entry::with_calls;
 
 // How far a step is: the place of the next answer, how many are to come, and how many calls may still begin.
 pub struct Progress {
@@ -26,6 +28,13 @@ pub enum Entered {
     Failed(Failure, Progress),
     Ordinary(OrdinaryObject, Progress),
     Proxy(ProxyObject, Progress),
+}
+
+// Where a call arrives that each proxy without the trap hands to its target, and how deep and how often methods may still be called there.
+pub struct Handed {
+    pub object: u64,
+    pub depth: usize,
+    pub calls: usize,
 }
 
 // How a method ends, for each type of result.

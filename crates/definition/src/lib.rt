@@ -106,9 +106,21 @@ fn proxy_exotic_define_own_property(
     ensures { λ r. ⌜ Fitting (now (words .entry)) r ⌝ }
 {
     let target = p.target;
-    if calls::has_trap(p, 32) {
+    if calls::has_trap(p, 5) {
         trap::define_own_property_trap(words, strings, allowance, sheet, target, key, d, depth, s) // 7 to 16
     } else {
-        define_own_property(words, strings, allowance, sheet, target, key, d, depth, s) // 6
+        let h = calls::hand_on(words, target, 5, depth, s.calls);
+        let t = calls::with_calls(s, h.calls);
+        define_own_property(
+            words,
+            strings,
+            allowance,
+            sheet,
+            h.object,
+            key,
+            d,
+            h.depth,
+            t,
+        ) // 6
     }
 }

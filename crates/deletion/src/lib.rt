@@ -94,9 +94,11 @@ fn proxy_exotic_delete(
     ensures { λ r. ⌜ Fitting (now (words .entry)) r ⌝ }
 {
     let target = p.target;
-    if calls::has_trap(p, 512) {
+    if calls::has_trap(p, 9) {
         trap::delete_trap(words, strings, allowance, sheet, p, key, depth, s)
     } else {
-        delete(words, strings, allowance, sheet, target, key, depth, s) // 6
+        let h = calls::hand_on(words, target, 9, depth, s.calls);
+        let t = calls::with_calls(s, h.calls);
+        delete(words, strings, allowance, sheet, h.object, key, h.depth, t) // 6
     }
 }

@@ -65,7 +65,7 @@ fn proxy_exotic_is_extensible(
     ensures { λ r. ⌜ outBoolean (now (sheet .entry)) r ≡ proxyIsExtensible (context (now (words .entry)) (now (strings .entry)) allowance) (methods depth (context (now (words .entry)) (now (strings .entry)) allowance)) p .run (stateOf (now (sheet .entry)) s) ⌝ }
 {
     let target = p.target;
-    if calls::has_trap(p, 4) {
+    if calls::has_trap(p, 2) {
         match answers::next_boolean(strings, sheet, s) {
             BooleanOut::Failed(f, t) => BooleanOut::Failed(f, t), // 7
             BooleanOut::Done(answer, t) => {
@@ -82,6 +82,8 @@ fn proxy_exotic_is_extensible(
             }
         }
     } else {
-        is_extensible(words, strings, allowance, sheet, target, depth, s) // 6
+        let h = calls::hand_on(words, target, 2, depth, s.calls);
+        let t = calls::with_calls(s, h.calls);
+        is_extensible(words, strings, allowance, sheet, h.object, h.depth, t) // 6
     }
 }

@@ -106,9 +106,11 @@ fn proxy_exotic_prevent_extensions(
     ensures { λ r. ⌜ Fitting (now (words .entry)) r ⌝ }
 {
     let target = p.target;
-    if calls::has_trap(p, 8) {
+    if calls::has_trap(p, 3) {
         prevent_extensions_trap(words, strings, allowance, sheet, p, depth, s)
     } else {
-        prevent_extensions(words, strings, allowance, sheet, target, depth, s) // 6
+        let h = calls::hand_on(words, target, 3, depth, s.calls);
+        let t = calls::with_calls(s, h.calls);
+        prevent_extensions(words, strings, allowance, sheet, h.object, h.depth, t) // 6
     }
 }

@@ -148,19 +148,21 @@ fn proxy_exotic_get(
     ensures { λ r. ⌜ outValue (now (sheet .entry)) r ≡ proxyGet (methods depth (context (now (words .entry)) (now (strings .entry)) allowance)) p key receiver .run (stateOf (now (sheet .entry)) s) ⌝ }
 {
     let target = p.target;
-    if calls::has_trap(p, 128) {
+    if calls::has_trap(p, 7) {
         trap::get_trap(words, strings, allowance, sheet, p, key, receiver, depth, s)
     } else {
+        let h = calls::hand_on(words, target, 7, depth, s.calls);
+        let t = calls::with_calls(s, h.calls);
         get(
             words,
             strings,
             allowance,
             sheet,
-            target,
+            h.object,
             key,
             receiver,
-            depth,
-            s,
+            h.depth,
+            t,
         ) // 6
     }
 }

@@ -103,9 +103,11 @@ fn proxy_exotic_has_property(
     ensures { λ r. ⌜ outBoolean (now (sheet .entry)) r ≡ proxyHasProperty (context (now (words .entry)) (now (strings .entry)) allowance) (methods depth (context (now (words .entry)) (now (strings .entry)) allowance)) p key .run (stateOf (now (sheet .entry)) s) ⌝ }
 {
     let target = p.target;
-    if calls::has_trap(p, 64) {
+    if calls::has_trap(p, 6) {
         trap::has_property_trap(words, strings, allowance, sheet, p, key, depth, s)
     } else {
-        has_property(words, strings, allowance, sheet, target, key, depth, s) // 6
+        let h = calls::hand_on(words, target, 6, depth, s.calls);
+        let t = calls::with_calls(s, h.calls);
+        has_property(words, strings, allowance, sheet, h.object, key, h.depth, t) // 6
     }
 }

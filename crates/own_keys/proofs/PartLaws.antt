@@ -55,11 +55,6 @@ pub in-parts : (call : Methods) (p : ProxyObject) → hasTrap p 10 ≡ true → 
 unfolding proxyOwnPropertyKeys trapKeys checkedKeys if_then_else_ _>>=_
 in-parts call p h s = rw h (asked call (p .target) (askKeys .run s))
 
-pub without-trap : (call : Methods) (p : ProxyObject) → hasTrap p 10 ≡ false → (s : State)
-    → proxyOwnPropertyKeys call p .run s ≡ call .ownPropertyKeys (p .target) .run s
-unfolding proxyOwnPropertyKeys if_then_else_
-without-trap call p h s = rw h
-
 -- The lists of the answers that are left
 
 trap-longer : (depth : ℕ) (c : Context) (o : ℕ) → Longer (trapKeys (methods depth c) o)

@@ -88,7 +88,7 @@ fn proxy_exotic_own_property_keys(
     ensures { λ r. ⌜ LoadableKeys (now (sheet .entry)) r ⌝ }
 {
     let target = p.target;
-    if calls::has_trap(p, 1024) {
+    if calls::has_trap(p, 10) {
         match trap::own_keys_trap(words, strings, allowance, sheet, target, list, depth, s) {
             TrapOut::Failed(f, t) => KeysOut::Failed(f, t), // 7 to 10
             TrapOut::Done(first, n, extensible, t) => {
@@ -127,17 +127,19 @@ fn proxy_exotic_own_property_keys(
             }
         }
     } else {
+        let h = calls::hand_on(words, target, 10, depth, s.calls);
+        let t = calls::with_calls(s, h.calls);
         own_property_keys(
             words,
             strings,
             allowance,
             sheet,
-            target,
+            h.object,
             keys,
             marks,
             list,
-            depth,
-            s,
+            h.depth,
+            t,
         ) // 6
     }
 }

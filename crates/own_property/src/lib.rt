@@ -43,12 +43,23 @@ pub fn get_own_property(
     ensures { λ r. ⌜ outOwnProperty (now (sheet .entry)) r ≡ methods depth (context (now (words .entry)) (now (strings .entry)) allowance) .getOwnProperty o key .run (stateOf (now (sheet .entry)) s) ⌝ }
 {
     match calls::enter(words, o, depth, s) {
-        Entered::Failed(f, t) => OwnPropertyOut::Failed(f, t),
+        Entered::Failed(f, t) => {
+            return OwnPropertyOut::Failed(f, t);
+        }
         Entered::Ordinary(_, t) => {
-            OwnPropertyOut::Done(ordinary_get_own_property(words, o, key), t)
+            return OwnPropertyOut::Done(ordinary_get_own_property(words, o, key), t);
         }
         Entered::Proxy(p, t) => {
-            proxy_exotic_get_own_property(words, strings, allowance, sheet, p, key, depth - 1, t)
+            return proxy_exotic_get_own_property(
+                words,
+                strings,
+                allowance,
+                sheet,
+                p,
+                key,
+                depth - 1,
+                t,
+            );
         }
     }
 }
@@ -68,7 +79,7 @@ fn proxy_exotic_get_own_property(
     ensures { λ r. ⌜ outOwnProperty (now (sheet .entry)) r ≡ proxyGetOwnProperty (methods depth (context (now (words .entry)) (now (strings .entry)) allowance)) p key .run (stateOf (now (sheet .entry)) s) ⌝ }
 {
     let target = p.target;
-    if calls::has_trap(p, 16) {
+    if calls::has_trap(p, 4) {
         match answers::next_descriptor(sheet, s) {
             DescriptorOut::Failed(f, t) => OwnPropertyOut::Failed(f, t), // 7, 8
             DescriptorOut::Undefined(t) => {
@@ -108,6 +119,8 @@ fn proxy_exotic_get_own_property(
             }
         }
     } else {
-        get_own_property(words, strings, allowance, sheet, target, key, depth, s) // 6
+        let h = calls::hand_on(words, target, 4, depth, s.calls);
+        let t = calls::with_calls(s, h.calls);
+        get_own_property(words, strings, allowance, sheet, h.object, key, h.depth, t) // 6
     }
 }

@@ -65,7 +65,7 @@ fn proxy_exotic_get_prototype_of(
     ensures { λ r. ⌜ outValue (now (sheet .entry)) r ≡ proxyGetPrototypeOf (methods depth (context (now (words .entry)) (now (strings .entry)) allowance)) p .run (stateOf (now (sheet .entry)) s) ⌝ }
 {
     let target = p.target;
-    if calls::has_trap(p, 1) {
+    if calls::has_trap(p, 0) {
         match answers::next_prototype(sheet, s) {
             ValueOut::Failed(f, t) => ValueOut::Failed(f, t), // 7, 8
             ValueOut::Done(answer, t) => {
@@ -98,6 +98,8 @@ fn proxy_exotic_get_prototype_of(
             }
         }
     } else {
-        get_prototype_of(words, strings, allowance, sheet, target, depth, s) // 6
+        let h = calls::hand_on(words, target, 0, depth, s.calls);
+        let t = calls::with_calls(s, h.calls);
+        get_prototype_of(words, strings, allowance, sheet, h.object, h.depth, t) // 6
     }
 }

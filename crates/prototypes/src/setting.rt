@@ -101,9 +101,11 @@ fn proxy_exotic_set_prototype_of(
     ensures { λ r. ⌜ Fitting (now (words .entry)) r ⌝ }
 {
     let target = p.target;
-    if calls::has_trap(p, 2) {
+    if calls::has_trap(p, 1) {
         setting_trap::set_prototype_of_trap(words, strings, allowance, sheet, p, v, depth, s)
     } else {
-        set_prototype_of(words, strings, allowance, sheet, target, v, depth, s) // 6
+        let h = calls::hand_on(words, target, 1, depth, s.calls);
+        let t = calls::with_calls(s, h.calls);
+        set_prototype_of(words, strings, allowance, sheet, h.object, v, h.depth, t) // 6
     }
 }

@@ -217,20 +217,22 @@ fn proxy_exotic_set(
     ensures { λ r. ⌜ Fitting (now (words .entry)) r ⌝ }
 {
     let target = p.target;
-    if calls::has_trap(p, 256) {
+    if calls::has_trap(p, 8) {
         trap::set_trap(words, strings, allowance, sheet, target, key, v, depth, s) // 7 to 11
     } else {
+        let h = calls::hand_on(words, target, 8, depth, s.calls);
+        let t = calls::with_calls(s, h.calls);
         set(
             words,
             strings,
             allowance,
             sheet,
-            target,
+            h.object,
             key,
             v,
             receiver,
-            depth,
-            s,
+            h.depth,
+            t,
         ) // 6
     }
 }

@@ -4,8 +4,9 @@ use native.Mathlib.Omega.{arith}
 use Prim.Native.Nat.{_+_, _*_}
 use borrow.Author.Needs.{needs}
 use Rattle.internal_methods.specs.Monad.{pure, fails, next, _>>=_, throwIf, if_then_else_}
-use Rattle.internal_methods.specs.Proxy.{hasTrap, proxyDelete}
+use Rattle.internal_methods.specs.Proxy.{proxyDelete}
 use Rattle.calls.proofs.Cycle.{at, below}
+use Rattle.calls.proofs.HandedLaws.{delete-handed}
 use Rattle.calls.proofs.EnterLaws.{delete-goes-on, proxy-deep, ordinary-deep, ordinary-found}
 use Rattle.extensibility.proofs.WriteLaws.{found-joins}
 use Prim.Native.Nat.{ℕ}
@@ -17,7 +18,9 @@ use Rattle.deletion.proofs.proxy_exotic_delete.Reads as proxy-exotic-de
 use Rattle.deletion.proofs.proxy_exotic_delete.Kinds as proxy-exotic-delete-kinds
 use Rattle.deletion.proofs.+delete+proxy_exotic_delete.Lts-proxy_exotic_delete as proxy-exotic-delete-lts
 use Rattle.calls.proofs.enter.Reads as enter-reads
+use Rattle.calls.proofs.hand_on.Reads as hand-on-reads
 use Rattle.calls.proofs.has_trap.Reads as has-trap-reads
+use Rattle.calls.proofs.with_calls.Reads as with-calls-reads
 use Rattle.deletion.proofs.trap.delete_trap.Reads as delete-trap-reads
 use Rattle.deletion.proofs.ordinary_delete.Reads as ordinary-delete-reads
 use Rattle.deletion.proofs.+delete+proxy_exotic_delete.{statement}
@@ -30,7 +33,7 @@ abbrev μ-proxy-exotic-delete : Measures 3 proxy-exotic-delete-kinds.ps ℕ
 μ-proxy-exotic-delete κs a = 2 * a .1 .1 .1 .1 .1 .1 .0 + 1
 
 pub +delete+proxy-exotic-delete-spec : {M : Type 1} → statement M
-unfolding _>>=_ fails hasTrap if_then_else_ next proxyDelete pure throwIf
+unfolding _>>=_ fails if_then_else_ next proxyDelete pure throwIf
 +delete+proxy-exotic-delete-spec = close μ-delete μ-proxy-exotic-delete (λ t. delete-lts.spec (
   enter-reads.Asked,
   enter-reads.Learnt,
@@ -57,6 +60,10 @@ unfolding _>>=_ fails hasTrap if_then_else_ next proxyDelete pure throwIf
       has-trap-reads.Learnt,
       delete-trap-reads.Asked,
       delete-trap-reads.Learnt,
+      hand-on-reads.Asked,
+      hand-on-reads.Learnt,
+      with-calls-reads.Asked,
+      with-calls-reads.Learnt,
       below 3 delete-kinds.ps μ-delete delete.Pre t,
       delete.Post,
     )
@@ -64,6 +71,8 @@ unfolding _>>=_ fails hasTrap if_then_else_ next proxyDelete pure throwIf
     proxy-exotic-delete.Post
     (λ c κs. search needs)
     (λ c κs. (c .before .before .before .before .before .pre .1 .0, sym (c .before .has-trap .ensures) ∙ c .if1 .taken))
-    (λ c κs. (omega (arith, c .before .before .before .before .before .pre .0), c .before .before .before .before .before .pre .1))
+    (λ c κs. (c .before .before .before .before .before .pre .1 .0 .store, omega arith))
+    (λ c κs. tt)
+    (λ c κs. (omega (arith, c .before .before .before .before .before .before .before .pre .0, c .before .hand-on .ensures .1), c .before .before .before .before .before .before .before .pre .1))
     (λ c. c .delete-trap .ensures)
-    (λ c. (rw (sym (c .before .before .has-trap .ensures) ∙ c .before .if1 .left) (c .delete .ensures .0), c .delete .ensures .1))
+    (λ c. (c .delete .ensures .0 ∙ delete-handed _ _ _ _ _ _ _ _ (sym (c .before .before .before .before .has-trap .ensures) ∙ c .before .before .before .if1 .left, c .before .before .hand-on .ensures .0, c .before .with-calls .ensures), c .delete .ensures .1))

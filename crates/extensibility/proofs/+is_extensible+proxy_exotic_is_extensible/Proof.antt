@@ -3,8 +3,9 @@ use native.Mathlib.Omega.{arith}
 use Prim.Native.Nat.{_+_, _*_}
 use borrow.Author.Needs.{needs}
 use Rattle.internal_methods.specs.Monad.{pure, fails, next, _>>=_, throwIf, if_then_else_}
-use Rattle.internal_methods.specs.Proxy.{hasTrap, proxyIsExtensible}
+use Rattle.internal_methods.specs.Proxy.{proxyIsExtensible}
 use Rattle.calls.proofs.Cycle.{at, below}
+use Rattle.calls.proofs.HandedLaws.{is-extensible-handed}
 use Rattle.calls.proofs.EnterLaws.{is-extensible-goes-on, proxy-deep}
 use Prim.Native.Nat.{ℕ}
 use borrow.Fn.PlainCycle.{Measures}
@@ -16,7 +17,9 @@ use Rattle.extensibility.proofs.proxy_exotic_is_extensible.Kinds as pro
 use Rattle.extensibility.proofs.+is_extensible+proxy_exotic_is_extensible.Lts-proxy_exotic_is_extensible as proxy-exotic-is-extensible-lts
 use Rattle.calls.proofs.answers.next_boolean.Reads as next-boolean-reads
 use Rattle.calls.proofs.enter.Reads as enter-reads
+use Rattle.calls.proofs.hand_on.Reads as hand-on-reads
 use Rattle.calls.proofs.has_trap.Reads as has-trap-reads
+use Rattle.calls.proofs.with_calls.Reads as with-calls-reads
 use Rattle.extensibility.proofs.ordinary_is_extensible.Reads as ordinary-is-extensible-reads
 use Rattle.extensibility.proofs.same_boolean.Reads as same-boolean-reads
 use Rattle.extensibility.proofs.+is_extensible+proxy_exotic_is_extensible.{statement}
@@ -29,7 +32,7 @@ abbrev μ-proxy-exotic-is-extensible : Measures 3 proxy-exotic-is-extensible-kin
 μ-proxy-exotic-is-extensible κs a = 2 * a .1 .1 .1 .1 .1 .0 + 1
 
 pub +is-extensible+proxy-exotic-is-extensible-spec : {M : Type 1} → statement M
-unfolding _>>=_ fails hasTrap if_then_else_ next proxyIsExtensible pure throwIf
+unfolding _>>=_ fails if_then_else_ next proxyIsExtensible pure throwIf
 +is-extensible+proxy-exotic-is-extensible-spec =
     close μ-is-extensible μ-proxy-exotic-is-extensible (λ t. is-extensible-lts.spec (
       enter-reads.Asked,
@@ -60,6 +63,10 @@ unfolding _>>=_ fails hasTrap if_then_else_ next proxyIsExtensible pure throwIf
       is-extensible.Post,
       same-boolean-reads.Asked,
       same-boolean-reads.Learnt,
+      hand-on-reads.Asked,
+      hand-on-reads.Learnt,
+      with-calls-reads.Asked,
+      with-calls-reads.Learnt,
     )
     (at 3 proxy-exotic-is-extensible-kinds.ps μ-proxy-exotic-is-extensible proxy-exotic-is-extensible.Pre t)
     proxy-exotic-is-extensible.Post
@@ -71,9 +78,11 @@ unfolding _>>=_ fails hasTrap if_then_else_ next proxyIsExtensible pure throwIf
     (λ c. search needs)
     (λ c. search needs)
     (λ c κs. search needs)
-    (λ c κs. (omega (arith, c .before .before .before .before .before .pre .0), c .before .before .before .before .before .pre .1))
+    (λ c κs. (c .before .before .before .before .before .pre .1 .store, omega arith))
+    (λ c κs. tt)
+    (λ c κs. (omega (arith, c .before .before .before .before .before .before .before .pre .0, c .before .hand-on .ensures .1), c .before .before .before .before .before .before .before .pre .1))
     (λ c. rw (sym (c .before .before .before .before .before .has-trap .ensures) ∙ c .before .before .before .before .if1 .taken, sym (c .before .before .before .next-boolean .ensures), c .before .f .given .1))
     (λ c. rw (sym (c .before .before .before .before .before .before .before .before .before .has-trap .ensures) ∙ c .before .before .before .before .before .before .before .before .if1 .taken, sym (c .before .before .before .before .before .before .before .next-boolean .ensures), c .before .before .before .before .before .answer .given .1, sym (c .before .before .before .is-extensible .ensures), c .before .f2 .given .1))
     (λ c. rw (sym (c .before .before .before .before .before .before .before .before .before .before .before .has-trap .ensures) ∙ c .before .before .before .before .before .before .before .before .before .before .if1 .taken, sym (c .before .before .before .before .before .before .before .before .before .next-boolean .ensures), c .before .before .before .before .before .before .before .answer .given .1, sym (c .before .before .before .before .before .is-extensible .ensures), c .before .before .before .extensible .given .1, sym (c .before .same-boolean .ensures) ∙ c .if2 .taken))
     (λ c. rw (sym (c .before .before .before .before .before .before .before .before .before .before .before .has-trap .ensures) ∙ c .before .before .before .before .before .before .before .before .before .before .if1 .taken, sym (c .before .before .before .before .before .before .before .before .before .next-boolean .ensures), c .before .before .before .before .before .before .before .answer .given .1, sym (c .before .before .before .before .before .is-extensible .ensures), c .before .before .before .extensible .given .1, sym (c .before .same-boolean .ensures) ∙ c .if2 .left))
-    (λ c. rw (sym (c .before .before .has-trap .ensures) ∙ c .before .if1 .left) (c .is-extensible2 .ensures))
+    (λ c. c .is-extensible2 .ensures ∙ is-extensible-handed _ _ _ _ _ _ _ (sym (c .before .before .before .before .has-trap .ensures) ∙ c .before .before .before .if1 .left, c .before .before .hand-on .ensures .0, c .before .with-calls .ensures))

@@ -4,8 +4,9 @@ use native.Mathlib.Omega.{arith}
 use Prim.Native.Nat.{_+_, _*_}
 use borrow.Author.Needs.{needs}
 use Rattle.internal_methods.specs.Monad.{pure, fails, next, _>>=_, throwIf, if_then_else_}
-use Rattle.internal_methods.specs.Proxy.{hasTrap, proxyGetPrototypeOf}
+use Rattle.internal_methods.specs.Proxy.{proxyGetPrototypeOf}
 use Rattle.calls.proofs.Cycle.{at, below}
+use Rattle.calls.proofs.HandedLaws.{get-prototype-of-handed}
 use Rattle.calls.proofs.EnterLaws.{get-prototype-of-goes-on, proxy-deep}
 use Prim.Native.Nat.{ℕ}
 use borrow.Fn.PlainCycle.{Measures}
@@ -17,7 +18,9 @@ use Rattle.prototypes.proofs.proxy_exotic_get_prototype_of.Kinds as pro
 use Rattle.prototypes.proofs.+get_prototype_of+proxy_exotic_get_prototype_of.Lts-proxy_exotic_get_prototype_of as proxy-exotic-get-prototype-of-lts
 use Rattle.calls.proofs.answers.next_prototype.Reads as next-prototype-reads
 use Rattle.calls.proofs.enter.Reads as enter-reads
+use Rattle.calls.proofs.hand_on.Reads as hand-on-reads
 use Rattle.calls.proofs.has_trap.Reads as has-trap-reads
+use Rattle.calls.proofs.with_calls.Reads as with-calls-reads
 use Rattle.extensibility.proofs.is_extensible.Reads as is-extensible-reads
 use Rattle.prototypes.proofs.ordinary_get_prototype_of.Reads as ordinary-get-prototype-of-reads
 use Rattle.value_operations.proofs.equality.same_value.Reads as same-value-reads
@@ -31,7 +34,7 @@ abbrev μ-proxy-exotic-get-prototype-of : Measures 3 proxy-exotic-get-prototype-
 μ-proxy-exotic-get-prototype-of κs a = 2 * a .1 .1 .1 .1 .1 .0 + 1
 
 pub +get-prototype-of+proxy-exotic-get-prototype-of-spec : {M : Type 1} → statement M
-unfolding _>>=_ fails hasTrap if_then_else_ next proxyGetPrototypeOf pure throwIf
+unfolding _>>=_ fails if_then_else_ next proxyGetPrototypeOf pure throwIf
 +get-prototype-of+proxy-exotic-get-prototype-of-spec =
     close μ-get-prototype-of μ-proxy-exotic-get-prototype-of (λ t. get-prototype-of-lts.spec (
       enter-reads.Asked,
@@ -64,6 +67,10 @@ unfolding _>>=_ fails hasTrap if_then_else_ next proxyGetPrototypeOf pure throwI
       get-prototype-of.Post,
       same-value-reads.Asked,
       same-value-reads.Learnt,
+      hand-on-reads.Asked,
+      hand-on-reads.Learnt,
+      with-calls-reads.Asked,
+      with-calls-reads.Learnt,
     )
     (at 3 proxy-exotic-get-prototype-of-kinds.ps μ-proxy-exotic-get-prototype-of proxy-exotic-get-prototype-of.Pre t)
     proxy-exotic-get-prototype-of.Post
@@ -79,10 +86,12 @@ unfolding _>>=_ fails hasTrap if_then_else_ next proxyGetPrototypeOf pure throwI
     (λ c. search needs)
     (λ c. search needs)
     (λ c κs. search needs)
-    (λ c κs. (omega (arith, c .before .before .before .before .before .pre .0), c .before .before .before .before .before .pre .1))
+    (λ c κs. (c .before .before .before .before .before .pre .1 .store, omega arith))
+    (λ c κs. tt)
+    (λ c κs. (omega (arith, c .before .before .before .before .before .before .before .pre .0, c .before .hand-on .ensures .1), c .before .before .before .before .before .before .before .pre .1))
     (λ c. rw (sym (c .before .before .before .before .before .has-trap .ensures) ∙ c .before .before .before .before .if1 .taken, sym (c .before .before .before .next-prototype .ensures), c .before .f .given .1))
     (λ c. rw (sym (c .before .before .before .before .before .before .before .before .before .has-trap .ensures) ∙ c .before .before .before .before .before .before .before .before .if1 .taken, sym (c .before .before .before .before .before .before .before .next-prototype .ensures), c .before .before .before .before .before .answer .given .1, sym (c .before .before .before .is-extensible .ensures), c .before .f2 .given .1))
     (λ c. rw (sym (c .before .before .before .before .before .before .before .before .before .before .before .before .before .before .has-trap .ensures) ∙ c .before .before .before .before .before .before .before .before .before .before .before .before .before .if1 .taken, sym (c .before .before .before .before .before .before .before .before .before .before .before .before .next-prototype .ensures), c .before .before .before .before .before .before .before .before .before .before .answer .given .1, sym (c .before .before .before .before .before .before .before .before .is-extensible .ensures), c .before .before .before .before .before .before .extensible .given .1, c .before .before .before .before .if2 .left, sym (c .before .before .before .get-prototype-of .ensures), c .before .f3 .given .1))
     (λ c. rw (sym (c .before .before .before .before .before .before .before .before .before .before .before .before .before .before .before .before .has-trap .ensures) ∙ c .before .before .before .before .before .before .before .before .before .before .before .before .before .before .before .if1 .taken, sym (c .before .before .before .before .before .before .before .before .before .before .before .before .before .before .next-prototype .ensures), c .before .before .before .before .before .before .before .before .before .before .before .before .answer .given .1, sym (c .before .before .before .before .before .before .before .before .before .before .is-extensible .ensures), c .before .before .before .before .before .before .before .before .extensible .given .1, c .before .before .before .before .before .before .if2 .left, sym (c .before .before .before .before .before .get-prototype-of .ensures), c .before .before .before .prototype .given .1, sym (c .before .same-value .ensures) ∙ c .if3 .taken))
     (λ c. rw (sym (c .before .before .before .before .before .before .before .before .before .before .before .before .before .before .before .before .has-trap .ensures) ∙ c .before .before .before .before .before .before .before .before .before .before .before .before .before .before .before .if1 .taken, sym (c .before .before .before .before .before .before .before .before .before .before .before .before .before .before .next-prototype .ensures), c .before .before .before .before .before .before .before .before .before .before .before .before .answer .given .1, sym (c .before .before .before .before .before .before .before .before .before .before .is-extensible .ensures), c .before .before .before .before .before .before .before .before .extensible .given .1, c .before .before .before .before .before .before .if2 .left, sym (c .before .before .before .before .before .get-prototype-of .ensures), c .before .before .before .prototype .given .1, sym (c .before .same-value .ensures) ∙ c .if3 .left))
-    (λ c. rw (sym (c .before .before .has-trap .ensures) ∙ c .before .if1 .left) (c .get-prototype-of2 .ensures))
+    (λ c. c .get-prototype-of2 .ensures ∙ get-prototype-of-handed _ _ _ _ _ _ _ (sym (c .before .before .before .before .has-trap .ensures) ∙ c .before .before .before .if1 .left, c .before .before .hand-on .ensures .0, c .before .with-calls .ensures))

@@ -4,8 +4,9 @@ use native.Mathlib.Omega.{arith}
 use Prim.Native.Nat.{_+_, _*_}
 use borrow.Author.Needs.{needs}
 use Rattle.internal_methods.specs.Monad.{pure, fails, next, _>>=_, throwIf, if_then_else_}
-use Rattle.internal_methods.specs.Proxy.{hasTrap, proxyPreventExtensions}
+use Rattle.internal_methods.specs.Proxy.{proxyPreventExtensions}
 use Rattle.calls.proofs.Cycle.{at, below}
+use Rattle.calls.proofs.HandedLaws.{prevent-extensions-handed}
 use Rattle.calls.proofs.EnterLaws.{prevent-extensions-goes-on, proxy-deep, ordinary-found}
 use Rattle.extensibility.proofs.WriteLaws.{object-fits}
 use Prim.Native.Nat.{ℕ}
@@ -17,7 +18,9 @@ use Rattle.extensibility.proofs.prevention.proxy_exotic_prevent_extensi
 use Rattle.extensibility.proofs.prevention.proxy_exotic_prevent_extensions.Kinds as proxy-exotic-prevent-extensions-kinds
 use Rattle.extensibility.proofs.prevention.+prevent_extensions+proxy_exotic_prevent_extensions.Lts-proxy_exotic_prevent_extensions as proxy-exotic-prevent-extensions-lts
 use Rattle.calls.proofs.enter.Reads as enter-reads
+use Rattle.calls.proofs.hand_on.Reads as hand-on-reads
 use Rattle.calls.proofs.has_trap.Reads as has-trap-reads
+use Rattle.calls.proofs.with_calls.Reads as with-calls-reads
 use Rattle.extensibility.proofs.prevention.ordinary_prevent_extensions.Reads as ordinary-prevent-extensions-reads
 use Rattle.extensibility.proofs.prevention.prevent_extensions_trap.Reads as prevent-extensions-trap-reads
 use Rattle.extensibility.proofs.prevention.+prevent_extensions+proxy_exotic_prevent_extensions.{
@@ -34,7 +37,7 @@ abbrev μ-proxy-exotic-prevent-extensions : Measures 3 proxy-exotic-prevent-exte
 μ-proxy-exotic-prevent-extensions κs a = 2 * a .1 .1 .1 .1 .1 .0 + 1
 
 pub +prevent-extensions+proxy-exotic-prevent-extensions-spec : {M : Type 1} → statement M
-unfolding _>>=_ fails hasTrap if_then_else_ next proxyPreventExtensions pure throwIf
+unfolding _>>=_ fails if_then_else_ next proxyPreventExtensions pure throwIf
 +prevent-extensions+proxy-exotic-prevent-extensions-spec =
     close μ-prevent-extensions μ-proxy-exotic-prevent-extensions (λ t. prevent-extensions-lts.spec (
       enter-reads.Asked,
@@ -61,6 +64,10 @@ unfolding _>>=_ fails hasTrap if_then_else_ next proxyPreventExtensions pure thr
       has-trap-reads.Learnt,
       prevent-extensions-trap-reads.Asked,
       prevent-extensions-trap-reads.Learnt,
+      hand-on-reads.Asked,
+      hand-on-reads.Learnt,
+      with-calls-reads.Asked,
+      with-calls-reads.Learnt,
       below 3 prevent-extensions-kinds.ps μ-prevent-extensions prevent-extensions.Pre t,
       prevent-extensions.Post,
     )
@@ -68,6 +75,8 @@ unfolding _>>=_ fails hasTrap if_then_else_ next proxyPreventExtensions pure thr
     proxy-exotic-prevent-extensions.Post
     (λ c κs. search needs)
     (λ c κs. (c .before .before .before .before .before .pre .1, sym (c .before .has-trap .ensures) ∙ c .if1 .taken))
-    (λ c κs. (omega (arith, c .before .before .before .before .before .pre .0), c .before .before .before .before .before .pre .1))
+    (λ c κs. (c .before .before .before .before .before .pre .1 .store, omega arith))
+    (λ c κs. tt)
+    (λ c κs. (omega (arith, c .before .before .before .before .before .before .before .pre .0, c .before .hand-on .ensures .1), c .before .before .before .before .before .before .before .pre .1))
     (λ c. c .prevent-extensions-trap .ensures)
-    (λ c. (rw (sym (c .before .before .has-trap .ensures) ∙ c .before .if1 .left) (c .prevent-extensions .ensures .0), c .prevent-extensions .ensures .1))
+    (λ c. (c .prevent-extensions .ensures .0 ∙ prevent-extensions-handed _ _ _ _ _ _ _ (sym (c .before .before .before .before .has-trap .ensures) ∙ c .before .before .before .if1 .left, c .before .before .hand-on .ensures .0, c .before .with-calls .ensures), c .prevent-extensions .ensures .1))

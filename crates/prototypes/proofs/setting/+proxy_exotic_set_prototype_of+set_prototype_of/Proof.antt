@@ -4,8 +4,9 @@ use native.Mathlib.Omega.{arith}
 use Prim.Native.Nat.{_+_, _*_}
 use borrow.Author.Needs.{needs}
 use Rattle.internal_methods.specs.Monad.{pure, fails, next, _>>=_, throwIf, if_then_else_}
-use Rattle.internal_methods.specs.Proxy.{hasTrap, proxySetPrototypeOf}
+use Rattle.internal_methods.specs.Proxy.{proxySetPrototypeOf}
 use Rattle.calls.proofs.Cycle.{at, below}
+use Rattle.calls.proofs.HandedLaws.{set-prototype-of-handed}
 use Rattle.calls.proofs.EnterLaws.{set-prototype-of-goes-on, proxy-deep, ordinary-found}
 use Prim.Native.Nat.{ℕ}
 use borrow.Fn.PlainCycle.{Measures}
@@ -16,7 +17,9 @@ use Rattle.prototypes.proofs.setting.set_prototype_of.Reads as set-prot
 use Rattle.prototypes.proofs.setting.set_prototype_of.Kinds as set-prototype-of-kinds
 use Rattle.prototypes.proofs.setting.+proxy_exotic_set_prototype_of+set_prototype_of.Lts-set_prototype_of as set-prototype-of-lts
 use Rattle.calls.proofs.enter.Reads as enter-reads
+use Rattle.calls.proofs.hand_on.Reads as hand-on-reads
 use Rattle.calls.proofs.has_trap.Reads as has-trap-reads
+use Rattle.calls.proofs.with_calls.Reads as with-calls-reads
 use Rattle.prototypes.proofs.setting.ordinary_set_prototype_of.Reads as ordinary-set-prototype-of-reads
 use Rattle.prototypes.proofs.setting_trap.set_prototype_of_trap.Reads as set-prototype-of-trap-reads
 use Rattle.prototypes.proofs.setting.+proxy_exotic_set_prototype_of+set_prototype_of.{
@@ -33,7 +36,7 @@ abbrev μ-set-prototype-of : Measures 3 set-prototype-of-kinds.ps ℕ
 μ-set-prototype-of κs a = 2 * a .1 .1 .1 .1 .1 .1 .0
 
 pub +proxy-exotic-set-prototype-of+set-prototype-of-spec : {M : Type 1} → statement M
-unfolding _>>=_ fails hasTrap if_then_else_ next proxySetPrototypeOf pure throwIf
+unfolding _>>=_ fails if_then_else_ next proxySetPrototypeOf pure throwIf
 +proxy-exotic-set-prototype-of+set-prototype-of-spec =
     close
     μ-proxy-exotic-set-prototype-of
@@ -43,6 +46,10 @@ unfolding _>>=_ fails hasTrap if_then_else_ next proxySetPrototypeOf pure throwI
       has-trap-reads.Learnt,
       set-prototype-of-trap-reads.Asked,
       set-prototype-of-trap-reads.Learnt,
+      hand-on-reads.Asked,
+      hand-on-reads.Learnt,
+      with-calls-reads.Asked,
+      with-calls-reads.Learnt,
       below 3 set-prototype-of-kinds.ps μ-set-prototype-of set-prototype-of.Pre t,
       set-prototype-of.Post,
     )
@@ -50,9 +57,11 @@ unfolding _>>=_ fails hasTrap if_then_else_ next proxySetPrototypeOf pure throwI
     proxy-exotic-set-prototype-of.Post
     (λ c κs. search needs)
     (λ c κs. (c .before .before .before .before .before .pre .1, sym (c .before .has-trap .ensures) ∙ c .if1 .taken))
-    (λ c κs. (omega (arith, c .before .before .before .before .before .pre .0), c .before .before .before .before .before .pre .1))
+    (λ c κs. (c .before .before .before .before .before .pre .1 .store, omega arith))
+    (λ c κs. tt)
+    (λ c κs. (omega (arith, c .before .before .before .before .before .before .before .pre .0, c .before .hand-on .ensures .1), c .before .before .before .before .before .before .before .pre .1))
     (λ c. c .set-prototype-of-trap .ensures)
-    (λ c. (rw (sym (c .before .before .has-trap .ensures) ∙ c .before .if1 .left) (c .set-prototype-of .ensures .0), c .set-prototype-of .ensures .1)))
+    (λ c. (c .set-prototype-of .ensures .0 ∙ set-prototype-of-handed _ _ _ _ _ _ _ _ (sym (c .before .before .before .before .has-trap .ensures) ∙ c .before .before .before .if1 .left, c .before .before .hand-on .ensures .0, c .before .with-calls .ensures), c .set-prototype-of .ensures .1)))
     λ t. set-prototype-of-lts.spec (
       enter-reads.Asked,
       enter-reads.Learnt,
