@@ -8,9 +8,11 @@ use value::Value;
 use value_operations::bits;
 use value_operations::encoding;
 ghost use mathlib.Core.Path.{_≡_};
-ghost use Rattle.store.specs.Words.{flagsOf, primary, secondary};
+ghost use Rattle.store.specs.Words.{flagsOf};
+ghost use Rattle.steps.specs.declared.Completion.the-variants.{Descriptor};
+ghost use Rattle.steps.specs.declared.Outcome.the-variants.{Result};
 ghost use Rattle.steps.specs.Response.{outcomeNumber, refusalOrMessage};
-ghost use Rattle.reporting.specs.ReportWords.{completionForm, completionDetail, completionFirst, completionSecond, outcomeForm, outcomeDetail, outcomeFirst, outcomeSecond, reportWords, reportFrom};
+ghost use Rattle.reporting.specs.ReportWords.{reportWords, reportFrom, ValueTold, Tells};
 
 pub fn flags_of(p: Property) -> u64
     ensures { λ r. ⌜ r ≡ flagsOf p ⌝ }
@@ -44,7 +46,9 @@ pub fn refusal_or_message(o: Outcome) -> u64
 }
 
 // A value that is a result, 1, or was thrown, 3.
-fn value_words(outcome: u64, v: Value, answers: u64, calls: u64) -> [u64; 10] {
+fn value_words(outcome: u64, v: Value, answers: u64, calls: u64) -> [u64; 10]
+    ensures { λ r. ⌜ ValueTold outcome v answers calls r ⌝ }
+{
     let first = encoding::words_of(v);
     [
         outcome,
