@@ -14,15 +14,15 @@ use Rattle.internal_methods.specs.Monad.{State, failed, done, fails, ask}
 use Rattle.internal_methods.specs.Monad as answer
 use Rattle.internal_methods.specs.Answers.{asPrototype, undefinedDescriptor}
 use Rattle.text.specs.Strings.{Strings, lengthOf}
-use Rattle.record.specs.Sheet.{answersAt, valuesAt}
+use Rattle.record.specs.Sheet.{valuesAt}
 use Rattle.sheet.specs.declared.NextAnswer.{NextAnswer}
 use Rattle.sheet.specs.declared.NextAnswer.the-variants as next
-use Rattle.sheet.specs.Next.{Next, told}
+use Rattle.sheet.specs.Next.{answersFrom, Next, told}
 use Rattle.calls.specs.declared.Progress.{Progress}
 use Rattle.calls.specs.Outs.{stateOf, afterAnswer, textLength}
 
 module _ (bytes : List ℕ) (s : Progress) (r : NextAnswer) (h : Next bytes (s .at) (s .left) r) where
-  tells : (q : NextAnswer) → r ≡ q → answersAt bytes (s .at) (s .left) ≡ told bytes (s .left) q
+  tells : (q : NextAnswer) → r ≡ q → answersFrom bytes (s .at) (s .left) ≡ told bytes (s .left) q
   tells q e = rw (sym e) (h .tells)
 
   pub asked-none : r ≡ next.NoAnswer → ask .run (stateOf bytes s) ≡ failed (Refused 8) (stateOf bytes s)
@@ -46,16 +46,16 @@ module _ (bytes : List ℕ) (s : Progress) (r : NextAnswer) (h : Next bytes (s .
   asked-throw v end e = rw (tells (next.Throw v end) e)
 
   pub left-value : (v : Value) (end : ℕ) → r ≡ next.Value v end → 0 < s .left
-  left-value v end e = (rw e at (h .onward)) .0
+  left-value v end e = rw e at (h .onward)
 
   pub left-descriptor : (d : DescriptorObject) (end : ℕ) → r ≡ next.Descriptor d end → 0 < s .left
-  left-descriptor d end e = (rw e at (h .onward)) .0
+  left-descriptor d end e = rw e at (h .onward)
 
   pub left-keys : (first n end : ℕ) → r ≡ next.Keys first n end → 0 < s .left
-  left-keys first n end e = (rw e at (h .onward)) .0
+  left-keys first n end e = rw e at (h .onward)
 
   pub left-throw : (v : Value) (end : ℕ) → r ≡ next.Throw v end → 0 < s .left
-  left-throw v end e = (rw e at (h .onward)) .0
+  left-throw v end e = rw e at (h .onward)
 
 -- the kinds of value that an answer's reader does not name
 module _ (strings : Strings) where

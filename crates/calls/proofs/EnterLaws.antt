@@ -21,7 +21,7 @@ use Rattle.internal_methods.specs.Methods.{Context}
 use Rattle.internal_methods.specs.Ordinary.{ordinaryGetPrototypeOf, ordinarySetPrototypeOf, ordinaryIsExtensible, ordinaryPreventExtensions, ordinaryGetOwnProperty, ordinaryDefineOwnProperty, ordinaryHasProperty, ordinaryGet, ordinarySet, ordinaryDelete}
 use Rattle.internal_methods.specs.Proxy.{proxyGetPrototypeOf, proxySetPrototypeOf, proxyIsExtensible, proxyPreventExtensions, proxyGetOwnProperty, proxyDefineOwnProperty, proxyHasProperty, proxyGet, proxySet, proxyDelete, proxyOwnPropertyKeys}
 use Rattle.internal_methods.specs.Internal.{methods}
-use Rattle.record.specs.Sheet.{answersAt}
+use Rattle.sheet.specs.Next.{answersFrom}
 use Rattle.store_read.specs.declared.ObjectFound.the-variants as answer
 use Rattle.store_read.specs.Answers.{objectFound}
 use Rattle.calls.specs.declared.Progress.{Progress}
@@ -43,7 +43,7 @@ module _ {A : Type 0} (sheet : List ℕ) (f : OrdinaryObject → M A) (g : Proxy
   revocable p false s = refl
 
   going : (x : Option Object) (at left calls : ℕ)
-      → next (λ _. dispatched x f g) (counted (answersAt sheet at left) calls) ≡ after (counting x at left calls)
+      → next (λ _. dispatched x f g) (counted (answersFrom sheet at left) calls) ≡ after (counting x at left calls)
   unfolding fails next dispatched
   going x at left zero = refl
   going none at left (suc calls) = refl

@@ -16,7 +16,7 @@ use Rattle.store_write.specs.Write.{applied, fitsIn}
 use Rattle.internal_methods.specs.Monad.{State, state, Out, failed, done}
 use Rattle.internal_methods.specs.Methods.{Context}
 use Rattle.calls.specs.declared.Written.{Written}
-use Rattle.record.specs.Sheet.{answersAt}
+use Rattle.sheet.specs.Next.{answersFrom}
 use Rattle.calls.specs.declared.Progress.{Progress}
 use Rattle.calls.specs.declared.BooleanOut.{BooleanOut}
 use Rattle.calls.specs.declared.BooleanOut.the-variants as boolean
@@ -36,7 +36,7 @@ context words cells allowance = record { store = storeOf words; strings = string
 
 -- the answers still to come on the sheet, and the calls that may still begin
 abbrev pub stateOf : List ℕ → Progress → State
-stateOf sheet s = state (answersAt sheet (s .at) (s .left)) (s .calls)
+stateOf sheet s = state (answersFrom sheet (s .at) (s .left)) (s .calls)
 
 -- past an answer that ends at `end`
 abbrev pub afterAnswer : Progress → ℕ → Progress

@@ -22,10 +22,10 @@ use Rattle.internal_methods.proofs.Longer.{Suffix, same, more}
 use Rattle.record.specs.Bytes.{valueSize}
 use Rattle.record.specs.Tests.{isKnown}
 use Rattle.record.specs.Step.{isSome}
-use Rattle.record.specs.Sheet.{answersAt, valuesAt, valuesPass}
+use Rattle.record.specs.Sheet.{valuesAt, valuesPass}
 use Rattle.sheet.specs.declared.NextAnswer.{NextAnswer}
 use Rattle.sheet.specs.declared.NextAnswer.the-variants as next
-use Rattle.sheet.specs.Next.{Next}
+use Rattle.sheet.specs.Next.{answersFrom, Next}
 use Rattle.key_lists.specs.Keys.{keysHeld, greatest}
 use Rattle.own_keys.specs.Lists.{LoadableAt, isListFit, areListsFit}
 
@@ -44,11 +44,11 @@ module _ (bytes : List ℕ) (at left : ℕ) (r : NextAnswer) (h : Next bytes at 
   pub keys-within : first + 9 * n ≤ length bytes
   keys-within = rw e at (h .within)
 
-  list-fit : areListsFit (answersAt bytes at left) ≡ true → isListFit (keys (valuesAt bytes first n)) ≡ true
+  list-fit : areListsFit (answersFrom bytes at left) ≡ true → isListFit (keys (valuesAt bytes first n)) ≡ true
   unfolding areListsFit
   list-fit f = and-true (isListFit (keys (valuesAt bytes first n))) _ (rw (h .tells, e) at f) .0
 
-  pub loadable : areListsFit (answersAt bytes at left) ≡ true → isSome (keysOf (valuesAt bytes first n)) ≡ true → LoadableAt bytes first n
+  pub loadable : areListsFit (answersFrom bytes at left) ≡ true → isSome (keysOf (valuesAt bytes first n)) ≡ true → LoadableAt bytes first n
   loadable f k =
       let (few, known) = and-true (leb (length (valuesAt bytes first n)) 256) (valuesPass (isKnown greatest) (valuesAt bytes first n)) (list-fit f) in
       record {

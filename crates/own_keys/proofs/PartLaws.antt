@@ -16,7 +16,7 @@ use Rattle.internal_methods.specs.Internal.{methods}
 use Rattle.internal_methods.proofs.Longer.{Longer, left, longer-bind, longer-pure, longer-throwAny, askKeys-longer, methods-longer}
 use Rattle.store.specs.declared.Object.{Object}
 use Rattle.store.specs.declared.Object.the-variants as object
-use Rattle.record.specs.Sheet.{answersAt}
+use Rattle.sheet.specs.Next.{answersFrom}
 use Rattle.calls.specs.declared.Progress.{Progress}
 use Rattle.calls.specs.declared.Entered.the-variants as entered
 use Rattle.calls.specs.Entering.{progress, unrevoked, found, counting, entering}
@@ -80,13 +80,13 @@ module _ (p : ProxyObject) (t : Progress) where
       go false f = cc
 
   counted-fit : (sheet : List ℕ) (x : Option Object) (at to-come calls : ℕ) → counting x at to-come calls ≡ entered.Proxy p t
-      → areListsFit (answersAt sheet at to-come) ≡ true → areListsFit (answersAt sheet (t .at) (t .left)) ≡ true
+      → areListsFit (answersFrom sheet at to-come) ≡ true → areListsFit (answersFrom sheet (t .at) (t .left)) ≡ true
   counted-fit sheet x at to-come zero e h = let z : _≡_ {A = ℕ} 0 1 = cc in absurd (omega arith)
   counted-fit sheet x at to-come (suc calls) e h =
-      subst (λ (u : Progress). areListsFit (answersAt sheet (u .at) (u .left)) ≡ true) (found-place x (progress at to-come calls) e) h
+      subst (λ (u : Progress). areListsFit (answersFrom sheet (u .at) (u .left)) ≡ true) (found-place x (progress at to-come calls) e) h
 
   pub begun-fit : (sheet : List ℕ) (s : Progress) (x : Option Object) (depth : ℕ) → entering depth x s ≡ entered.Proxy p t
-      → areListsFit (answersAt sheet (s .at) (s .left)) ≡ true → areListsFit (answersAt sheet (t .at) (t .left)) ≡ true
+      → areListsFit (answersFrom sheet (s .at) (s .left)) ≡ true → areListsFit (answersFrom sheet (t .at) (t .left)) ≡ true
   unfolding entering
   begun-fit sheet s x zero e h = let z : _≡_ {A = ℕ} 0 1 = cc in absurd (omega arith)
   begun-fit sheet s x (suc depth) e h = counted-fit sheet x (s .at) (s .left) (s .calls) e h

@@ -9,7 +9,7 @@ ghost use mathlib.Core.Path.{_≡_};
 ghost use mathlib.Core.Bool.{true};
 ghost use Rattle.internal_methods.specs.Monad.{State, failed};
 ghost use Rattle.internal_methods.specs.Answers.{unlisted, askKeys};
-ghost use Rattle.record.specs.Sheet.{answersAt};
+ghost use Rattle.sheet.specs.Next.{answersFrom};
 ghost use Rattle.calls.specs.Outs.{stateOf};
 ghost use Rattle.own_keys.specs.Lists.{areListsFit, outAnswered, LoadableAnswer};
 
@@ -32,7 +32,7 @@ fn unlisted_failure(v: Value) -> Failure
 
 // 10.5.11 steps 7 and 8
 pub fn next_keys(sheet: &[u8], s: Progress) -> AnsweredOut
-    requires { ⌜ areListsFit (answersAt (now sheet) (s .at) (s .left)) ≡ true ⌝ }
+    requires { ⌜ areListsFit (answersFrom (now sheet) (s .at) (s .left)) ≡ true ⌝ }
     ensures { λ r. ⌜ outAnswered (now (sheet .entry)) r ≡ askKeys .run (stateOf (now (sheet .entry)) s) ⌝ }
     ensures { λ r. ⌜ LoadableAnswer (now (sheet .entry)) r ⌝ }
 {

@@ -15,7 +15,7 @@ ghost use Rattle.text.specs.Table.{stringsOf};
 ghost use Rattle.store.specs.Words.{storeOf};
 ghost use Rattle.internal_methods.specs.Proxy.{proxyOwnPropertyKeys};
 ghost use Rattle.internal_methods.specs.Internal.{methods};
-ghost use Rattle.record.specs.Sheet.{answersAt};
+ghost use Rattle.sheet.specs.Next.{answersFrom};
 ghost use Rattle.calls.specs.Outs.{Readable, context, stateOf};
 ghost use Rattle.own_keys.specs.Lists.{areListsFit};
 ghost use Rattle.own_keys.specs.Loading.{outKeys, LoadableKeys};
@@ -46,7 +46,7 @@ pub fn own_property_keys(
     depth: usize,
     s: Progress,
 ) -> KeysOut
-    requires { ⌜ Readable (now words) (now strings) × ((areListsFit (answersAt (now sheet) (s .at) (s .left)) ≡ true) × ((256 ≤ length (now keys)) × ((256 ≤ length (now marks)) × (256 ≤ length (now list))))) ⌝ }
+    requires { ⌜ Readable (now words) (now strings) × ((areListsFit (answersFrom (now sheet) (s .at) (s .left)) ≡ true) × ((256 ≤ length (now keys)) × ((256 ≤ length (now marks)) × (256 ≤ length (now list))))) ⌝ }
     ensures { λ r. ⌜ outKeys (now (sheet .entry)) (stringsOf (now (strings .entry))) (storeOf (now (words .entry))) r ≡ methods depth (context (now (words .entry)) (now (strings .entry)) allowance) .ownPropertyKeys o .run (stateOf (now (sheet .entry)) s) ⌝ }
     ensures { λ r. ⌜ LoadableKeys (now (sheet .entry)) r ⌝ }
 {
@@ -83,7 +83,7 @@ fn proxy_exotic_own_property_keys(
     depth: usize,
     s: Progress,
 ) -> KeysOut
-    requires { ⌜ Readable (now words) (now strings) × ((areListsFit (answersAt (now sheet) (s .at) (s .left)) ≡ true) × ((256 ≤ length (now keys)) × ((256 ≤ length (now marks)) × (256 ≤ length (now list))))) ⌝ }
+    requires { ⌜ Readable (now words) (now strings) × ((areListsFit (answersFrom (now sheet) (s .at) (s .left)) ≡ true) × ((256 ≤ length (now keys)) × ((256 ≤ length (now marks)) × (256 ≤ length (now list))))) ⌝ }
     ensures { λ r. ⌜ outKeys (now (sheet .entry)) (stringsOf (now (strings .entry))) (storeOf (now (words .entry))) r ≡ proxyOwnPropertyKeys (methods depth (context (now (words .entry)) (now (strings .entry)) allowance)) p .run (stateOf (now (sheet .entry)) s) ⌝ }
     ensures { λ r. ⌜ LoadableKeys (now (sheet .entry)) r ⌝ }
 {

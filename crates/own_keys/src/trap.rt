@@ -13,7 +13,7 @@ ghost use Prim.Native.Nat.{_≤_};
 ghost use lib.ListN.{length};
 ghost use Rattle.internal_methods.specs.KeyList.{duplicate};
 ghost use Rattle.internal_methods.specs.Internal.{methods};
-ghost use Rattle.record.specs.Sheet.{answersAt};
+ghost use Rattle.sheet.specs.Next.{answersFrom};
 ghost use Rattle.key_lists.specs.KeyWords.{messageNumber};
 ghost use Rattle.calls.specs.Outs.{Readable, context, stateOf};
 ghost use Rattle.own_keys.specs.Lists.{answeredKeys, LoadableAt, areListsFit};
@@ -45,7 +45,7 @@ pub fn own_keys_trap(
     depth: usize,
     s: Progress,
 ) -> TrapOut
-    requires { ⌜ Readable (now words) (now strings) × ((areListsFit (answersAt (now sheet) (s .at) (s .left)) ≡ true) × (256 ≤ length (now list))) ⌝ }
+    requires { ⌜ Readable (now words) (now strings) × ((areListsFit (answersFrom (now sheet) (s .at) (s .left)) ≡ true) × (256 ≤ length (now list))) ⌝ }
     ensures { λ r. ⌜ outTrap (now (sheet .entry)) r ≡ trapKeys (methods depth (context (now (words .entry)) (now (strings .entry)) allowance)) target .run (stateOf (now (sheet .entry)) s) ⌝ }
     ensures { λ r. ⌜ LoadableTrap (now (sheet .entry)) r ⌝ }
 {

@@ -1,3 +1,4 @@
+pub mod SheetLaws
 pub mod EndLaws
 pub mod ContractLaws
 pub mod ReportLaws

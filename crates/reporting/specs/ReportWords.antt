@@ -1,11 +1,13 @@
 -- A report as ten words, for C, and the report that ten words tell. What is not used is 0, as are the words of undefined. Assumes nothing.
 use Prim.Native.Nat.{ℕ}
+use mathlib.Core.Path.{_≡_}
 use mathlib.Core.List.{List, [], _∷_}
 use lib.Dec.{eqb}
 use Rattle.value.specs.declared.Value.{Value}
 use Rattle.value.specs.declared.Value.the-variants.{Undefined}
 use Rattle.value.specs.Words.{pick, kindOf, payloadOf, valueOf}
 use Rattle.store.specs.Words.{wordAt, propertyOf, flagsOf, primary, secondary}
+use Rattle.store_write.specs.Write.{Fits}
 use Rattle.steps.specs.declared.Completion.{Completion}
 use Rattle.steps.specs.declared.Completion.the-variants as completion
 use Rattle.steps.specs.declared.Outcome.{Outcome}
@@ -103,3 +105,15 @@ reportFrom words =
       answers = wordAt words 2;
       calls = wordAt words 3;
     }
+
+abbrev pub report : Outcome → ℕ → ℕ → Report
+report o answers calls = record { outcome = o; answers = answers; calls = calls }
+
+-- ten words are a report's, and tell it again
+abbrev pub Tells : Outcome → ℕ → ℕ → List ℕ → Type 0
+Tells o answers calls words = (words ≡ reportWords (report o answers calls)) × (reportFrom words ≡ report o answers calls)
+
+-- ten words of a value that is a result or was thrown, by the outcome's number; the value is told again
+pub record ValueTold (number : ℕ) (v : Value) (answers calls : ℕ) (words : List ℕ) : Type 0 where
+  pub ten : words ≡ number ∷ 0 ∷ answers ∷ calls ∷ 1 ∷ 0 ∷ kindOf v ∷ payloadOf v ∷ 0 ∷ 0 ∷ []
+  pub fits : Fits v

@@ -2,7 +2,6 @@
 // report_words: a report as ten words, for C.
 use calls::Progress;
 use internal_methods::Failure;
-use sheet::counting;
 use steps::Completion;
 use steps::Outcome;
 use steps::Report;
@@ -13,7 +12,8 @@ ghost use mathlib.Core.Bool.{true};
 ghost use Prim.Native.Nat.{_<_, _-_};
 ghost use lib.ListN.{length};
 ghost use Rattle.store.specs.Words.{isStore};
-ghost use Rattle.record.specs.Sheet.{sheetOf, answersAt};
+ghost use Rattle.record.specs.Sheet.{sheetOf, isSheet};
+ghost use Rattle.sheet.specs.Next.{answersFrom};
 ghost use Rattle.calls.specs.Outs.{stateOf};
 ghost use Rattle.steps.specs.Perform.{maximumCalls};
 ghost use Rattle.steps.specs.Response.{reportOf, refusal};
@@ -55,13 +55,13 @@ pub fn start(sheet: &[u8]) -> Progress
 
 // The answers used so far.
 fn answers_used(sheet: &[u8], s: Progress) -> u64
-    requires { ⌜ 0 < length (now sheet) ⌝ }
-    ensures { λ r. ⌜ r ≡ length (sheetOf (now (sheet .entry))) - length (answersAt (now (sheet .entry)) (s .at) (s .left)) ⌝ }
+    requires { ⌜ isSheet (now sheet) ≡ true ⌝ }
+    ensures { λ r. ⌜ r ≡ length (sheetOf (now (sheet .entry))) - length (answersFrom (now (sheet .entry)) (s .at) (s .left)) ⌝ }
 {
-    let all = counting::answers_left(sheet, 1, bits::wide(sheet[0]) as usize);
-    let rest = counting::answers_left(sheet, s.at, s.left);
-    if rest < all {
-        return (all - rest) as u64;
+    let all = bits::wide(sheet[0]) as usize;
+    let left = s.left;
+    if left < all {
+        return (all - left) as u64;
     }
     0
 }
@@ -88,7 +88,7 @@ pub fn refused(n: u64) -> Report
 }
 
 pub fn failed(sheet: &[u8], f: Failure, s: Progress) -> Report
-    requires { ⌜ 0 < length (now sheet) ⌝ }
+    requires { ⌜ isSheet (now sheet) ≡ true ⌝ }
     ensures { λ r. ⌜ r ≡ reportOf (failureResponse (sheetOf (now (sheet .entry))) f (stateOf (now (sheet .entry)) s)) ⌝ }
 {
     match f {
@@ -107,7 +107,7 @@ pub fn failed(sheet: &[u8], f: Failure, s: Progress) -> Report
 }
 
 pub fn completed(sheet: &[u8], c: Completion, s: Progress) -> Report
-    requires { ⌜ 0 < length (now sheet) ⌝ }
+    requires { ⌜ isSheet (now sheet) ≡ true ⌝ }
     ensures { λ r. ⌜ r ≡ completionReport (sheetOf (now (sheet .entry))) c (stateOf (now (sheet .entry)) s) ⌝ }
 {
     Report {
@@ -119,7 +119,7 @@ pub fn completed(sheet: &[u8], c: Completion, s: Progress) -> Report
 
 // The one write is made here, once the result stands.
 pub fn finish(words: &mut [u64], sheet: &[u8], p: Performed) -> Report
-    requires { ⌜ (0 < length (now sheet)) × ((isStore (now words) ≡ true) × Taken (now words) p) ⌝ }
+    requires { ⌜ (isSheet (now sheet) ≡ true) × ((isStore (now words) ≡ true) × Taken (now words) p) ⌝ }
     ensures { λ r. ⌜ r ≡ performedReport (now (sheet .entry)) p ⌝ }
     ensures { λ _. ⌜ Finished (now (words .entry)) (now (words .exit)) p ⌝ }
 {

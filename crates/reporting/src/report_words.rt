@@ -8,9 +8,11 @@ use value::Value;
 use value_operations::bits;
 use value_operations::encoding;
 ghost use mathlib.Core.Path.{_≡_};
-ghost use Rattle.store.specs.Words.{flagsOf, primary, secondary};
+ghost use Rattle.store.specs.Words.{flagsOf};
+ghost use Rattle.steps.specs.declared.Completion.the-variants.{Descriptor};
+ghost use Rattle.steps.specs.declared.Outcome.the-variants.{Result};
 ghost use Rattle.steps.specs.Response.{outcomeNumber, refusalOrMessage};
-ghost use Rattle.reporting.specs.ReportWords.{completionForm, completionDetail, completionFirst, completionSecond, outcomeForm, outcomeDetail, outcomeFirst, outcomeSecond, reportWords, reportFrom};
+ghost use Rattle.reporting.specs.ReportWords.{reportWords, reportFrom, ValueTold, Tells};
 
 pub fn flags_of(p: Property) -> u64
     ensures { λ r. ⌜ r ≡ flagsOf p ⌝ }
@@ -18,68 +20,6 @@ pub fn flags_of(p: Property) -> u64
     match p {
         Property::Data(_, w, e, c) => bits::weight(w, 2) + bits::weight(e, 4) + bits::weight(c, 8),
         Property::Accessor(_, _, e, c) => 1 + bits::weight(e, 4) + bits::weight(c, 8),
-    }
-}
-
-fn primary(p: Property) -> Value
-    ensures { λ r. ⌜ r ≡ primary p ⌝ }
-{
-    match p {
-        Property::Data(v, _, _, _) => v,
-        Property::Accessor(g, _, _, _) => g,
-    }
-}
-
-fn secondary(p: Property) -> Value
-    ensures { λ r. ⌜ r ≡ secondary p ⌝ }
-{
-    match p {
-        Property::Data(_, _, _, _) => Value::Undefined,
-        Property::Accessor(_, s, _, _) => s,
-    }
-}
-
-fn completion_form(c: Completion) -> u64
-    ensures { λ r. ⌜ r ≡ completionForm c ⌝ }
-{
-    match c {
-        Completion::Value(_) => 1,
-        Completion::Descriptor(_) => 2,
-        Completion::Absent => 3,
-        Completion::Keys(_) => 4,
-    }
-}
-
-fn completion_detail(c: Completion) -> u64
-    ensures { λ r. ⌜ r ≡ completionDetail c ⌝ }
-{
-    match c {
-        Completion::Value(_) => 0,
-        Completion::Descriptor(p) => flags_of(p),
-        Completion::Absent => 0,
-        Completion::Keys(n) => n,
-    }
-}
-
-fn completion_first(c: Completion) -> Value
-    ensures { λ r. ⌜ r ≡ completionFirst c ⌝ }
-{
-    match c {
-        Completion::Value(v) => v,
-        Completion::Descriptor(p) => primary(p),
-        Completion::Absent => Value::Undefined,
-        Completion::Keys(_) => Value::Undefined,
-    }
-}
-
-fn completion_second(c: Completion) -> Value
-    ensures { λ r. ⌜ r ≡ completionSecond c ⌝ }
-{
-    match c {
-        Completion::Value(_) => Value::Undefined,
-        Completion::Descriptor(p) => secondary(p),
-        Completion::Absent => Value::Undefined,
-        Completion::Keys(_) => Value::Undefined,
     }
 }
 
@@ -105,47 +45,71 @@ pub fn refusal_or_message(o: Outcome) -> u64
     }
 }
 
-fn outcome_form(o: Outcome) -> u64
-    ensures { λ r. ⌜ r ≡ outcomeForm o ⌝ }
+// A value that is a result, 1, or was thrown, 3.
+fn value_words(outcome: u64, v: Value, answers: u64, calls: u64) -> [u64; 10]
+    ensures { λ r. ⌜ ValueTold outcome v answers calls r ⌝ }
 {
-    match o {
-        Outcome::Refused(_) => 0,
-        Outcome::Result(c) => completion_form(c),
-        Outcome::TypeError(_) => 0,
-        Outcome::Thrown(_) => 1,
+    let first = encoding::words_of(v);
+    [
+        outcome,
+        0,
+        answers,
+        calls,
+        1,
+        0,
+        first.kind,
+        first.payload,
+        0,
+        0,
+    ]
+}
+
+fn property_words(p: Property, answers: u64, calls: u64) -> [u64; 10]
+    ensures { λ r. ⌜ Tells (Result (Descriptor p)) answers calls r ⌝ }
+{
+    match p {
+        Property::Data(v, _, _, _) => {
+            let first = encoding::words_of(v);
+            [
+                1,
+                0,
+                answers,
+                calls,
+                2,
+                flags_of(p),
+                first.kind,
+                first.payload,
+                0,
+                0,
+            ]
+        }
+        Property::Accessor(g, s, _, _) => {
+            let first = encoding::words_of(g);
+            let second = encoding::words_of(s);
+            [
+                1,
+                0,
+                answers,
+                calls,
+                2,
+                flags_of(p),
+                first.kind,
+                first.payload,
+                second.kind,
+                second.payload,
+            ]
+        }
     }
 }
 
-fn outcome_detail(o: Outcome) -> u64
-    ensures { λ r. ⌜ r ≡ outcomeDetail o ⌝ }
+fn completion_words(c: Completion, answers: u64, calls: u64) -> [u64; 10]
+    ensures { λ r. ⌜ Tells (Result c) answers calls r ⌝ }
 {
-    match o {
-        Outcome::Refused(_) => 0,
-        Outcome::Result(c) => completion_detail(c),
-        Outcome::TypeError(_) => 0,
-        Outcome::Thrown(_) => 0,
-    }
-}
-
-fn outcome_first(o: Outcome) -> Value
-    ensures { λ r. ⌜ r ≡ outcomeFirst o ⌝ }
-{
-    match o {
-        Outcome::Refused(_) => Value::Undefined,
-        Outcome::Result(c) => completion_first(c),
-        Outcome::TypeError(_) => Value::Undefined,
-        Outcome::Thrown(v) => v,
-    }
-}
-
-fn outcome_second(o: Outcome) -> Value
-    ensures { λ r. ⌜ r ≡ outcomeSecond o ⌝ }
-{
-    match o {
-        Outcome::Refused(_) => Value::Undefined,
-        Outcome::Result(c) => completion_second(c),
-        Outcome::TypeError(_) => Value::Undefined,
-        Outcome::Thrown(_) => Value::Undefined,
+    match c {
+        Completion::Value(v) => value_words(1, v, answers, calls),
+        Completion::Descriptor(p) => property_words(p, answers, calls),
+        Completion::Absent => [1, 0, answers, calls, 3, 0, 0, 0, 0, 0],
+        Completion::Keys(n) => [1, 0, answers, calls, 4, n, 0, 0, 0, 0],
     }
 }
 
@@ -154,18 +118,12 @@ pub fn report_words(report: Report) -> [u64; 10]
     ensures { λ r. ⌜ (r ≡ reportWords report) × (reportFrom r ≡ report) ⌝ }
 {
     let outcome = report.outcome;
-    let first = encoding::words_of(outcome_first(outcome));
-    let second = encoding::words_of(outcome_second(outcome));
-    [
-        outcome_number(outcome),
-        refusal_or_message(outcome),
-        report.answers,
-        report.calls,
-        outcome_form(outcome),
-        outcome_detail(outcome),
-        first.kind,
-        first.payload,
-        second.kind,
-        second.payload,
-    ]
+    let answers = report.answers;
+    let calls = report.calls;
+    match outcome {
+        Outcome::Refused(n) => [0, n, answers, calls, 0, 0, 0, 0, 0, 0],
+        Outcome::Result(c) => completion_words(c, answers, calls),
+        Outcome::TypeError(n) => [2, n, answers, calls, 0, 0, 0, 0, 0, 0],
+        Outcome::Thrown(v) => value_words(3, v, answers, calls),
+    }
 }

@@ -1,2 +1,2 @@
 pub mod SheetLaws
-pub mod CountLaws
+pub mod FromLaws

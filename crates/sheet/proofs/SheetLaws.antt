@@ -1,21 +1,22 @@
 -- Laws of the answers of a sheet, one at a time. Assumes nothing.
-use Prim.Native.Nat.{ℕ, zero, suc, _+_, _-_, _*_, _<_, _≤_}
+use Prim.Native.Nat.{ℕ, suc, _+_, _-_, _*_, _<_, _≤_}
 use native.Mathlib.Omega.{arith}
 use mathlib.Core.Path.{_≡_, refl, sym, ap, _∙_}
 use mathlib.Core.Bool.{Bool, true, false, _&&_}
-use mathlib.Core.List.{List, [], _∷_}
+use mathlib.Core.List.{List, _∷_}
 use lib.Dec.{eqb, leb}
 use lib.ListN.{length}
 use borrow.Author.Tests.{ne-eqb, le-leb, lt-leb, leb-true}
 use Rattle.value.specs.declared.Value.{Value}
+use Rattle.value.specs.declared.Value.the-variants.{Undefined}
+use Rattle.value.specs.Words.{pick}
 use Rattle.sheet.specs.declared.AnswerEnd.{AnswerEnd}
 use Rattle.sheet.specs.declared.AnswerEnd.the-variants.{At, Past}
-use Rattle.sheet.specs.declared.NextAnswer.{NextAnswer}
 use Rattle.sheet.specs.declared.NextAnswer.the-variants as next
 use Rattle.record.specs.Bytes.{byteAt, valueAt, isValueAt}
 use Rattle.record.specs.Descriptor.{descriptorAt}
-use Rattle.record.specs.Sheet.{valuesAt, areValuesAt, keyCountAt, answerAt, answerEnd, isBodyAt, isAnswerAt, answersAt, areAnswersAt, sheetOf, valuesPass, sheetPasses}
-use Rattle.sheet.specs.Next.{endWithin, told, placeAfter, Next, nextPasses}
+use Rattle.record.specs.Sheet.{valuesAt, areValuesAt, keyCountAt, answerAt, answerEnd, isBodyAt, isAnswerAt, areAnswersAt, valuesPass}
+use Rattle.sheet.specs.Next.{endWithin, missing, answersFrom, Next}
 
 -- an end within n bytes, or past them
 
@@ -137,90 +138,32 @@ module _ (b : List ℕ) (i n : ℕ) where
 
 module _ (b : List ℕ) (i n : ℕ) where
   pub next-none : n ≡ 0 → Next b i n next.NoAnswer
-  unfolding answersAt
-  next-none h = record { tells = rw h; onward = tt; within = tt }
+  unfolding answersFrom
+  next-none h = record { tells = rw h; onward = h; within = tt }
 
-  answers-more : 0 < n → answerEnd b i ≤ length b → answersAt b i n ≡ answerAt b i ∷ answersAt b (answerEnd b i) (n - 1)
-  unfolding answersAt
-  answers-more h l = let z : n ≡ suc (n - 1) = omega arith in ap (answersAt b i) z ∙ more
-    where
-      more : answersAt b i (suc (n - 1)) ≡ answerAt b i ∷ answersAt b (answerEnd b i) (n - 1)
-      more = rw (le-leb _ _ l)
+  answers-more : 0 < n → answersFrom b i n ≡ pick (leb (answerEnd b i) (length b)) (answerAt b i ∷ answersFrom b (answerEnd b i) (n - 1)) (missing ∷ answersFrom b i (n - 1))
+  unfolding answersFrom
+  answers-more h = let z : n ≡ suc (n - 1) = omega arith in ap (answersFrom b i) z ∙ refl
 
-  pub next-past : (r : AnswerEnd) → r ≡ endWithin (length b) (answerEnd b i) → r ≡ Past → Next b i n next.NoAnswer
-  unfolding answersAt
-  next-past r e q = record { tells = by n; onward = tt; within = tt }
-    where
-      by : (k : ℕ) → answersAt b i k ≡ []
-      by zero = refl
-      by (suc k) = rw (end-past _ _ r e q)
+  pub next-past : (r : AnswerEnd) → ((n ≡ 0) → ⊥) → r ≡ endWithin (length b) (answerEnd b i) → r ≡ Past → Next b i n (next.Throw Undefined i)
+  next-past r h e q = record { tells = answers-more (omega arith) ∙ rw (end-past _ _ r e q); onward = omega arith; within = tt }
 
   module _ (r : AnswerEnd) (e : ℕ) (h : (n ≡ 0) → ⊥) (p : r ≡ endWithin (length b) (answerEnd b i)) (q : r ≡ At e) where
-    more-at : answersAt b i n ≡ answerAt b i ∷ answersAt b e (n - 1)
-    more-at = let f = end-fits _ _ e r p q in answers-more (omega arith) (f .1) ∙ rw (f .0)
+    more-at : answersFrom b i n ≡ answerAt b i ∷ answersFrom b e (n - 1)
+    more-at = let f = end-fits _ _ e r p q in answers-more (omega arith) ∙ rw (le-leb _ _ (f .1), f .0)
 
     pub next-value : byteAt b i ≡ 1 → Next b i n (next.Value (valueAt b (i + 1)) e)
     unfolding answerAt
-    next-value t = let f = end-fits _ _ e r p q in record { tells = more-at ∙ rw t; onward = (omega arith, (f .0, omega arith)); within = tt }
+    next-value t = record { tells = more-at ∙ rw t; onward = omega arith; within = tt }
 
     pub next-descriptor : byteAt b i ≡ 2 → Next b i n (next.Descriptor (descriptorAt b (i + 1)) e)
     unfolding answerAt
-    next-descriptor t = let f = end-fits _ _ e r p q in record { tells = more-at ∙ rw t; onward = (omega arith, (f .0, omega arith)); within = tt }
+    next-descriptor t = record { tells = more-at ∙ rw t; onward = omega arith; within = tt }
 
     pub next-keys : byteAt b i ≡ 3 → Next b i n (next.Keys (i + 3) (keyCountAt b i) e)
     unfolding answerAt
-    next-keys t =
-        let f = end-fits _ _ e r p q in
-        record { tells = more-at ∙ rw t; onward = (omega arith, (f .0, omega arith)); within = omega (arith, end-three b i t) }
+    next-keys t = let f = end-fits _ _ e r p q in record { tells = more-at ∙ rw t; onward = omega arith; within = omega (arith, end-three b i t) }
 
     pub next-throw : (byteAt b i ≡ 1 → ⊥) → (byteAt b i ≡ 2 → ⊥) → (byteAt b i ≡ 3 → ⊥) → Next b i n (next.Throw (valueAt b (i + 1)) e)
     unfolding answerAt
-    next-throw s t u =
-        let f = end-fits _ _ e r p q in
-        record { tells = more-at ∙ simp (ne-eqb _ _ s, ne-eqb _ _ t, ne-eqb _ _ u); onward = (omega arith, (f .0, omega arith)); within = tt }
-
--- refusals 2 and 3 over what the next answer tells
-
-module _ (test : Value → Bool) (b : List ℕ) where
-  pub sheet-end : (i n : ℕ) → n ≤ 0 → sheetPasses test (answersAt b i n) ≡ true
-  unfolding sheetPasses answersAt
-  sheet-end i n h = let z : n ≡ 0 = omega arith in rw z
-
-  pub sheet-stop : (i n : ℕ) (r : NextAnswer) (p : AnswerEnd) → Next b i n r → p ≡ placeAfter r → p ≡ Past → sheetPasses test (answersAt b i n) ≡ true
-  unfolding sheetPasses
-  sheet-stop i n r p t e q = ap (sheetPasses test) (t .tells) ∙ by r (sym e ∙ q)
-    where
-      by : (r : NextAnswer) → placeAfter r ≡ Past → sheetPasses test (told b n r) ≡ true
-      by next.NoAnswer h = refl
-      by (next.Value v e) h = let z : _≡_ {A = ℕ} 0 1 = cc in absurd (omega arith)
-      by (next.Descriptor d e) h = let z : _≡_ {A = ℕ} 0 1 = cc in absurd (omega arith)
-      by (next.Keys f k e) h = let z : _≡_ {A = ℕ} 0 1 = cc in absurd (omega arith)
-      by (next.Throw v e) h = let z : _≡_ {A = ℕ} 0 1 = cc in absurd (omega arith)
-
-  pub sheet-bad : (i n : ℕ) (r : NextAnswer) → Next b i n r → nextPasses test b r ≡ false → sheetPasses test (answersAt b i n) ≡ false
-  unfolding sheetPasses
-  sheet-bad i n r t h = ap (sheetPasses test) (t .tells) ∙ by r h
-    where
-      by : (r : NextAnswer) → nextPasses test b r ≡ false → sheetPasses test (told b n r) ≡ false
-      by next.NoAnswer h = h
-      by (next.Value v e) h = rw h
-      by (next.Descriptor d e) h = rw h
-      by (next.Keys f k e) h = rw h
-      by (next.Throw v e) h = rw h
-
-  pub sheet-good : (i n e : ℕ) (r : NextAnswer) (p : AnswerEnd) → Next b i n r → nextPasses test b r ≡ true → p ≡ placeAfter r → p ≡ At e
-      → sheetPasses test (answersAt b i n) ≡ sheetPasses test (answersAt b e (n - 1))
-  unfolding sheetPasses
-  sheet-good i n e r p t h l q = ap (sheetPasses test) (t .tells) ∙ by r h (sym l ∙ q)
-    where
-      by : (r : NextAnswer) → nextPasses test b r ≡ true → placeAfter r ≡ At e → sheetPasses test (told b n r) ≡ sheetPasses test (answersAt b e (n - 1))
-      by next.NoAnswer h l = let z : _≡_ {A = ℕ} 0 1 = cc in absurd (omega arith)
-      by (next.Value v f) h l = let z : f ≡ e = cc in rw (h, z)
-      by (next.Descriptor d f) h l = let z : f ≡ e = cc in rw (h, z)
-      by (next.Keys k m f) h l = let z : f ≡ e = cc in rw (h, z)
-      by (next.Throw v f) h l = let z : f ≡ e = cc in rw (h, z)
-
-pub sheet-empty : (test : Value → Bool) (b : List ℕ) → length b ≡ 0 → true ≡ sheetPasses test (sheetOf b)
-unfolding sheetOf sheetPasses answersAt
-sheet-empty test [] h = refl
-sheet-empty test (x ∷ l) h = absurd (omega arith)
+    next-throw s t u = record { tells = more-at ∙ simp (ne-eqb _ _ s, ne-eqb _ _ t, ne-eqb _ _ u); onward = omega arith; within = tt }

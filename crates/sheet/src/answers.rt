@@ -4,6 +4,7 @@ use crate::NextAnswer;
 use byte_records::descriptor_record;
 use byte_records::numbers;
 use byte_records::value_record;
+use value::Value;
 use value_operations::bits;
 ghost use mathlib.Core.Path.{_≡_};
 ghost use mathlib.Core.Bool.{_&&_};
@@ -133,7 +134,7 @@ pub fn is_sheet(bytes: &[u8]) -> bool
     false
 }
 
-// The answer at `at`, of which there are `left` to come, if it is within the sheet.
+// The answer at `at`, if there are any to come. A sheet that is well formed has all of them.
 pub fn next_answer(bytes: &[u8], at: usize, left: usize) -> NextAnswer
     ensures { λ r. ⌜ Next (now (bytes .entry)) at left r ⌝ }
 {
@@ -141,7 +142,7 @@ pub fn next_answer(bytes: &[u8], at: usize, left: usize) -> NextAnswer
         return NextAnswer::NoAnswer;
     }
     let AnswerEnd::At(end) = answer_end(bytes, at) else {
-        return NextAnswer::NoAnswer;
+        return NextAnswer::Throw(Value::Undefined, at);
     };
     let tag = bytes[at];
     match tag {

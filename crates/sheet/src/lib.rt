@@ -1,10 +1,9 @@
 // Answer sheets as byte records, and refusal 1 over them.
-// answers: the next answer from a place on. counting: how many are still to come.
+// answers: the next answer from a place on.
 use property::DescriptorObject;
 use value::Value;
 
 mod answers;
-pub mod counting;
 
 pub use answers::is_sheet;
 pub use answers::next_answer;

@@ -1,29 +1,17 @@
-use denote.Ref.{now}
-use Prim.Native.Nat.{_≤_}
 use native.Mathlib.Omega.{arith}
-use mathlib.Core.Path.{sym}
-use lib.ListN.{length}
-use Rattle.record.specs.Sheet.{sheetOf, answersAt}
+use Rattle.reporting.proofs.SheetLaws.{sheet-there, used}
 use borrow.Author.Needs.{needs}
 use Rattle.reporting.proofs.answers_used.Statement.{statement}
 use Rattle.reporting.proofs.answers_used.Tie as tie
 
+shared-slice-read-wide : tie.Need-shared-slice-read-wide
+shared-slice-read-wide c = omega (arith, sheet-there _ (c .before .before .pre))
+
 returns : tie.Need-returns
-unfolding sheetOf
-returns c = rw (c .before .before .answers-left .ensures, c .before .answers-left2 .ensures, c .before .before .before .wide .ensures .0)
+returns c = rw (used _ (c .before .before .before .before .pre) _ _, c .before .wide .ensures .0)
 
 returns-2 : tie.Need-returns-2
-unfolding sheetOf
-returns-2 c = let h : length (sheetOf (now (c .before .before .before .before .before .before .args .sheet))) ≤ length (answersAt (now (c .before .before .before .before .before .before .args .sheet)) (c .before .before .before .before .before .before .args .s .at) (c .before .before .before .before .before .before .args .s .left)) = rw (sym (c .before .answers-left2 .ensures), sym (c .before .before .before .wide .ensures .0), sym (c .before .before .answers-left .ensures)) (c .if1 .left) in omega arith
+returns-2 c = rw (used _ (c .before .before .before .before .pre) _ _) (omega (arith, c .before .wide .ensures .0))
 
 pub answers-used-spec : {M : Type 1} → statement M
-answers-used-spec =
-    tie.close
-    (tie.spec
-    (λ c. search needs)
-    (λ c κs. search needs)
-    (λ c κs. search needs)
-    (λ c κs. search needs)
-    (λ c. search needs)
-    returns
-    returns-2)
+answers-used-spec = tie.close (tie.spec shared-slice-read-wide (λ c κs. search needs) (λ c. search needs) returns returns-2)

@@ -1,29 +1,37 @@
+use mathlib.Core.Path.{refl}
+use Rattle.value.specs.Words.{payloadOf}
+use Rattle.store_write.proofs.WriteLaws.{fits-undefined}
 use Rattle.reporting.specs.ReportWords.{reportWords}
-use Rattle.reporting.proofs.ReportLaws.{value-fits, words-tell}
+use Rattle.reporting.proofs.ReportLaws.{words-tell, thrown-tells, outcome-tells}
 use borrow.Author.Needs.{needs}
 use Rattle.reporting.proofs.report_words.report_words.Statement.{statement}
 use Rattle.reporting.proofs.report_words.report_words.Tie as tie
 
 returns : tie.Need-returns
-unfolding reportWords
-returns c =
-    let first = c .before .before .before .before .before .before .words-of .ensures in
-    let second = c .before .before .before .before .words-of2 .ensures in
-    words-tell
-    (rw (first .0, first .1 .0, second .0, second .1 .0, c .before .before .before .before .before .before .before .outcome-first .ensures, c .before .before .before .before .before .outcome-second .ensures, c .before .before .before .outcome-number .ensures, c .before .before .refusal-or-message .ensures, c .before .outcome-form .ensures, c .outcome-detail .ensures))
-    (value-fits (c .before .before .before .before .before .before .before .outcome-first .ensures) (first .0) (first .1 .0) (first .1 .1 .0))
-    (value-fits (c .before .before .before .before .before .outcome-second .ensures) (second .0) (second .1 .0) (second .1 .1 .0))
+unfolding reportWords payloadOf
+returns c = outcome-tells (c .before .outcome .given .1) (words-tell refl fits-undefined fits-undefined)
+
+returns-2 : tie.Need-returns-2
+returns-2 c = outcome-tells (c .before .before .outcome2 .given .1) (c .completion-words .ensures)
+
+returns-3 : tie.Need-returns-3
+unfolding reportWords payloadOf
+returns-3 c = outcome-tells (c .before .outcome3 .given .1) (words-tell refl fits-undefined fits-undefined)
+
+returns-4 : tie.Need-returns-4
+returns-4 c = outcome-tells (c .before .before .outcome4 .given .1) (thrown-tells (c .value-words .ensures))
 
 pub report-words-spec : {M : Type 1} → statement M
 report-words-spec =
     tie.close
     (tie.spec
+    (λ c. search needs)
+    (λ c. search needs)
     (λ c κs. search needs)
+    (λ c. search needs)
+    (λ c. search needs)
     (λ c κs. search needs)
-    (λ c κs. search needs)
-    (λ c κs. search needs)
-    (λ c κs. search needs)
-    (λ c κs. search needs)
-    (λ c κs. search needs)
-    (λ c κs. search needs)
-    returns)
+    returns
+    returns-2
+    returns-3
+    returns-4)
