@@ -6,7 +6,7 @@ use value::Value;
 mod answers;
 pub mod counting;
 
-pub use answers::is_sheet;
+pub use answers::answer_end;
 pub use answers::next_answer;
 
 // Where an answer ends, or that it would end past the sheet.
