@@ -2,20 +2,18 @@
 use Prim.Native.Nat.{ℕ, zero, suc, _+_, _-_, _*_, _<_, _≤_}
 use native.Mathlib.Omega.{arith}
 use mathlib.Core.Path.{_≡_, refl, sym, ap, _∙_}
-use mathlib.Core.Bool.{Bool, true, false, _&&_}
+use mathlib.Core.Bool.{Bool, true, false}
 use mathlib.Core.List.{List, [], _∷_}
 use lib.Dec.{eqb, leb}
 use lib.ListN.{length}
 use borrow.Author.Tests.{ne-eqb, le-leb, lt-leb, leb-true}
-use Rattle.value.specs.declared.Value.{Value}
 use Rattle.sheet.specs.declared.AnswerEnd.{AnswerEnd}
 use Rattle.sheet.specs.declared.AnswerEnd.the-variants.{At, Past}
-use Rattle.sheet.specs.declared.NextAnswer.{NextAnswer}
 use Rattle.sheet.specs.declared.NextAnswer.the-variants as next
-use Rattle.record.specs.Bytes.{byteAt, valueAt, isValueAt}
+use Rattle.record.specs.Bytes.{byteAt, valueAt}
 use Rattle.record.specs.Descriptor.{descriptorAt}
-use Rattle.record.specs.Sheet.{valuesAt, areValuesAt, keyCountAt, answerAt, answerEnd, isBodyAt, isAnswerAt, answersAt, areAnswersAt, sheetOf, valuesPass, sheetPasses}
-use Rattle.sheet.specs.Next.{endWithin, told, placeAfter, Next, nextPasses}
+use Rattle.record.specs.Sheet.{keyCountAt, answerAt, answerEnd, answersAt}
+use Rattle.sheet.specs.Next.{endWithin, Next}
 
 -- an end within n bytes, or past them
 
@@ -73,66 +71,6 @@ module _ (b : List ℕ) (i : ℕ) where
   pub end-absent : length b ≤ i → Past ≡ endWithin (length b) (answerEnd b i)
   end-absent h = end-out _ _ (omega (arith, end-beyond))
 
--- values one by one
-
-module _ (b : List ℕ) (i n : ℕ) where
-  pub values-end : n ≤ 0 → areValuesAt b i n ≡ true
-  unfolding areValuesAt
-  values-end h = let z : n ≡ 0 = omega arith in rw z
-
-  pub values-bad : 0 < n → isValueAt b i ≡ false → areValuesAt b i n ≡ false
-  unfolding areValuesAt
-  values-bad h e = let z : n ≡ suc (n - 1) = omega arith in rw (z, e)
-
-  pub values-good : 0 < n → isValueAt b i ≡ true → areValuesAt b i n ≡ areValuesAt b (i + 9) (n - 1)
-  unfolding areValuesAt
-  values-good h e = let z : n ≡ suc (n - 1) = omega arith in ap (areValuesAt b i) z ∙ more
-    where
-      more : areValuesAt b i (suc (n - 1)) ≡ areValuesAt b (i + 9) (n - 1)
-      more = rw e
-
-module _ (test : Value → Bool) (b : List ℕ) (i n : ℕ) where
-  pub pass-end : n ≤ 0 → valuesPass test (valuesAt b i n) ≡ true
-  unfolding valuesPass valuesAt
-  pass-end h = let z : n ≡ 0 = omega arith in rw z
-
-  pub pass-bad : 0 < n → test (valueAt b i) ≡ false → valuesPass test (valuesAt b i n) ≡ false
-  unfolding valuesPass valuesAt
-  pass-bad h e = let z : n ≡ suc (n - 1) = omega arith in rw (z, e)
-
-  pub pass-good : 0 < n → test (valueAt b i) ≡ true → valuesPass test (valuesAt b i n) ≡ valuesPass test (valuesAt b (i + 9) (n - 1))
-  unfolding valuesPass valuesAt
-  pass-good h e = let z : n ≡ suc (n - 1) = omega arith in ap (λ (k : ℕ). valuesPass test (valuesAt b i k)) z ∙ more
-    where
-      more : valuesPass test (valuesAt b i (suc (n - 1))) ≡ valuesPass test (valuesAt b (i + 9) (n - 1))
-      more = rw e
-
--- answers one by one: refusal 1
-
-module _ (b : List ℕ) (i n : ℕ) where
-  pub all-end : n ≤ 0 → areAnswersAt b i n ≡ eqb i (length b)
-  unfolding areAnswersAt
-  all-end h = let z : n ≡ 0 = omega arith in rw z
-
-  all-more : 0 < n → areAnswersAt b i n ≡ (isAnswerAt b i && areAnswersAt b (answerEnd b i) (n - 1))
-  unfolding areAnswersAt
-  all-more h = let z : n ≡ suc (n - 1) = omega arith in ap (areAnswersAt b i) z ∙ more
-    where
-      more : areAnswersAt b i (suc (n - 1)) ≡ (isAnswerAt b i && areAnswersAt b (answerEnd b i) (n - 1))
-      more = refl
-
-  pub all-past : (r : AnswerEnd) → 0 < n → r ≡ endWithin (length b) (answerEnd b i) → r ≡ Past → areAnswersAt b i n ≡ false
-  unfolding isAnswerAt
-  all-past r h e q = all-more h ∙ rw (end-past _ _ r e q)
-
-  pub all-bad : 0 < n → answerEnd b i ≤ length b → isBodyAt b i ≡ false → areAnswersAt b i n ≡ false
-  unfolding isAnswerAt
-  all-bad h l e = all-more h ∙ rw (le-leb _ _ l, e)
-
-  pub all-good : 0 < n → answerEnd b i ≤ length b → isBodyAt b i ≡ true → areAnswersAt b i n ≡ areAnswersAt b (answerEnd b i) (n - 1)
-  unfolding isAnswerAt
-  all-good h l e = all-more h ∙ rw (le-leb _ _ l, e)
-
 -- the next answer
 
 module _ (b : List ℕ) (i n : ℕ) where
@@ -140,7 +78,7 @@ module _ (b : List ℕ) (i n : ℕ) where
   unfolding answersAt
   next-none h = record { tells = rw h; onward = tt; within = tt }
 
-  answers-more : 0 < n → answerEnd b i ≤ length b → answersAt b i n ≡ answerAt b i ∷ answersAt b (answerEnd b i) (n - 1)
+  pub answers-more : 0 < n → answerEnd b i ≤ length b → answersAt b i n ≡ answerAt b i ∷ answersAt b (answerEnd b i) (n - 1)
   unfolding answersAt
   answers-more h l = let z : n ≡ suc (n - 1) = omega arith in ap (answersAt b i) z ∙ more
     where
@@ -178,49 +116,3 @@ module _ (b : List ℕ) (i n : ℕ) where
     next-throw s t u =
         let f = end-fits _ _ e r p q in
         record { tells = more-at ∙ simp (ne-eqb _ _ s, ne-eqb _ _ t, ne-eqb _ _ u); onward = (omega arith, (f .0, omega arith)); within = tt }
-
--- refusals 2 and 3 over what the next answer tells
-
-module _ (test : Value → Bool) (b : List ℕ) where
-  pub sheet-end : (i n : ℕ) → n ≤ 0 → sheetPasses test (answersAt b i n) ≡ true
-  unfolding sheetPasses answersAt
-  sheet-end i n h = let z : n ≡ 0 = omega arith in rw z
-
-  pub sheet-stop : (i n : ℕ) (r : NextAnswer) (p : AnswerEnd) → Next b i n r → p ≡ placeAfter r → p ≡ Past → sheetPasses test (answersAt b i n) ≡ true
-  unfolding sheetPasses
-  sheet-stop i n r p t e q = ap (sheetPasses test) (t .tells) ∙ by r (sym e ∙ q)
-    where
-      by : (r : NextAnswer) → placeAfter r ≡ Past → sheetPasses test (told b n r) ≡ true
-      by next.NoAnswer h = refl
-      by (next.Value v e) h = let z : _≡_ {A = ℕ} 0 1 = cc in absurd (omega arith)
-      by (next.Descriptor d e) h = let z : _≡_ {A = ℕ} 0 1 = cc in absurd (omega arith)
-      by (next.Keys f k e) h = let z : _≡_ {A = ℕ} 0 1 = cc in absurd (omega arith)
-      by (next.Throw v e) h = let z : _≡_ {A = ℕ} 0 1 = cc in absurd (omega arith)
-
-  pub sheet-bad : (i n : ℕ) (r : NextAnswer) → Next b i n r → nextPasses test b r ≡ false → sheetPasses test (answersAt b i n) ≡ false
-  unfolding sheetPasses
-  sheet-bad i n r t h = ap (sheetPasses test) (t .tells) ∙ by r h
-    where
-      by : (r : NextAnswer) → nextPasses test b r ≡ false → sheetPasses test (told b n r) ≡ false
-      by next.NoAnswer h = h
-      by (next.Value v e) h = rw h
-      by (next.Descriptor d e) h = rw h
-      by (next.Keys f k e) h = rw h
-      by (next.Throw v e) h = rw h
-
-  pub sheet-good : (i n e : ℕ) (r : NextAnswer) (p : AnswerEnd) → Next b i n r → nextPasses test b r ≡ true → p ≡ placeAfter r → p ≡ At e
-      → sheetPasses test (answersAt b i n) ≡ sheetPasses test (answersAt b e (n - 1))
-  unfolding sheetPasses
-  sheet-good i n e r p t h l q = ap (sheetPasses test) (t .tells) ∙ by r h (sym l ∙ q)
-    where
-      by : (r : NextAnswer) → nextPasses test b r ≡ true → placeAfter r ≡ At e → sheetPasses test (told b n r) ≡ sheetPasses test (answersAt b e (n - 1))
-      by next.NoAnswer h l = let z : _≡_ {A = ℕ} 0 1 = cc in absurd (omega arith)
-      by (next.Value v f) h l = let z : f ≡ e = cc in rw (h, z)
-      by (next.Descriptor d f) h l = let z : f ≡ e = cc in rw (h, z)
-      by (next.Keys k m f) h l = let z : f ≡ e = cc in rw (h, z)
-      by (next.Throw v f) h l = let z : f ≡ e = cc in rw (h, z)
-
-pub sheet-empty : (test : Value → Bool) (b : List ℕ) → length b ≡ 0 → true ≡ sheetPasses test (sheetOf b)
-unfolding sheetOf sheetPasses answersAt
-sheet-empty test [] h = refl
-sheet-empty test (x ∷ l) h = absurd (omega arith)

@@ -1,11 +1,9 @@
 -- What the reader of the next answer tells of a sheet. Assumes nothing.
 use Prim.Native.Nat.{ℕ, _+_, _-_, _*_, _<_, _≤_}
 use mathlib.Core.Path.{_≡_}
-use mathlib.Core.Bool.{Bool, true, false}
 use mathlib.Core.List.{List, [], _∷_}
 use lib.Dec.{leb}
 use lib.ListN.{length}
-use Rattle.value.specs.declared.Value.{Value}
 use Rattle.value.specs.Words.{pick}
 use Rattle.internal_methods.specs.Monad.{Answer, value, descriptor, keys, throw}
 use Rattle.sheet.specs.declared.AnswerEnd.{AnswerEnd}
@@ -13,8 +11,7 @@ use Rattle.sheet.specs.declared.AnswerEnd.the-variants.{At, Past}
 use Rattle.sheet.specs.declared.NextAnswer.{NextAnswer}
 use Rattle.sheet.specs.declared.NextAnswer.the-variants as next
 use Rattle.record.specs.Bytes.{valueSize}
-use Rattle.record.specs.Tests.{descriptorPasses}
-use Rattle.record.specs.Sheet.{valuesAt, answerEnd, answersAt, valuesPass}
+use Rattle.record.specs.Sheet.{valuesAt, answerEnd, answersAt}
 
 -- the end e, if it is within n bytes
 unfoldable pub endWithin : ℕ → ℕ → AnswerEnd
@@ -52,11 +49,3 @@ pub record Next (bytes : List ℕ) (at left : ℕ) (r : NextAnswer) : Type 0 whe
   pub tells : answersAt bytes at left ≡ told bytes left r
   pub onward : Onward bytes at left (placeAfter r)
   pub within : KeysWithin bytes r
-
--- the values of the next answer pass a test
-abbrev pub nextPasses : (Value → Bool) → List ℕ → NextAnswer → Bool
-nextPasses test bytes next.NoAnswer = true
-nextPasses test bytes (next.Value v e) = test v
-nextPasses test bytes (next.Descriptor d e) = descriptorPasses test d
-nextPasses test bytes (next.Keys first n e) = valuesPass test (valuesAt bytes first n)
-nextPasses test bytes (next.Throw v e) = test v

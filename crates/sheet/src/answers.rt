@@ -4,13 +4,10 @@ use crate::NextAnswer;
 use byte_records::descriptor_record;
 use byte_records::numbers;
 use byte_records::value_record;
-use value_operations::bits;
 ghost use mathlib.Core.Path.{_≡_};
-ghost use mathlib.Core.Bool.{_&&_};
 ghost use Prim.Native.Nat.{_+_, _*_, _<_, _≤_};
-ghost use lib.Dec.{leb};
 ghost use lib.ListN.{length};
-ghost use Rattle.record.specs.Sheet.{areValuesAt, keyCountAt, answerEnd, isBodyAt, areAnswersAt, isSheet};
+ghost use Rattle.record.specs.Sheet.{keyCountAt, answerEnd};
 ghost use Rattle.sheet.specs.Next.{endWithin, Next};
 
 // Where `size` bytes from `at` on end.

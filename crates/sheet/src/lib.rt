@@ -1,5 +1,5 @@
-// Answer sheets as byte records, and refusal 1 over them.
-// answers: the next answer from a place on. counting: how many are still to come.
+// Answer sheets as byte records.
+// answers: where an answer ends, and the next one from a place on. counting: how many are still to come.
 use property::DescriptorObject;
 use value::Value;
 
