@@ -4,13 +4,14 @@ use byte_records::value_record;
 use value::Words;
 use value_operations::bits;
 ghost use mathlib.Core.Path.{_≡_};
-ghost use mathlib.Core.Bool.{true, false, not, _&&_};
+ghost use mathlib.Core.Bool.{not};
 ghost use lib.Dec.{eqb};
 ghost use Prim.Native.Nat.{_≤_};
 ghost use lib.ListN.{length};
 ghost use Rattle.value.specs.PropertyKey.{keyOf};
 ghost use Rattle.value.specs.Words.{kindOf, valueOf};
-ghost use Rattle.record.specs.Step.{unless, isSome, usesKey, usesPrototype, usesMask, usesReceiver, isNullOrObject, stepOf, isKeyUsable, isPrototypeUsable, isMaskUsable, isObjectUsable, isReceiverUsable};
+ghost use Rattle.record.specs.Step.{unless, isSome, usesKey, usesPrototype, usesMask, usesReceiver, isNullOrObject, stepOf};
+ghost use Rattle.step_records.specs.Refusals.{areKindsFit};
 
 fn is_key_usable(code: u64, w: Words) -> bool
     ensures { λ r. ⌜ r ≡ unless (usesKey code) (isSome (keyOf (valueOf (w .kind) (w .payload)))) ⌝ }
@@ -70,7 +71,7 @@ fn is_receiver_usable(code: u64, w: Words) -> bool
 // `proxy` says whether the step's object is one.
 pub fn are_kinds_usable(proxy: bool, bytes: &[u8]) -> bool
     requires { ⌜ 58 ≤ length (now bytes) ⌝ }
-    ensures { λ r. ⌜ r ≡ (isKeyUsable (stepOf (now (bytes .entry))) && (isPrototypeUsable (stepOf (now (bytes .entry))) && (isMaskUsable (stepOf (now (bytes .entry))) && (isObjectUsable proxy (stepOf (now (bytes .entry))) && isReceiverUsable (stepOf (now (bytes .entry))))))) ⌝ }
+    ensures { λ r. ⌜ r ≡ areKindsFit proxy (stepOf (now (bytes .entry))) ⌝ }
 {
     let code = bits::wide(bytes[0]);
     let value = value_record::words_at(bytes, 11);

@@ -7,18 +7,15 @@ use record::Counts;
 use sheet::AnswerEnd;
 use value_operations::bits;
 ghost use mathlib.Core.Path.{_≡_};
-ghost use mathlib.Core.Bool.{_&&_};
 ghost use Prim.Native.Nat.{_+_, _*_, _≤_};
-ghost use lib.Dec.{leb};
 ghost use lib.ListN.{length};
-ghost use Rattle.record.specs.Tests.{isMade, isKnown};
-ghost use Rattle.record.specs.Sheet.{valuesAt, areValuesAt, keyCountAt, answerEnd, valuesPass};
-ghost use Rattle.step_records.specs.Refusals.{first, answerRefusal, sheetRefusal};
+ghost use Rattle.record.specs.Sheet.{keyCountAt, answerEnd};
+ghost use Rattle.step_records.specs.Refusals.{valuesRefusal, keysRefusal, answerRefusal, sheetRefusal};
 
 // Of n values.
 fn values_refusal(counts: Counts, bytes: &[u8], at: usize, n: usize) -> u64
     requires { ⌜ at + 9 * n ≤ length (now bytes) ⌝ }
-    ensures { λ r. ⌜ r ≡ first (areValuesAt (now (bytes .entry)) at n) (valuesPass (isMade counts) (valuesAt (now (bytes .entry)) at n)) (valuesPass (isKnown counts) (valuesAt (now (bytes .entry)) at n)) ⌝ }
+    ensures { λ r. ⌜ r ≡ valuesRefusal counts (now (bytes .entry)) at n ⌝ }
 {
     let mut i: usize = at;
     let mut left: usize = n;
@@ -36,7 +33,7 @@ fn values_refusal(counts: Counts, bytes: &[u8], at: usize, n: usize) -> u64
 
 fn keys_refusal(counts: Counts, bytes: &[u8], at: usize) -> u64
     requires { ⌜ at + 3 + 9 * keyCountAt (now bytes) at ≤ length (now bytes) ⌝ }
-    ensures { λ r. ⌜ r ≡ first (leb (keyCountAt (now (bytes .entry)) at) 256 && areValuesAt (now (bytes .entry)) (at + 3) (keyCountAt (now (bytes .entry)) at)) (valuesPass (isMade counts) (valuesAt (now (bytes .entry)) (at + 3) (keyCountAt (now (bytes .entry)) at))) (valuesPass (isKnown counts) (valuesAt (now (bytes .entry)) (at + 3) (keyCountAt (now (bytes .entry)) at))) ⌝ }
+    ensures { λ r. ⌜ r ≡ keysRefusal counts (now (bytes .entry)) at ⌝ }
 {
     let n = numbers::short_at(bytes, at + 1) as usize;
     if n <= 256 {

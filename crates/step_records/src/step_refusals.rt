@@ -14,7 +14,7 @@ ghost use lib.ListN.{length};
 ghost use Prim.Native.Nat.{_≤_};
 ghost use Rattle.record.specs.Tests.{isMade, isKnown};
 ghost use Rattle.record.specs.Step.{isCode, isObjectFormed, usesObject, unless, areValuesFormed, isDescriptorFormed, isMaskFormed, stepOf, stepPasses};
-ghost use Rattle.step_records.specs.Refusals.{first, stepRefusal};
+ghost use Rattle.step_records.specs.Refusals.{first, stepDescriptorRefusal, areKindsFit, stepRefusal};
 
 fn is_code(code: u64) -> bool
     ensures { λ r. ⌜ r ≡ isCode code ⌝ }
@@ -58,6 +58,7 @@ fn object_refusal(code: u64, object: u64, n: Counts) -> u64
 
 fn descriptor_refusal(code: u64, n: Counts, bytes: &[u8]) -> u64
     requires { ⌜ 58 ≤ length (now bytes) ⌝ }
+    ensures { λ r. ⌜ r ≡ stepDescriptorRefusal code n (now (bytes .entry)) ⌝ }
 {
     if code == 9 {
         return value_refusals::descriptor_refusal(n, bytes, 29);
@@ -82,6 +83,7 @@ fn values_refusal(code: u64, n: Counts, bytes: &[u8]) -> u64
 
 fn kinds_refusal(proxy: bool, bytes: &[u8]) -> u64
     requires { ⌜ 58 ≤ length (now bytes) ⌝ }
+    ensures { λ r. ⌜ r ≡ first true true (areKindsFit proxy (stepOf (now (bytes .entry)))) ⌝ }
 {
     if kinds::are_kinds_usable(proxy, bytes) {
         return 4;

@@ -1,13 +1,19 @@
-use borrow.Author.Needs.{needs}
-use borrow.Author.Tests.{eq-eqb, ne-eqb}
 use Rattle.step_records.proofs.kinds.is_mask_usable.Statement.{statement}
 use Rattle.step_records.proofs.kinds.is_mask_usable.Tie as tie
+use Rattle.step_records.proofs.kinds.is_mask_usable.Reads as reads
+use Rattle.step_records.proofs.kinds.is_mask_usable.Lts as lts
 
+-- src/kinds.rt:45:13
 returns : tie.Need-returns
-returns c = rw (eq-eqb _ _ (c .before .if1 .taken), c .kind-of .ensures)
+returns c = ?
 
+-- src/kinds.rt:47:9
 returns-2 : tie.Need-returns-2
-returns-2 c = rw (ne-eqb _ _ (c .if1 .left))
+returns-2 c = ?
+
+-- src/kinds.rt:40:1
+returns-3 : tie.Need-returns-3
+returns-3 c = ?
 
 pub is-mask-usable-spec : {M : Type 1} → statement M
-is-mask-usable-spec = tie.close (tie.spec (λ c κs. search needs) returns returns-2)
+is-mask-usable-spec = tie.close (tie.spec returns returns-2 returns-3)
