@@ -31,11 +31,11 @@ first-least true false c = omega arith
 first-least true true false = omega arith
 first-least true true true = omega arith
 
-pub first-most : (a b c : Bool) → first a b c ≤ 4
-first-most false b c = omega arith
-first-most true false c = omega arith
-first-most true true false = omega arith
-first-most true true true = omega arith
+pub first-earlier : (a b c : Bool) → first a b c ≡ earlier 4 (first a b c)
+first-earlier false b c = refl
+first-earlier true false c = refl
+first-earlier true true false = refl
+first-earlier true true true = refl
 
 -- one test of the three decides
 
@@ -71,3 +71,17 @@ earlier-assoc a b c = by (ltb a b) (ltb b c) refl refl
     by true false p q = rw (p, q)
     by false true p q = rw (p, q, p)
     by false false p q = rw (p, q, le-ltb a c (omega (arith, ltb-false a b p, ltb-false b c q)))
+
+pub earlier-least : (a b m : ℕ) → m ≤ a → m ≤ b → m ≤ earlier a b
+earlier-least a b m h k = by (ltb a b)
+  where
+    by : (t : Bool) → m ≤ cond t a b
+    by true = h
+    by false = k
+
+pub earlier-most : (a b m : ℕ) → a ≤ m → earlier a b ≤ m
+earlier-most a b m h = by (ltb a b) refl
+  where
+    by : (t : Bool) → ltb a b ≡ t → earlier a b ≤ m
+    by true p = rw p h
+    by false p = rw p (omega (arith, ltb-false a b p))

@@ -6,7 +6,7 @@ use mathlib.Core.Bool.{cond}
 use mathlib.Core.List.{List}
 use lib.Dec.{eqb}
 use lib.ListN.{length}
-use borrow.Author.Tests.{le-leb, lt-leb, lt-ltb, le-ltb, ne-eqb}
+use borrow.Author.Tests.{le-leb, lt-leb, lt-ltb, le-ltb, eq-eqb, ne-eqb}
 use Rattle.record.specs.Bytes.{byteAt, numberAt, valueAt, isValueAt}
 use Rattle.record.specs.Tests.{Counts, isMade, isKnown}
 use Rattle.record.specs.Sheet.{valuesAt, areValuesAt, answerAt, answerEnd, isAnswerAt, answersAt, areAnswersAt, sheetOf, isSheet, valuesPass, sheetPasses}
@@ -15,7 +15,7 @@ use Rattle.sheet.specs.declared.AnswerEnd.the-variants.{Past}
 use Rattle.sheet.specs.Next.{endWithin}
 use Rattle.sheet.proofs.SheetLaws.{end-past}
 use Rattle.step_records.specs.Refusals.{first, earlier, valueRefusal, descriptorRefusal, valuesRefusal, keysRefusal, answerRefusal, sheetRefusal}
-use Rattle.step_records.proofs.RefusalLaws.{earlier-first, by-form}
+use Rattle.step_records.proofs.RefusalLaws.{earlier-first, first-earlier, by-form, earlier-left, earlier-right, earlier-assoc}
 
 module _ (counts : Counts) (b : List ℕ) (i n : ℕ) where
   pub values-none : n ≤ 0 → valuesRefusal counts b i n ≡ 4
@@ -25,6 +25,18 @@ module _ (counts : Counts) (b : List ℕ) (i n : ℕ) where
   pub values-more : 0 < n → valuesRefusal counts b i n ≡ earlier (valueRefusal counts (byteAt b i) (numberAt b (suc i) 8)) (valuesRefusal counts b (i + 9) (n - 1))
   unfolding areValuesAt valuesAt valuesPass isValueAt valueAt
   values-more h = let z : n ≡ suc (n - 1) = omega arith in ap (valuesRefusal counts b i) z ∙ (rw earlier-first)
+
+  -- a walk that has found the number of what is behind it
+
+  pub values-start : valuesRefusal counts b i n ≡ earlier 4 (valuesRefusal counts b i n)
+  values-start = first-earlier (areValuesAt b i n) _ _
+
+  pub values-step : (found t : ℕ) → 0 < n → t ≡ earlier found (valuesRefusal counts b i n)
+      → t ≡ earlier (earlier found (valueRefusal counts (byteAt b i) (numberAt b (suc i) 8))) (valuesRefusal counts b (i + 9) (n - 1))
+  values-step found t h e = e ∙ ap (earlier found) (values-more h) ∙ earlier-assoc found _ _
+
+  pub values-done : (found t : ℕ) → n ≤ 0 → found ≤ 4 → t ≡ earlier found (valuesRefusal counts b i n) → found ≡ t
+  values-done found t h l e = sym (e ∙ ap (earlier found) (values-none h) ∙ earlier-left found 4 l)
 
 -- of n answers from i on
 abbrev pub from : Counts → List ℕ → ℕ → ℕ → ℕ
@@ -43,6 +55,19 @@ module _ (counts : Counts) (b : List ℕ) (i n : ℕ) where
   unfolding areAnswersAt isAnswerAt answersAt sheetPasses
   from-more h l = let z : n ≡ suc (n - 1) = omega arith in ap (from counts b i) z ∙ (rw (earlier-first, le-leb _ _ l))
 
+  module _ (found t : ℕ) (e : t ≡ earlier found (from counts b i n)) where
+    pub walk-past : (r : AnswerEnd) → 1 ≤ found → 0 < n → r ≡ endWithin (length b) (answerEnd b i) → r ≡ Past → 1 ≡ t
+    walk-past r l h p q = sym (e ∙ ap (earlier found) (from-past r h p q) ∙ earlier-right found 1 l)
+
+    pub walk-step : 0 < n → answerEnd b i ≤ length b → t ≡ earlier (earlier found (answerRefusal counts b i)) (from counts b (answerEnd b i) (n - 1))
+    walk-step h l = e ∙ ap (earlier found) (from-more h l) ∙ earlier-assoc found _ _
+
+    pub walk-done : n ≤ 0 → found ≤ 4 → i ≡ length b → found ≡ t
+    walk-done h l q = sym (e ∙ ap (earlier found) (from-none h) ∙ (rw (eq-eqb _ _ q) (earlier-left found 4 l)))
+
+    pub walk-short : n ≤ 0 → 1 ≤ found → (i ≡ length b → ⊥) → 1 ≡ t
+    walk-short h l q = sym (e ∙ ap (earlier found) (from-none h) ∙ (rw (ne-eqb _ _ q) (earlier-right found 1 l)))
+
 module _ (counts : Counts) (b : List ℕ) where
   pub sheet-empty : length b ≡ 0 → 1 ≡ sheetRefusal counts b
   unfolding isSheet
@@ -52,9 +77,9 @@ module _ (counts : Counts) (b : List ℕ) where
   unfolding isSheet
   sheet-long h l = rw (lt-ltb 0 (length b) h, lt-leb (byteAt b 0) 64 l)
 
-  pub sheet-answers : 0 < length b → byteAt b 0 ≤ 64 → sheetRefusal counts b ≡ from counts b 1 (byteAt b 0)
+  pub sheet-start : 0 < length b → byteAt b 0 ≤ 64 → sheetRefusal counts b ≡ earlier 4 (from counts b 1 (byteAt b 0))
   unfolding isSheet sheetOf
-  sheet-answers h l = rw (lt-ltb 0 (length b) h, le-leb (byteAt b 0) 64 l)
+  sheet-start h l = rw (lt-ltb 0 (length b) h, le-leb (byteAt b 0) 64 l) (first-earlier (areAnswersAt b 1 (byteAt b 0)) _ _)
 
 -- an answer, by its tag
 

@@ -1,92 +1,28 @@
+use Rattle.record.specs.Bytes.{valueAt}
+use Rattle.record.specs.Step.{stepOf}
 use borrow.Author.Needs.{needs}
 use Rattle.step_records.proofs.kinds.are_kinds_usable.Statement.{statement}
 use Rattle.step_records.proofs.kinds.are_kinds_usable.Tie as tie
-use Rattle.step_records.proofs.kinds.are_kinds_usable.Reads as reads
-use Rattle.step_records.proofs.kinds.are_kinds_usable.Lts as lts
-use Rattle.byte_records.proofs.value_record.words_at.Reads as words-at-reads
-use Rattle.step_records.proofs.kinds.is_key_usable.Reads as is-key-usable-reads
-use Rattle.step_records.proofs.kinds.is_mask_usable.Reads as is-mask-usable-reads
-use Rattle.step_records.proofs.kinds.is_object_usable.Reads as is-object-usable-reads
-use Rattle.step_records.proofs.kinds.is_prototype_usable.Reads as is-prototype-usable-reads
-use Rattle.step_records.proofs.kinds.is_receiver_usable.Reads as is-receiver-usable-reads
-use Rattle.value_operations.proofs.bits.wide.Reads as wide-reads
 
--- src/kinds.rt:76:27
-shared-slice-read-wide : tie.Need-shared-slice-read-wide
-shared-slice-read-wide c = search needs
-
--- src/kinds.rt:76:9
-wide-requires : tie.Need-wide-requires
-wide-requires c κs = search needs
-
--- src/kinds.rt:77:9
-words-at-requires : tie.Need-words-at-requires
-words-at-requires c κs = search needs
-
--- src/kinds.rt:78:28
-words-at-requires-2 : tie.Need-words-at-requires-2
-words-at-requires-2 c κs = search needs
-
--- src/kinds.rt:78:8
-is-key-usable-requires : tie.Need-is-key-usable-requires
-is-key-usable-requires c κs = search needs
-
--- src/kinds.rt:79:12
-is-prototype-usable-requires : tie.Need-is-prototype-usable-requires
-is-prototype-usable-requires c κs = search needs
-
--- src/kinds.rt:80:16
-is-mask-usable-requires : tie.Need-is-mask-usable-requires
-is-mask-usable-requires c κs = search needs
-
--- src/kinds.rt:81:20
-is-object-usable-requires : tie.Need-is-object-usable-requires
-is-object-usable-requires c κs = search needs
-
--- src/kinds.rt:82:53
-words-at-requires-3 : tie.Need-words-at-requires-3
-words-at-requires-3 c κs = search needs
-
--- src/kinds.rt:82:21
-is-receiver-usable-requires : tie.Need-is-receiver-usable-requires
-is-receiver-usable-requires c κs = search needs
-
--- src/kinds.rt:82:21
 returns : tie.Need-returns
-returns c = ?
+unfolding stepOf valueAt
+returns c = rw (← c .before .before .before .before .before .before .before .before .before .before .before .before .wide .ensures .0, ← c .before .before .before .before .before .before .before .before .before .before .before .words-at .ensures .0, ← c .before .before .before .before .before .before .before .before .before .before .before .words-at .ensures .1, ← c .before .before .before .before .before .before .before .before .before .before .words-at2 .ensures .0, ← c .before .before .before .before .before .before .before .before .before .before .words-at2 .ensures .1, ← c .before .words-at3 .ensures .0, ← c .before .words-at3 .ensures .1, ← c .before .before .before .before .before .before .before .before .before .is-key-usable .ensures, c .before .before .before .before .before .before .before .before .if1 .taken, ← c .before .before .before .before .before .before .before .is-prototype-usable .ensures, c .before .before .before .before .before .before .if2 .taken, ← c .before .before .before .before .before .is-mask-usable .ensures, c .before .before .before .before .if3 .taken, ← c .before .before .before .is-object-usable .ensures, c .before .before .if4 .taken) (c .is-receiver-usable .ensures)
 
--- src/kinds.rt:72:1
 returns-2 : tie.Need-returns-2
-returns-2 c = ?
+unfolding stepOf valueAt
+returns-2 c = rw (← c .before .before .before .before .before .before .before .before .before .before .wide .ensures .0, ← c .before .before .before .before .before .before .before .before .before .words-at .ensures .0, ← c .before .before .before .before .before .before .before .before .before .words-at .ensures .1, ← c .before .before .before .before .before .before .before .before .words-at2 .ensures .0, ← c .before .before .before .before .before .before .before .before .words-at2 .ensures .1, ← c .before .before .before .before .before .before .before .is-key-usable .ensures, c .before .before .before .before .before .before .if1 .taken, ← c .before .before .before .before .before .is-prototype-usable .ensures, c .before .before .before .before .if2 .taken, ← c .before .before .before .is-mask-usable .ensures, c .before .before .if3 .taken, ← c .before .is-object-usable .ensures, c .if4 .left)
 
--- src/kinds.rt:72:1
 returns-3 : tie.Need-returns-3
-returns-3 c = ?
+unfolding stepOf valueAt
+returns-3 c = rw (← c .before .before .before .before .before .before .before .before .wide .ensures .0, ← c .before .before .before .before .before .before .before .words-at .ensures .0, ← c .before .before .before .before .before .before .before .words-at .ensures .1, ← c .before .before .before .before .before .before .words-at2 .ensures .0, ← c .before .before .before .before .before .before .words-at2 .ensures .1, ← c .before .before .before .before .before .is-key-usable .ensures, c .before .before .before .before .if1 .taken, ← c .before .before .before .is-prototype-usable .ensures, c .before .before .if2 .taken, ← c .before .is-mask-usable .ensures, c .if3 .left)
 
--- src/kinds.rt:72:1
 returns-4 : tie.Need-returns-4
-returns-4 c = ?
+unfolding stepOf valueAt
+returns-4 c = rw (← c .before .before .before .before .before .before .wide .ensures .0, ← c .before .before .before .before .before .words-at .ensures .0, ← c .before .before .before .before .before .words-at .ensures .1, ← c .before .before .before .before .words-at2 .ensures .0, ← c .before .before .before .before .words-at2 .ensures .1, ← c .before .before .before .is-key-usable .ensures, c .before .before .if1 .taken, ← c .before .is-prototype-usable .ensures, c .if2 .left)
 
--- src/kinds.rt:72:1
 returns-5 : tie.Need-returns-5
-returns-5 c = ?
+unfolding stepOf valueAt
+returns-5 c = rw (← c .before .before .before .before .wide .ensures .0, ← c .before .before .before .words-at .ensures .0, ← c .before .before .before .words-at .ensures .1, ← c .before .before .words-at2 .ensures .0, ← c .before .before .words-at2 .ensures .1, ← c .before .is-key-usable .ensures, c .if1 .left)
 
 pub are-kinds-usable-spec : {M : Type 1} → statement M
-are-kinds-usable-spec =
-    tie.close
-    (tie.spec
-    shared-slice-read-wide
-    wide-requires
-    words-at-requires
-    words-at-requires-2
-    is-key-usable-requires
-    is-prototype-usable-requires
-    is-mask-usable-requires
-    is-object-usable-requires
-    words-at-requires-3
-    is-receiver-usable-requires
-    returns
-    returns-2
-    returns-3
-    returns-4
-    returns-5)
+are-kinds-usable-spec = tie.close (tie.spec (λ c. search needs) (λ c κs. search needs) (λ c κs. search needs) (λ c κs. search needs) (λ c κs. search needs) (λ c κs. search needs) (λ c κs. search needs) (λ c κs. search needs) (λ c κs. search needs) (λ c κs. search needs) returns returns-2 returns-3 returns-4 returns-5)

@@ -1,65 +1,28 @@
+use Prim.Native.Nat.{_*_, _+_, _≤_}
+use native.Mathlib.Omega.{arith}
+use mathlib.Core.Path.{_≡_}
+use lib.ListN.{length}
+use Rattle.step_records.specs.Refusals.{earlier, valuesRefusal}
+use Rattle.step_records.proofs.RefusalLaws.{earlier-most}
+use Rattle.step_records.proofs.SheetLaws.{values-start, values-step, values-done}
+use borrow.Author.Needs.{needs}
 use Rattle.step_records.proofs.sheet_refusals.values_refusal.Statement.{statement}
 use Rattle.step_records.proofs.sheet_refusals.values_refusal.Tie as tie
-use Rattle.step_records.proofs.sheet_refusals.values_refusal.Reads as reads
-use Rattle.step_records.proofs.sheet_refusals.values_refusal.Lts as lts
-use Rattle.byte_records.proofs.value_record.words_at.Reads as words-at-reads
-use Rattle.step_records.proofs.value_refusals.earlier.Reads as earlier-reads
-use Rattle.step_records.proofs.value_refusals.value_refusal.Reads as value-refusal-reads
 
 abbrev Inv-loop : tie.InvT-loop
-Inv-loop counts bytes at n i₀ left₀ found₀ i left found = ?
+Inv-loop counts bytes at n i₀ left₀ found₀ i left found = (i + 9 * left ≤ length bytes) × ((found ≤ 4) × (valuesRefusal counts bytes at n ≡ earlier found (valuesRefusal counts bytes i left)))
 
 abbrev μ-loop : tie.MeasureT-loop
-μ-loop counts bytes at n i₀ left₀ found₀ i left found = ?
+μ-loop counts bytes at n i₀ left₀ found₀ i left found = left
 
--- src/sheet_refusals.rt:26:5
 loop-holds : tie.Need-loop-holds Inv-loop μ-loop
-loop-holds c = ?
+loop-holds c = (c .before .pre, (omega arith, values-start (c .before .args .counts) (c .before .args .bytes .now) (c .before .args .at) (c .before .args .n)))
 
--- src/sheet_refusals.rt:29:51
-words-at-requires : tie.Need-words-at-requires Inv-loop μ-loop
-words-at-requires c κs = ?
-
--- src/sheet_refusals.rt:29:13
-value-refusal-requires : tie.Need-value-refusal-requires Inv-loop μ-loop
-value-refusal-requires c κs = ?
-
--- src/sheet_refusals.rt:27:9
-earlier-requires : tie.Need-earlier-requires Inv-loop μ-loop
-earlier-requires c κs = ?
-
--- src/sheet_refusals.rt:31:9
-add-i : tie.Need-add-i Inv-loop μ-loop
-add-i c = ?
-
--- src/sheet_refusals.rt:32:9
-sub-left : tie.Need-sub-left Inv-loop μ-loop
-sub-left c = ?
-
--- src/sheet_refusals.rt:26:5
-loop-less : tie.Need-loop-less Inv-loop μ-loop
-loop-less c = ?
-
--- src/sheet_refusals.rt:26:5
 loop-again : tie.Need-loop-again Inv-loop μ-loop
-loop-again c = ?
+loop-again c = (omega arith, (rw (c .earlier .ensures) (earlier-most _ _ _ (c .before .before .before .before .loop .inv .1 .0)), rw (c .earlier .ensures, c .before .value-refusal .ensures, c .before .before .words-at .ensures .0, c .before .before .words-at .ensures .1) (values-step _ _ _ _ _ _ (c .before .before .before .loop-test .taken) (c .before .before .before .before .loop .inv .1 .1))))
 
--- src/sheet_refusals.rt:19:1
 returns : tie.Need-returns Inv-loop μ-loop
-returns c = ?
+returns c = values-done _ _ _ _ _ _ (c .loop-test .left) (c .before .loop .inv .1 .0) (c .before .loop .inv .1 .1)
 
 pub values-refusal-spec : {M : Type 1} → statement M
-values-refusal-spec =
-    tie.close
-    (tie.spec
-    Inv-loop
-    μ-loop
-    loop-holds
-    words-at-requires
-    value-refusal-requires
-    earlier-requires
-    add-i
-    sub-left
-    loop-less
-    loop-again
-    returns)
+values-refusal-spec = tie.close (tie.spec Inv-loop μ-loop loop-holds (λ c κs. omega arith) (λ c κs. search needs) (λ c κs. search needs) (λ c. omega arith) (λ c. omega arith) (λ c. omega arith) loop-again returns)
