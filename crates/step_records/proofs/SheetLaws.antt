@@ -9,13 +9,13 @@ use lib.ListN.{length}
 use borrow.Author.Tests.{le-leb, lt-leb, lt-ltb, le-ltb, eq-eqb, ne-eqb}
 use Rattle.record.specs.Bytes.{byteAt, numberAt, valueAt, isValueAt}
 use Rattle.record.specs.Tests.{Counts, isMade, isKnown}
-use Rattle.record.specs.Sheet.{valuesAt, areValuesAt, answerAt, answerEnd, isAnswerAt, answersAt, areAnswersAt, sheetOf, isSheet, valuesPass, sheetPasses}
+use Rattle.record.specs.Sheet.{valuesAt, areValuesAt, answerAt, answerEnd, isBodyAt, isAnswerAt, answersAt, areAnswersAt, sheetOf, isSheet, valuesPass, sheetPasses}
 use Rattle.sheet.specs.declared.AnswerEnd.{AnswerEnd}
 use Rattle.sheet.specs.declared.AnswerEnd.the-variants.{Past}
 use Rattle.sheet.specs.Next.{endWithin}
 use Rattle.sheet.proofs.SheetLaws.{end-past}
 use Rattle.step_records.specs.Refusals.{first, earlier, valueRefusal, descriptorRefusal, valuesRefusal, keysRefusal, answerRefusal, sheetRefusal}
-use Rattle.step_records.proofs.RefusalLaws.{earlier-first, first-earlier, by-form, earlier-left, earlier-right, earlier-assoc}
+use Rattle.step_records.proofs.RefusalLaws.{earlier-first, first-least, first-earlier, by-form, earlier-left, earlier-right, earlier-assoc}
 
 module _ (counts : Counts) (b : List ℕ) (i n : ℕ) where
   pub values-none : n ≤ 0 → valuesRefusal counts b i n ≡ 4
@@ -84,6 +84,9 @@ module _ (counts : Counts) (b : List ℕ) where
 -- an answer, by its tag
 
 module _ (counts : Counts) (b : List ℕ) (i : ℕ) where
+  pub answer-least : 1 ≤ answerRefusal counts b i
+  answer-least = first-least (isBodyAt b i) _ _
+
   pub answer-value : byteAt b i ≡ 1 → valueRefusal counts (byteAt b (i + 1)) (numberAt b (suc (i + 1)) 8) ≡ answerRefusal counts b i
   unfolding answerAt isValueAt valueAt
   answer-value h = rw h

@@ -1,89 +1,49 @@
+use native.Mathlib.Omega.{arith}
+use mathlib.Core.Path.{_∙_}
+use Rattle.sheet.proofs.SheetLaws.{end-beyond, end-plain, end-three, end-two}
+use Rattle.step_records.proofs.SheetLaws.{answer-value, answer-descriptor, answer-keys, answer-throw, answer-other}
 use borrow.Author.Needs.{needs}
 use Rattle.step_records.proofs.sheet_refusals.answer_refusal.Statement.{statement}
 use Rattle.step_records.proofs.sheet_refusals.answer_refusal.Tie as tie
-use Rattle.step_records.proofs.sheet_refusals.answer_refusal.Reads as reads
-use Rattle.step_records.proofs.sheet_refusals.answer_refusal.Lts as lts
-use Rattle.byte_records.proofs.value_record.words_at.Reads as words-at-reads
-use Rattle.step_records.proofs.sheet_refusals.keys_refusal.Reads as keys-refusal-reads
-use Rattle.step_records.proofs.value_refusals.descriptor_refusal.Reads as descriptor-refusal-reads
-use Rattle.step_records.proofs.value_refusals.value_refusal.Reads as value-refusal-reads
 
--- src/sheet_refusals.rt:50:15
 shared-slice-read-tag : tie.Need-shared-slice-read-tag
-shared-slice-read-tag c = ?
+shared-slice-read-tag c = omega (arith, end-beyond (c .before .before .args .bytes .now) (c .before .before .args .at))
 
--- src/sheet_refusals.rt:52:82
 add-words-at : tie.Need-add-words-at
-add-words-at c = ?
+add-words-at c = omega (arith, end-plain (c .before .before .before .args .bytes .now) (c .before .before .before .args .at) (λ q. omega (arith, c .match .keys1)) (λ q. omega (arith, c .match .keys1)))
 
--- src/sheet_refusals.rt:52:52
 words-at-requires : tie.Need-words-at-requires
-words-at-requires c κs = ?
+words-at-requires c κs = omega (arith, end-plain (c .before .before .before .args .bytes .now) (c .before .before .before .args .at) (λ q. omega (arith, c .match .keys1)) (λ q. omega (arith, c .match .keys1)))
 
--- src/sheet_refusals.rt:52:14
-value-refusal-requires : tie.Need-value-refusal-requires
-value-refusal-requires c κs = search needs
-
--- src/sheet_refusals.rt:53:64
 add-descriptor-refusal : tie.Need-add-descriptor-refusal
-add-descriptor-refusal c = ?
+add-descriptor-refusal c = omega (arith, end-two (c .before .before .before .args .bytes .now) (c .before .before .before .args .at) (c .match .keys2))
 
--- src/sheet_refusals.rt:53:14
 descriptor-refusal-requires : tie.Need-descriptor-refusal-requires
-descriptor-refusal-requires c κs = ?
+descriptor-refusal-requires c κs = omega (arith, end-two (c .before .before .before .args .bytes .now) (c .before .before .before .args .at) (c .match .keys2))
 
--- src/sheet_refusals.rt:54:14
 keys-refusal-requires : tie.Need-keys-refusal-requires
-keys-refusal-requires c κs = ?
+keys-refusal-requires c κs = omega (arith, end-three (c .before .before .before .args .bytes .now) (c .before .before .before .args .at) (c .match .keys3))
 
--- src/sheet_refusals.rt:55:82
 add-words-at-2 : tie.Need-add-words-at-2
-add-words-at-2 c = ?
+add-words-at-2 c = omega (arith, end-plain (c .before .before .before .args .bytes .now) (c .before .before .before .args .at) (λ q. omega (arith, c .match .keys4)) (λ q. omega (arith, c .match .keys4)))
 
--- src/sheet_refusals.rt:55:52
 words-at-requires-2 : tie.Need-words-at-requires-2
-words-at-requires-2 c κs = ?
+words-at-requires-2 c κs = omega (arith, end-plain (c .before .before .before .args .bytes .now) (c .before .before .before .args .at) (λ q. omega (arith, c .match .keys4)) (λ q. omega (arith, c .match .keys4)))
 
--- src/sheet_refusals.rt:55:14
-value-refusal-requires-2 : tie.Need-value-refusal-requires-2
-value-refusal-requires-2 c κs = search needs
-
--- src/sheet_refusals.rt:46:1
 returns : tie.Need-returns
-returns c = ?
+returns c = rw (c .value-refusal .ensures, c .before .words-at .ensures .0, c .before .words-at .ensures .1) (answer-value (c .before .before .before .before .before .args .counts) (c .before .before .before .before .before .args .bytes .now) (c .before .before .before .before .before .args .at) (c .before .before .match .keys1))
 
--- src/sheet_refusals.rt:46:1
 returns-2 : tie.Need-returns-2
-returns-2 c = ?
+returns-2 c = c .descriptor-refusal .ensures ∙ answer-descriptor (c .before .before .before .before .args .counts) (c .before .before .before .before .args .bytes .now) (c .before .before .before .before .args .at) (c .before .match .keys2)
 
--- src/sheet_refusals.rt:46:1
 returns-3 : tie.Need-returns-3
-returns-3 c = ?
+returns-3 c = c .keys-refusal .ensures ∙ answer-keys (c .before .before .before .before .args .counts) (c .before .before .before .before .args .bytes .now) (c .before .before .before .before .args .at) (c .before .match .keys3)
 
--- src/sheet_refusals.rt:46:1
 returns-4 : tie.Need-returns-4
-returns-4 c = ?
+returns-4 c = rw (c .value-refusal2 .ensures, c .before .words-at2 .ensures .0, c .before .words-at2 .ensures .1) (answer-throw (c .before .before .before .before .before .args .counts) (c .before .before .before .before .before .args .bytes .now) (c .before .before .before .before .before .args .at) (c .before .before .match .keys4))
 
--- src/sheet_refusals.rt:46:1
 returns-5 : tie.Need-returns-5
-returns-5 c = ?
+returns-5 c = answer-other (c .before .before .before .args .counts) (c .before .before .before .args .bytes .now) (c .before .before .before .args .at) (c .match .rest .0 .0 .0 .1) (c .match .rest .0 .0 .1) (c .match .rest .0 .1) (c .match .rest .1)
 
 pub answer-refusal-spec : {M : Type 1} → statement M
-answer-refusal-spec =
-    tie.close
-    (tie.spec
-    shared-slice-read-tag
-    add-words-at
-    words-at-requires
-    value-refusal-requires
-    add-descriptor-refusal
-    descriptor-refusal-requires
-    keys-refusal-requires
-    add-words-at-2
-    words-at-requires-2
-    value-refusal-requires-2
-    returns
-    returns-2
-    returns-3
-    returns-4
-    returns-5)
+answer-refusal-spec = tie.close (tie.spec shared-slice-read-tag add-words-at words-at-requires (λ c κs. search needs) add-descriptor-refusal descriptor-refusal-requires keys-refusal-requires add-words-at-2 words-at-requires-2 (λ c κs. search needs) returns returns-2 returns-3 returns-4 returns-5)
