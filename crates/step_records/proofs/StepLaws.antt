@@ -1,10 +1,10 @@
 -- Refusals 1 to 3 over a step, part by part. Assumes nothing.
-use Prim.Native.Nat.{ℕ, _+_}
+use Prim.Native.Nat.{ℕ}
 use mathlib.Core.Path.{_≡_, refl}
-use mathlib.Core.Bool.{Bool, true, false, not, _&&_, _||_, and-assoc}
+use mathlib.Core.Bool.{Bool, true, false, _&&_, and-assoc}
 use mathlib.Core.Bool as bool
 use mathlib.Core.List.{List}
-use lib.Dec.{eqb, ltb}
+use lib.Dec.{ltb}
 use lib.ListN.{length}
 use borrow.Author.Tests.{eq-eqb, ne-eqb}
 use Rattle.record.specs.Bytes.{byteAt, areZero, isPartAt}
@@ -36,9 +36,6 @@ module _ (code : ℕ) (n : Counts) (b : List ℕ) where
       by false v r d made known = refl
 
 module _ (proxy : Bool) (n : Counts) (b : List ℕ) where
-  pub not-step : isStep b ≡ false → 1 ≡ stepRefusal proxy n b
-  not-step h = rw h
-
   pub no-length : (length b ≡ 58 → ⊥) → 1 ≡ stepRefusal proxy n b
   unfolding isStep
   no-length h = rw (ne-eqb _ _ h)

@@ -1,10 +1,10 @@
 -- The tests of a call's records in their order, and what the code counts for them. Assumes nothing.
 use Prim.Native.Nat.{ℕ, _<_, _≤_}
 use native.Mathlib.Omega.{arith}
-use mathlib.Core.Path.{_≡_, refl, ap, _∙_}
+use mathlib.Core.Path.{_≡_, refl}
 use mathlib.Core.Bool.{Bool, true, false, cond, _&&_}
 use mathlib.Core.Option.{Option, none, some}
-use mathlib.Core.List.{List, [], _∷_, _++_}
+use mathlib.Core.List.{List}
 use lib.Dec.{eqb, ltb}
 use lib.ListN.{length}
 use borrow.Author.Tests.{ne-eqb, lt-ltb, le-ltb}
@@ -20,8 +20,7 @@ use Rattle.store.specs.Store.{World, lookup}
 use Rattle.store_read.specs.declared.ObjectFound.{ObjectFound}
 use Rattle.store_read.specs.declared.ObjectFound.the-variants.{Missing, Made}
 use Rattle.store_read.specs.Answers.{objectFound}
-use Rattle.record.specs.declared.Refusal.{Refusal}
-use Rattle.record.specs.declared.Refusal.the-variants.{Passed, Failed}
+use Rattle.record.specs.declared.Refusal.the-variants.{Failed}
 use Rattle.record.specs.Bytes.{byteAt}
 use Rattle.record.specs.Descriptor.{descriptorAt}
 use Rattle.record.specs.Step.{unless, stepOf, isStep, areKindsUsable}
@@ -63,7 +62,6 @@ countsBy a b = record { objects = a; strings = b }
 
 pub same-counts : (a b i j : ℕ) → a ≡ i → b ≡ j → countsBy a b ≡ countsBy i j
 same-counts a b i j p q = rw (p, q)
-
 
 -- three tests as one number
 

@@ -1,4 +1,4 @@
-// Refusals 1 to 4 over a step of 58 bytes: code, object, key, value, receiver, descriptor.
+// Refusals 1 to 3 over a step of 58 bytes: code, object, key, value, receiver, descriptor.
 use crate::kinds;
 use crate::parts;
 use crate::value_refusals;
@@ -8,7 +8,7 @@ use byte_records::value_record;
 use record::Counts;
 use value_operations::bits;
 ghost use mathlib.Core.Path.{_≡_};
-ghost use mathlib.Core.Bool.{true, false, _&&_};
+ghost use mathlib.Core.Bool.{true, _&&_};
 ghost use lib.Dec.{ltb};
 ghost use lib.ListN.{length};
 ghost use Prim.Native.Nat.{_≤_};

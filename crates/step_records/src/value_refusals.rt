@@ -1,4 +1,4 @@
-// Refusals 1 to 3 as one number over a value, a part and a descriptor in bytes; 4 where all three tests pass.
+// Refusals 1 to 3 as one number over a value, a part and a descriptor in bytes, 4 where all three tests pass; and refusal 4 over a descriptor.
 use crate::value_tests;
 use byte_records::descriptor_record;
 use byte_records::value_record;

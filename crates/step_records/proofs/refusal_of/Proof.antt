@@ -1,5 +1,4 @@
 use borrow.Author.Tests.{lt-ltb, le-ltb}
-use borrow.Author.Needs.{needs}
 use Rattle.step_records.proofs.refusal_of.Statement.{statement}
 use Rattle.step_records.proofs.refusal_of.Tie as tie
 

@@ -1,5 +1,4 @@
 use borrow.Author.Tests.{eq-eqb, ne-eqb}
-use borrow.Author.Needs.{needs}
 use Rattle.step_records.proofs.revokes_proxy.Statement.{statement}
 use Rattle.step_records.proofs.revokes_proxy.Tie as tie
 

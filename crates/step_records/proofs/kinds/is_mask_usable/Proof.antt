@@ -1,6 +1,5 @@
 use borrow.Author.Tests.{ne-eqb}
 use Rattle.step_records.proofs.KindLaws.{integer-kind}
-use borrow.Author.Needs.{needs}
 use Rattle.step_records.proofs.kinds.is_mask_usable.Statement.{statement}
 use Rattle.step_records.proofs.kinds.is_mask_usable.Tie as tie
 

@@ -1,5 +1,4 @@
 use borrow.Author.Tests.{eq-eqb, ne-eqb}
-use borrow.Author.Needs.{needs}
 use Rattle.step_records.proofs.kinds.is_object_usable.Statement.{statement}
 use Rattle.step_records.proofs.kinds.is_object_usable.Tie as tie
 

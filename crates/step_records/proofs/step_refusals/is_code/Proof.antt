@@ -1,5 +1,4 @@
 use borrow.Author.Tests.{le-leb, lt-leb}
-use borrow.Author.Needs.{needs}
 use Rattle.step_records.proofs.step_refusals.is_code.Statement.{statement}
 use Rattle.step_records.proofs.step_refusals.is_code.Tie as tie
 
