@@ -2,12 +2,13 @@
 use Prim.Native.Nat.{ℕ, zero, suc, _+_, _-_, _*_, _/_, _%_, _<_, _≤_}
 use native.Mathlib.Omega.{arith}
 use native.Mathlib.Numerals.{add-one}
-use mathlib.Core.Path.{_≡_, refl, ap, _∙_}
-use mathlib.Core.Bool.{true, false}
+use mathlib.Core.Path.{_≡_, refl, sym, ap, _∙_}
+use mathlib.Core.Bool.{Bool, true, false, _&&_, and-assoc}
 use mathlib.Core.List.{List, [], _∷_, _++_}
+use lib.Dec.{eqb}
 use lib.ListN.{length, set}
 use lib.Seq.{sets}
-use borrow.Author.Tests.{eq-eqb, ne-eqb}
+use borrow.Author.Tests.{ne-eqb, eqb-true, eqb-false}
 use Rattle.value.specs.declared.Value.{Value}
 use Rattle.value.specs.Words.{payloadOf}
 use Rattle.record.specs.Bytes.{byteAt, numberAt, bytesOf, areZero, valueBytes}
@@ -24,17 +25,53 @@ pub word-of : (b : List ℕ) (i : ℕ) → numberAt b i 8 ≡ numberAt b i 4 + 4
 unfolding numberAt
 word-of b i = let e : i + 4 ≡ suc (suc (suc (suc i))) = omega arith in rw e (omega arith)
 
-pub zero-end : (b : List ℕ) (i end : ℕ) → end ≤ i → areZero b i (end - i) ≡ true
-unfolding areZero
-zero-end b i end h = let z : end - i ≡ 0 = omega arith in rw z
+-- bytes are zero exactly if their number is
 
-pub zero-not : (b : List ℕ) (i end : ℕ) → i < end → (byteAt b i ≡ 0 → ⊥) → areZero b i (end - i) ≡ false
-unfolding areZero
-zero-not b i end h n = let z : end - i ≡ suc (end - suc i) = omega arith in rw (z, ne-eqb _ _ n)
+sum-zero : (a c : ℕ) → (eqb a 0 && eqb c 0) ≡ eqb (a + 256 * c) 0
+sum-zero a c = by (eqb a 0) (eqb c 0) refl refl
+  where
+    by : (s t : Bool) → eqb a 0 ≡ s → eqb c 0 ≡ t → (eqb a 0 && eqb c 0) ≡ eqb (a + 256 * c) 0
+    by true true p q = rw (eqb-true a 0 p, eqb-true c 0 q)
+    by true false p q = rw (p, q, ne-eqb (a + 256 * c) 0 (λ e. eqb-false c 0 q (omega arith)))
+    by false t p q = rw (p, ne-eqb (a + 256 * c) 0 (λ e. eqb-false a 0 p (omega arith)))
 
-pub zero-step : (b : List ℕ) (i end : ℕ) → i < end → byteAt b i ≡ 0 → areZero b i (end - i) ≡ areZero b (i + 1) (end - (i + 1))
+pub zero-number : (b : List ℕ) (i n : ℕ) → areZero b i n ≡ eqb (numberAt b i n) 0
+unfolding areZero numberAt
+zero-number b i zero = refl
+zero-number b i (suc n) = ap (λ (t : Bool). eqb (byteAt b i) 0 && t) (zero-number b (suc i) n) ∙ sum-zero (byteAt b i) (numberAt b (suc i) n)
+
+zero-join : (b : List ℕ) (i m n : ℕ) → areZero b i (m + n) ≡ (areZero b i m && areZero b (i + m) n)
 unfolding areZero
-zero-step b i end h e = let z : end - i ≡ suc (end - suc i) = omega arith in rw (z, eq-eqb _ _ e, add-one i)
+zero-join b i zero n = let e : i + 0 ≡ i = omega arith in let f : 0 + n ≡ n = omega arith in rw (e, f)
+zero-join b i (suc m) n =
+    let e : i + suc m ≡ suc i + m = omega arith in
+    let f : suc m + n ≡ suc (m + n) = omega arith in
+    rw (e, f) (ap (λ (t : Bool). eqb (byteAt b i) 0 && t) (zero-join b (suc i) m n) ∙ sym (and-assoc (eqb (byteAt b i) 0) (areZero b (suc i) m) _))
+
+-- two stretches that have k bytes in common
+zero-overlap : (b : List ℕ) (i m k n : ℕ) → areZero b i (m + (k + n)) ≡ (areZero b i (m + k) && areZero b (i + m) (k + n))
+zero-overlap b i m k n =
+    zero-join b i m (k + n)
+    ∙ (rw (zero-join b i m k, zero-join b (i + m) k n) (by (areZero b i m) (areZero b (i + m) k) (areZero b (i + m + k) n)))
+  where
+    by : (s t u : Bool) → (s && (t && u)) ≡ ((s && t) && (t && u))
+    by true true u = refl
+    by true false u = refl
+    by false t u = refl
+
+abbrev wordZero : List ℕ → ℕ → Bool
+wordZero b i = eqb (numberAt b i 8) 0
+
+pub zero-value : (b : List ℕ) (i : ℕ) → areZero b i 9 ≡ (eqb (byteAt b i) 0 && wordZero b (i + 1))
+unfolding areZero
+zero-value b i = rw (add-one i, ← zero-number b (suc i) 8)
+
+pub zero-words : (b : List ℕ) (i : ℕ) → areZero b i 29 ≡ (wordZero b i && (wordZero b (i + 8) && (wordZero b (i + 16) && wordZero b (i + 21))))
+zero-words b i =
+    let e : i + 8 + 8 ≡ i + 16 = omega arith in
+    let f : i + 16 + 5 ≡ i + 21 = omega arith in
+    zero-join b i 8 21
+    ∙ (rw (zero-join b (i + 8) 8 13, e, zero-overlap b (i + 16) 5 3 5, f, zero-number b i 8, zero-number b (i + 8) 8, zero-number b (i + 16) 8, zero-number b (i + 21) 8))
 
 pub store-step : (l : List ℕ) (i k x : ℕ) → k < 8 → sets l (i + k) (bytesOf (8 - k) x) ≡ sets (set l (i + k) (x % 256)) (i + (k + 1)) (bytesOf (8 - (k + 1)) (x / 256))
 unfolding bytesOf

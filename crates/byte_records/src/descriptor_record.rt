@@ -1,4 +1,5 @@
 // A descriptor in 29 bytes: a presence mask, a byte of booleans, then value, get and set.
+use crate::numbers;
 use crate::value_record;
 use descriptors::fields;
 use descriptors::flags;
@@ -12,11 +13,13 @@ ghost use mathlib.Core.Bool.{not, _||_};
 ghost use Prim.Native.Nat.{_+_, _<_, _≤_, _/_, _%_};
 ghost use lib.Dec.{eqb};
 ghost use lib.ListN.{length};
+ghost use Rattle.record.specs.Bytes.{areZero};
+ghost use Rattle.byte_records.specs.Head.{isHeadAt};
 ghost use Rattle.record.specs.Descriptor.{flagOf, fieldOf, descriptorAt, areFlagsFormed, arePartsFormed, isDescriptorAt, maskOf, flagsOf, descriptorBytes};
 ghost use lib.Seq.{sets};
 
 // Whether n has the bit of weight w.
-fn has_bit(n: u64, w: u64) -> bool
+pub fn has_bit(n: u64, w: u64) -> bool
     requires { ⌜ 0 < w ⌝ }
     ensures { λ r. ⌜ r ≡ eqb (n / w % 2) 1 ⌝ }
 {
@@ -89,17 +92,41 @@ fn are_parts_formed(mask: u64, bytes: &[u8], at: usize) -> bool
     false
 }
 
-// Refusal 1 over a descriptor.
-pub fn is_descriptor_at(bytes: &[u8], at: usize) -> bool
+// Refusal 1 over a descriptor's mask and booleans.
+pub fn is_head_at(bytes: &[u8], at: usize) -> bool
     requires { ⌜ at + 29 ≤ length (now bytes) ⌝ }
-    ensures { λ r. ⌜ r ≡ isDescriptorAt (now (bytes .entry)) at ⌝ }
+    ensures { λ r. ⌜ r ≡ isHeadAt (now (bytes .entry)) at ⌝ }
 {
     let mask = bits::wide(bytes[at]);
     let flags = bits::wide(bytes[at + 1]);
     if mask < 64 {
         if flags < 8 {
-            if are_flags_formed(mask, flags) {
-                return are_parts_formed(mask, bytes, at);
+            return are_flags_formed(mask, flags);
+        }
+    }
+    false
+}
+
+// Refusal 1 over a descriptor.
+pub fn is_descriptor_at(bytes: &[u8], at: usize) -> bool
+    requires { ⌜ at + 29 ≤ length (now bytes) ⌝ }
+    ensures { λ r. ⌜ r ≡ isDescriptorAt (now (bytes .entry)) at ⌝ }
+{
+    if is_head_at(bytes, at) {
+        return are_parts_formed(bits::wide(bytes[at]), bytes, at);
+    }
+    false
+}
+
+// Whether the 29 bytes of a descriptor are zero: three words, and a fourth that overlaps the third.
+pub fn is_zero_at(bytes: &[u8], at: usize) -> bool
+    requires { ⌜ at + 29 ≤ length (now bytes) ⌝ }
+    ensures { λ r. ⌜ r ≡ areZero (now (bytes .entry)) at 29 ⌝ }
+{
+    if numbers::word_at(bytes, at) == 0 {
+        if numbers::word_at(bytes, at + 8) == 0 {
+            if numbers::word_at(bytes, at + 16) == 0 {
+                return numbers::word_at(bytes, at + 21) == 0;
             }
         }
     }

@@ -1,12 +1,13 @@
 // A value in 9 bytes: a kind, then its payload.
 use crate::numbers::word_at;
 use value::Value;
+use value::Words;
 use value_operations::bits::wide;
 use value_operations::encoding;
 ghost use mathlib.Core.Path.{_≡_};
-ghost use Prim.Native.Nat.{_+_, _<_, _≤_};
+ghost use Prim.Native.Nat.{suc, _+_, _<_, _≤_};
 ghost use lib.ListN.{length};
-ghost use Rattle.record.specs.Bytes.{areZero, valueAt, isValueAt, isPartAt, bytesOf, valueBytes};
+ghost use Rattle.record.specs.Bytes.{byteAt, numberAt, areZero, valueAt, isValueAt, isPartAt, bytesOf, valueBytes};
 ghost use lib.Seq.{sets};
 
 pub fn value_at(bytes: &[u8], at: usize) -> Value
@@ -23,20 +24,26 @@ pub fn is_value_at(bytes: &[u8], at: usize) -> bool
     encoding::is_formed(wide(bytes[at]), word_at(bytes, at + 1))
 }
 
-// Whether n bytes are all zero.
-pub fn are_zero(bytes: &[u8], at: usize, n: usize) -> bool
-    requires { ⌜ at + n ≤ length (now bytes) ⌝ }
-    ensures { λ r. ⌜ r ≡ areZero (now (bytes .entry)) at n ⌝ }
+// A value's kind and payload as they stand, well formed or not.
+pub fn words_at(bytes: &[u8], at: usize) -> Words
+    requires { ⌜ at + 9 ≤ length (now bytes) ⌝ }
+    ensures { λ r. ⌜ (r .kind ≡ byteAt (now (bytes .entry)) at) × (r .payload ≡ numberAt (now (bytes .entry)) (suc at) 8) ⌝ }
 {
-    let end = at + n;
-    let mut i: usize = at;
-    while i < end {
-        if bytes[i] != 0 {
-            return false;
-        }
-        i += 1;
+    Words {
+        kind: wide(bytes[at]),
+        payload: word_at(bytes, at + 1),
     }
-    true
+}
+
+// Whether the 9 bytes of a value are zero.
+pub fn is_zero_at(bytes: &[u8], at: usize) -> bool
+    requires { ⌜ at + 9 ≤ length (now bytes) ⌝ }
+    ensures { λ r. ⌜ r ≡ areZero (now (bytes .entry)) at 9 ⌝ }
+{
+    if wide(bytes[at]) == 0 {
+        return word_at(bytes, at + 1) == 0;
+    }
+    false
 }
 
 // A part that is used holds a value, and one that is not is zero.
@@ -47,7 +54,7 @@ pub fn is_part_at(used: bool, bytes: &[u8], at: usize) -> bool
     if used {
         is_value_at(bytes, at)
     } else {
-        are_zero(bytes, at, 9)
+        is_zero_at(bytes, at)
     }
 }
 

@@ -2,20 +2,19 @@
 use Prim.Native.Nat.{ℕ, suc, _+_, _-_, _*_, _<_, _≤_}
 use native.Mathlib.Omega.{arith}
 use mathlib.Core.Path.{_≡_, refl, sym, ap, _∙_}
-use mathlib.Core.Bool.{Bool, true, false, _&&_}
+use mathlib.Core.Bool.{Bool, true, false}
 use mathlib.Core.List.{List, _∷_}
 use lib.Dec.{eqb, leb}
 use lib.ListN.{length}
 use borrow.Author.Tests.{ne-eqb, le-leb, lt-leb, leb-true}
-use Rattle.value.specs.declared.Value.{Value}
 use Rattle.value.specs.declared.Value.the-variants.{Undefined}
 use Rattle.value.specs.Words.{pick}
 use Rattle.sheet.specs.declared.AnswerEnd.{AnswerEnd}
 use Rattle.sheet.specs.declared.AnswerEnd.the-variants.{At, Past}
 use Rattle.sheet.specs.declared.NextAnswer.the-variants as next
-use Rattle.record.specs.Bytes.{byteAt, valueAt, isValueAt}
+use Rattle.record.specs.Bytes.{byteAt, valueAt}
 use Rattle.record.specs.Descriptor.{descriptorAt}
-use Rattle.record.specs.Sheet.{valuesAt, areValuesAt, keyCountAt, answerAt, answerEnd, isBodyAt, isAnswerAt, areAnswersAt, valuesPass}
+use Rattle.record.specs.Sheet.{keyCountAt, answerAt, answerEnd}
 use Rattle.sheet.specs.Next.{endWithin, missing, answersFrom, Next}
 
 -- an end within n bytes, or past them
@@ -73,66 +72,6 @@ module _ (b : List ℕ) (i : ℕ) where
 
   pub end-absent : length b ≤ i → Past ≡ endWithin (length b) (answerEnd b i)
   end-absent h = end-out _ _ (omega (arith, end-beyond))
-
--- values one by one
-
-module _ (b : List ℕ) (i n : ℕ) where
-  pub values-end : n ≤ 0 → areValuesAt b i n ≡ true
-  unfolding areValuesAt
-  values-end h = let z : n ≡ 0 = omega arith in rw z
-
-  pub values-bad : 0 < n → isValueAt b i ≡ false → areValuesAt b i n ≡ false
-  unfolding areValuesAt
-  values-bad h e = let z : n ≡ suc (n - 1) = omega arith in rw (z, e)
-
-  pub values-good : 0 < n → isValueAt b i ≡ true → areValuesAt b i n ≡ areValuesAt b (i + 9) (n - 1)
-  unfolding areValuesAt
-  values-good h e = let z : n ≡ suc (n - 1) = omega arith in ap (areValuesAt b i) z ∙ more
-    where
-      more : areValuesAt b i (suc (n - 1)) ≡ areValuesAt b (i + 9) (n - 1)
-      more = rw e
-
-module _ (test : Value → Bool) (b : List ℕ) (i n : ℕ) where
-  pub pass-end : n ≤ 0 → valuesPass test (valuesAt b i n) ≡ true
-  unfolding valuesPass valuesAt
-  pass-end h = let z : n ≡ 0 = omega arith in rw z
-
-  pub pass-bad : 0 < n → test (valueAt b i) ≡ false → valuesPass test (valuesAt b i n) ≡ false
-  unfolding valuesPass valuesAt
-  pass-bad h e = let z : n ≡ suc (n - 1) = omega arith in rw (z, e)
-
-  pub pass-good : 0 < n → test (valueAt b i) ≡ true → valuesPass test (valuesAt b i n) ≡ valuesPass test (valuesAt b (i + 9) (n - 1))
-  unfolding valuesPass valuesAt
-  pass-good h e = let z : n ≡ suc (n - 1) = omega arith in ap (λ (k : ℕ). valuesPass test (valuesAt b i k)) z ∙ more
-    where
-      more : valuesPass test (valuesAt b i (suc (n - 1))) ≡ valuesPass test (valuesAt b (i + 9) (n - 1))
-      more = rw e
-
--- answers one by one: refusal 1
-
-module _ (b : List ℕ) (i n : ℕ) where
-  pub all-end : n ≤ 0 → areAnswersAt b i n ≡ eqb i (length b)
-  unfolding areAnswersAt
-  all-end h = let z : n ≡ 0 = omega arith in rw z
-
-  all-more : 0 < n → areAnswersAt b i n ≡ (isAnswerAt b i && areAnswersAt b (answerEnd b i) (n - 1))
-  unfolding areAnswersAt
-  all-more h = let z : n ≡ suc (n - 1) = omega arith in ap (areAnswersAt b i) z ∙ more
-    where
-      more : areAnswersAt b i (suc (n - 1)) ≡ (isAnswerAt b i && areAnswersAt b (answerEnd b i) (n - 1))
-      more = refl
-
-  pub all-past : (r : AnswerEnd) → 0 < n → r ≡ endWithin (length b) (answerEnd b i) → r ≡ Past → areAnswersAt b i n ≡ false
-  unfolding isAnswerAt
-  all-past r h e q = all-more h ∙ rw (end-past _ _ r e q)
-
-  pub all-bad : 0 < n → answerEnd b i ≤ length b → isBodyAt b i ≡ false → areAnswersAt b i n ≡ false
-  unfolding isAnswerAt
-  all-bad h l e = all-more h ∙ rw (le-leb _ _ l, e)
-
-  pub all-good : 0 < n → answerEnd b i ≤ length b → isBodyAt b i ≡ true → areAnswersAt b i n ≡ areAnswersAt b (answerEnd b i) (n - 1)
-  unfolding isAnswerAt
-  all-good h l e = all-more h ∙ rw (le-leb _ _ l, e)
 
 -- the next answer
 

@@ -5,13 +5,10 @@ use byte_records::descriptor_record;
 use byte_records::numbers;
 use byte_records::value_record;
 use value::Value;
-use value_operations::bits;
 ghost use mathlib.Core.Path.{_≡_};
-ghost use mathlib.Core.Bool.{_&&_};
 ghost use Prim.Native.Nat.{_+_, _*_, _<_, _≤_};
-ghost use lib.Dec.{leb};
 ghost use lib.ListN.{length};
-ghost use Rattle.record.specs.Sheet.{areValuesAt, keyCountAt, answerEnd, isBodyAt, areAnswersAt, isSheet};
+ghost use Rattle.record.specs.Sheet.{keyCountAt, answerEnd};
 ghost use Rattle.sheet.specs.Next.{endWithin, Next};
 
 // Where `size` bytes from `at` on end.
@@ -43,7 +40,7 @@ fn keys_end(bytes: &[u8], at: usize) -> AnswerEnd
     end_after(bytes, at, 3 + 9 * key_count_at(bytes, at))
 }
 
-fn answer_end(bytes: &[u8], at: usize) -> AnswerEnd
+pub fn answer_end(bytes: &[u8], at: usize) -> AnswerEnd
     ensures { λ r. ⌜ r ≡ endWithin (length (now (bytes .entry))) (answerEnd (now (bytes .entry)) at) ⌝ }
 {
     if bytes.len() <= at {
@@ -55,83 +52,6 @@ fn answer_end(bytes: &[u8], at: usize) -> AnswerEnd
         3 => keys_end(bytes, at),
         _ => end_after(bytes, at, 10),
     }
-}
-
-// Whether n values are well formed.
-fn are_values_at(bytes: &[u8], at: usize, n: usize) -> bool
-    requires { ⌜ at + 9 * n ≤ length (now bytes) ⌝ }
-    ensures { λ r. ⌜ r ≡ areValuesAt (now (bytes .entry)) at n ⌝ }
-{
-    let mut i: usize = at;
-    let mut left: usize = n;
-    while 0 < left {
-        if value_record::is_value_at(bytes, i) {
-            i += 9;
-            left -= 1;
-        } else {
-            return false;
-        }
-    }
-    true
-}
-
-fn are_keys_at(bytes: &[u8], at: usize) -> bool
-    requires { ⌜ at + 3 + 9 * keyCountAt (now bytes) at ≤ length (now bytes) ⌝ }
-    ensures { λ r. ⌜ r ≡ (leb (keyCountAt (now (bytes .entry)) at) 256 && areValuesAt (now (bytes .entry)) (at + 3) (keyCountAt (now (bytes .entry)) at)) ⌝ }
-{
-    let n = key_count_at(bytes, at);
-    if n <= 256 {
-        return are_values_at(bytes, at + 3, n);
-    }
-    false
-}
-
-fn is_body_at(bytes: &[u8], at: usize) -> bool
-    requires { ⌜ answerEnd (now bytes) at ≤ length (now bytes) ⌝ }
-    ensures { λ r. ⌜ r ≡ isBodyAt (now (bytes .entry)) at ⌝ }
-{
-    let tag = bytes[at];
-    match tag {
-        1 => value_record::is_value_at(bytes, at + 1),
-        2 => descriptor_record::is_descriptor_at(bytes, at + 1),
-        3 => are_keys_at(bytes, at),
-        4 => value_record::is_value_at(bytes, at + 1),
-        _ => false,
-    }
-}
-
-// Whether n answers are well formed and end with the bytes.
-fn are_answers_at(bytes: &[u8], at: usize, n: usize) -> bool
-    ensures { λ r. ⌜ r ≡ areAnswersAt (now (bytes .entry)) at n ⌝ }
-{
-    let mut i: usize = at;
-    let mut left: usize = n;
-    while 0 < left {
-        let AnswerEnd::At(end) = answer_end(bytes, i) else {
-            return false;
-        };
-        if is_body_at(bytes, i) {
-            i = end;
-            left -= 1;
-        } else {
-            return false;
-        }
-    }
-    i == bytes.len()
-}
-
-// Refusal 1 over the sheet.
-pub fn is_sheet(bytes: &[u8]) -> bool
-    ensures { λ r. ⌜ r ≡ isSheet (now (bytes .entry)) ⌝ }
-{
-    if bytes.len() == 0 {
-        return false;
-    }
-    let n = bits::wide(bytes[0]) as usize;
-    if n <= 64 {
-        return are_answers_at(bytes, 1, n);
-    }
-    false
 }
 
 // The answer at `at`, if there are any to come. A sheet that is well formed has all of them.

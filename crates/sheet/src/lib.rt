@@ -1,11 +1,11 @@
-// Answer sheets as byte records, and refusal 1 over them.
-// answers: the next answer from a place on.
+// Answer sheets as byte records.
+// answers: where an answer ends, and the next one from a place on.
 use property::DescriptorObject;
 use value::Value;
 
 mod answers;
 
-pub use answers::is_sheet;
+pub use answers::answer_end;
 pub use answers::next_answer;
 
 // Where an answer ends, or that it would end past the sheet.

@@ -1,4 +1,7 @@
+pub mod RefusalLaws
+pub mod ValueLaws
+pub mod KindLaws
+pub mod StepLaws
+pub mod SheetLaws
 pub mod TestLaws
 pub mod PassedLaws
-pub mod MaskLaws
-pub mod KeyLaws

@@ -1,17 +1,17 @@
--- The tests of a call's records, group by group. Assumes nothing.
-use Prim.Native.Nat.{ℕ, _≤_}
+-- The tests of a call's records in their order, and what the code counts for them. Assumes nothing.
+use Prim.Native.Nat.{ℕ, _<_, _≤_}
 use native.Mathlib.Omega.{arith}
-use mathlib.Core.Path.{_≡_, refl, ap, _∙_}
-use mathlib.Core.Bool.{Bool, true, false}
+use mathlib.Core.Path.{_≡_, refl}
+use mathlib.Core.Bool.{Bool, true, false, cond, _&&_}
 use mathlib.Core.Option.{Option, none, some}
-use mathlib.Core.List.{List, [], _∷_, _++_}
+use mathlib.Core.List.{List}
+use lib.Dec.{eqb, ltb}
 use lib.ListN.{length}
-use borrow.Author.Tests.{eqb-true}
+use borrow.Author.Tests.{ne-eqb, lt-ltb, le-ltb}
 use Rattle.text.specs.declared.StringCount.{StringCount}
 use Rattle.text.specs.declared.StringCount.the-variants.{Count, Malformed}
 use Rattle.text.specs.Table.{isTable, stringsOf}
 use Rattle.text.specs.Answers.{countAnswer}
-use Rattle.text.proofs.TableLaws.{and-left}
 use Rattle.store.specs.declared.Object.{Object}
 use Rattle.store.specs.declared.Object.the-variants.{Ordinary, Proxy}
 use Rattle.store.specs.declared.OrdinaryObject.{OrdinaryObject}
@@ -20,14 +20,13 @@ use Rattle.store.specs.Store.{World, lookup}
 use Rattle.store_read.specs.declared.ObjectFound.{ObjectFound}
 use Rattle.store_read.specs.declared.ObjectFound.the-variants.{Missing, Made}
 use Rattle.store_read.specs.Answers.{objectFound}
-use Rattle.record.specs.declared.Step.{Step}
-use Rattle.record.specs.declared.Refusal.{Refusal}
-use Rattle.record.specs.declared.Refusal.the-variants.{Passed, Failed}
-use Rattle.record.specs.Step.{stepOf, isStep}
-use Rattle.record.specs.Tests.{Counts, failing, firstFailing, refusal}
-use Rattle.record.proofs.RefusalLaws.{is-failed, is-passed}
+use Rattle.record.specs.declared.Refusal.the-variants.{Failed}
+use Rattle.record.specs.Bytes.{byteAt}
+use Rattle.record.specs.Descriptor.{descriptorAt}
+use Rattle.record.specs.Step.{unless, stepOf, isStep, areKindsUsable}
+use Rattle.record.specs.Tests.{Counts, isDescriptor, failing, firstFailing, refusal}
 use Rattle.steps.specs.Step.{countsOf, isProxy, recordTests}
-use Rattle.step_records.specs.Groups.{stepTests, sheetTests}
+use Rattle.step_records.specs.Refusals.{first, refusalOf, stepRefusal, sheetRefusal}
 
 -- the object found, by its kind
 
@@ -64,49 +63,48 @@ countsBy a b = record { objects = a; strings = b }
 pub same-counts : (a b i j : ℕ) → a ≡ i → b ≡ j → countsBy a b ≡ countsBy i j
 same-counts a b i j p q = rw (p, q)
 
-pub step-length : (bytes : List ℕ) → isStep bytes ≡ true → 58 ≤ length bytes
-unfolding isStep
-step-length bytes h = let e : length bytes ≡ 58 = eqb-true _ _ (and-left _ _ h) in omega arith
+-- three tests as one number
 
--- the tests after the first group stand only where it passes
-abbrev joined : Option ℕ → Option ℕ → Option ℕ
-joined (some i) later = some i
-joined none later = later
+by-number : (a b c : Bool) (later : Option ℕ) → refusal (failing a 1 (failing b 2 (failing c 3 later))) ≡ cond (ltb (first a b c) 4) (Failed (first a b c)) (refusal later)
+by-number false b c later = refl
+by-number true false c later = refl
+by-number true true false later = refl
+by-number true true true later = refl
 
-joined-failing : (b : Bool) (n : ℕ) (o later : Option ℕ) → failing b n (joined o later) ≡ joined (failing b n o) later
-joined-failing true n o later = refl
-joined-failing false n o later = refl
+by-four : (d : Bool) (later : Option ℕ) → refusal (failing d 4 later) ≡ cond d (refusal later) (Failed 4)
+by-four true later = refl
+by-four false later = refl
 
-two-groups : (ts us : List (ℕ × Bool)) → firstFailing (ts ++ us) ≡ joined (firstFailing ts) (firstFailing us)
-unfolding firstFailing
-two-groups [] us = refl
-two-groups (t ∷ ts) us = ap (failing (t .1) (t .0)) (two-groups ts us) ∙ joined-failing (t .1) (t .0) (firstFailing ts) (firstFailing us)
+-- only a step that revokes asks whether its object is a proxy
+unless-both : (u x : Bool) → unless u (u && x) ≡ unless u x
+unless-both true x = refl
+unless-both false x = refl
 
 module _ (ω : World) (bytes sheet : List ℕ) where
-  abbrev over-step : List (ℕ × Bool)
-  over-step = stepTests (isProxy (lookup (ω .store) (stepOf bytes .object))) (countsOf ω) (stepOf bytes)
+  abbrev revoked : Bool
+  revoked = eqb (byteAt bytes 0) 3 && isProxy (lookup (ω .store) (byteAt bytes 1))
 
-  abbrev over-sheet : List (ℕ × Bool)
-  over-sheet = sheetTests (countsOf ω) sheet
+  -- what the tests give, by the number of the step and the number of the sheet
+  all-tests : refusal (firstFailing (recordTests ω bytes sheet))
+      ≡ cond (ltb (stepRefusal revoked (countsOf ω) bytes) 4) (Failed (stepRefusal revoked (countsOf ω) bytes))
+      (cond (isDescriptor (descriptorAt bytes 29)) (refusalOf (sheetRefusal (countsOf ω) sheet)) (Failed 4))
+  unfolding firstFailing stepOf areKindsUsable
+  all-tests = rw (unless-both (eqb (byteAt bytes 0) 3) _, by-number, by-four, by-number)
 
-  all-tests : firstFailing (recordTests ω bytes sheet) ≡ failing (isStep bytes) 1 (firstFailing (over-step ++ over-sheet))
-  unfolding firstFailing
-  all-tests = refl
+  pub no-length : (length bytes ≡ 58 → ⊥) → Failed 1 ≡ refusal (firstFailing (recordTests ω bytes sheet))
+  unfolding firstFailing isStep
+  no-length h = rw (ne-eqb _ _ h)
 
-  pub not-step : isStep bytes ≡ false → Failed 1 ≡ refusal (firstFailing (recordTests ω bytes sheet))
-  not-step h = rw (all-tests, h)
+  -- what the code counted, and its number of the step
+  module _ (n : Counts) (r : ℕ) (p : n ≡ countsOf ω) (e : r ≡ stepRefusal revoked n bytes) where
+    of-step : r ≡ stepRefusal revoked (countsOf ω) bytes
+    of-step = rw p at e
 
-  -- what the code decoded and counted, and what it answered of the step
-  module _ (h : isStep bytes ≡ true) (n : Counts) (s : Step) (p : n ≡ countsOf ω) (q : s ≡ stepOf bytes)
-      (r : Refusal) (e : r ≡ refusal (firstFailing (stepTests (isProxy (lookup (ω .store) (s .object))) n s))) where
-    of-step : r ≡ refusal (firstFailing over-step)
-    of-step = rw (p, q) at e
+    pub step-fails : r < 4 → Failed r ≡ refusal (firstFailing (recordTests ω bytes sheet))
+    step-fails h = rw (all-tests, ← of-step, lt-ltb r 4 h)
 
-    after-step : firstFailing (recordTests ω bytes sheet) ≡ joined (firstFailing over-step) (firstFailing over-sheet)
-    after-step = all-tests ∙ rw h (two-groups over-step over-sheet)
+    pub descriptor-fails : 4 ≤ r → isDescriptor (descriptorAt bytes 29) ≡ false → Failed 4 ≡ refusal (firstFailing (recordTests ω bytes sheet))
+    descriptor-fails h d = rw (all-tests, ← of-step, le-ltb r 4 h, d)
 
-    pub step-fails : (i : ℕ) → r ≡ Failed i → Failed i ≡ refusal (firstFailing (recordTests ω bytes sheet))
-    step-fails i f = rw (after-step, is-failed (firstFailing over-step) r i of-step f)
-
-    pub step-passes : (t : Refusal) → r ≡ Passed → t ≡ refusal (firstFailing (sheetTests n sheet)) → t ≡ refusal (firstFailing (recordTests ω bytes sheet))
-    step-passes t f g = rw (after-step, is-passed (firstFailing over-step) r of-step f) (rw p at g)
+    pub step-passes : 4 ≤ r → isDescriptor (descriptorAt bytes 29) ≡ true → refusalOf (sheetRefusal n sheet) ≡ refusal (firstFailing (recordTests ω bytes sheet))
+    step-passes h d = rw (all-tests, ← of-step, le-ltb r 4 h, d, p)

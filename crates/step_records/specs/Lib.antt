@@ -1,1 +1,1 @@
-pub mod Groups
+pub mod Refusals

@@ -1,138 +1,85 @@
-// Refusals 2 and 3 over a step.
+// Refusal 3 over a step for the kinds of its values.
 use crate::parts;
-use crate::value_tests;
-use record::Counts;
-use record::Step;
-use record::Test;
-use value::KeyResult;
-use value::Value;
-use value_operations::encoding;
-use value_operations::keys;
+use byte_records::value_record;
+use value::Words;
+use value_operations::bits;
 ghost use mathlib.Core.Path.{_≡_};
-ghost use mathlib.Core.Bool.{true, false};
+ghost use mathlib.Core.Bool.{not};
+ghost use lib.Dec.{eqb};
+ghost use Prim.Native.Nat.{_≤_};
+ghost use lib.ListN.{length};
 ghost use Rattle.value.specs.PropertyKey.{keyOf};
-ghost use Rattle.value.specs.Words.{kindOf};
-ghost use Rattle.record.specs.Tests.{asks};
-ghost use Rattle.record.specs.Step.{stepPasses, areObjectsMade, isSome, isNullOrObject, isKeyUsable, isPrototypeUsable, isMaskUsable, isObjectUsable, isReceiverUsable, areKindsUsable};
+ghost use Rattle.value.specs.Words.{kindOf, valueOf};
+ghost use Rattle.record.specs.Step.{unless, isSome, usesKey, usesPrototype, usesMask, usesReceiver, isNullOrObject, stepOf};
+ghost use Rattle.step_records.specs.Refusals.{areKindsFit};
 
-// Whether all values of the step pass.
-fn step_passes(test: Test, n: Counts, s: Step) -> bool
-    ensures { λ r. ⌜ r ≡ stepPasses (asks test n) s ⌝ }
+fn is_key_usable(code: u64, w: Words) -> bool
+    ensures { λ r. ⌜ r ≡ unless (usesKey code) (isSome (keyOf (valueOf (w .kind) (w .payload)))) ⌝ }
 {
-    let key = s.key;
-    let value = s.value;
-    let receiver = s.receiver;
-    let descriptor = s.descriptor;
-    if value_tests::passes(test, n, key) {
-        if value_tests::passes(test, n, value) {
-            if value_tests::passes(test, n, receiver) {
-                return value_tests::descriptor_passes(test, n, descriptor);
-            }
+    if parts::uses_key(code) {
+        if w.kind == 5 {
+            return true;
         }
+        return w.kind == 6;
     }
-    false
+    true
 }
 
-// Refusal 2 over the step.
-pub fn are_objects_made(n: Counts, s: Step) -> bool
-    ensures { λ r. ⌜ r ≡ areObjectsMade n s ⌝ }
+fn is_prototype_usable(code: u64, w: Words) -> bool
+    ensures { λ r. ⌜ r ≡ unless (usesPrototype code) (isNullOrObject (valueOf (w .kind) (w .payload))) ⌝ }
 {
-    if parts::uses_object(s.code) {
-        if s.object < n.objects {
-            return step_passes(Test::Made, n, s);
+    if parts::uses_prototype(code) {
+        if w.kind == 1 {
+            return true;
+        }
+        return w.kind == 7;
+    }
+    true
+}
+
+fn is_mask_usable(code: u64, w: Words) -> bool
+    ensures { λ r. ⌜ r ≡ unless (usesMask code) (eqb (kindOf (valueOf (w .kind) (w .payload))) 3) ⌝ }
+{
+    if code == 2 {
+        if w.kind == 3 {
+            return w.payload < 4294967296;
         }
         return false;
     }
-    step_passes(Test::Made, n, s)
-}
-
-fn is_key(v: Value) -> bool
-    ensures { λ r. ⌜ r ≡ isSome (keyOf v) ⌝ }
-{
-    match keys::key_of(v) {
-        KeyResult::Key(_) => true,
-        KeyResult::NotKey => false,
-    }
-}
-
-fn is_key_usable(s: Step) -> bool
-    ensures { λ r. ⌜ r ≡ isKeyUsable s ⌝ }
-{
-    let key = s.key;
-    if parts::uses_key(s.code) {
-        return is_key(key);
-    }
     true
 }
 
-fn kind_of(v: Value) -> u64
-    ensures { λ r. ⌜ r ≡ kindOf v ⌝ }
+fn is_object_usable(proxy: bool, code: u64) -> bool
+    ensures { λ r. ⌜ r ≡ unless (eqb code 3) proxy ⌝ }
 {
-    let w = encoding::words_of(v);
-    w.kind
-}
-
-fn is_null_or_object(v: Value) -> bool
-    ensures { λ r. ⌜ r ≡ isNullOrObject v ⌝ }
-{
-    let kind = kind_of(v);
-    if kind == 1 {
-        return true;
-    }
-    kind == 7
-}
-
-fn is_prototype_usable(s: Step) -> bool
-    ensures { λ r. ⌜ r ≡ isPrototypeUsable s ⌝ }
-{
-    let v = s.value;
-    if parts::uses_prototype(s.code) {
-        return is_null_or_object(v);
-    }
-    true
-}
-
-fn is_mask_usable(s: Step) -> bool
-    ensures { λ r. ⌜ r ≡ isMaskUsable s ⌝ }
-{
-    let v = s.value;
-    if s.code == 2 {
-        return kind_of(v) == 3;
-    }
-    true
-}
-
-// No function receives.
-fn is_receiver_usable(s: Step) -> bool
-    ensures { λ r. ⌜ r ≡ isReceiverUsable s ⌝ }
-{
-    let v = s.receiver;
-    if parts::uses_receiver(s.code) {
-        return kind_of(v) != 8;
-    }
-    true
-}
-
-fn is_object_usable(proxy: bool, s: Step) -> bool
-    ensures { λ r. ⌜ r ≡ isObjectUsable proxy s ⌝ }
-{
-    if s.code == 3 {
+    if code == 3 {
         return proxy;
     }
     true
 }
 
-// Refusal 3 over the step; `proxy` says whether its object is one.
-pub fn are_kinds_usable(proxy: bool, n: Counts, s: Step) -> bool
-    ensures { λ r. ⌜ r ≡ areKindsUsable proxy n s ⌝ }
+// No function receives.
+fn is_receiver_usable(code: u64, w: Words) -> bool
+    ensures { λ r. ⌜ r ≡ unless (usesReceiver code) (not (eqb (kindOf (valueOf (w .kind) (w .payload))) 8)) ⌝ }
 {
-    if step_passes(Test::Known, n, s) {
-        if is_key_usable(s) {
-            if is_prototype_usable(s) {
-                if is_mask_usable(s) {
-                    if is_object_usable(proxy, s) {
-                        return is_receiver_usable(s);
-                    }
+    if parts::uses_receiver(code) {
+        return w.kind != 8;
+    }
+    true
+}
+
+// `proxy` says whether the step's object is one.
+pub fn are_kinds_usable(proxy: bool, bytes: &[u8]) -> bool
+    requires { ⌜ 58 ≤ length (now bytes) ⌝ }
+    ensures { λ r. ⌜ r ≡ areKindsFit proxy (stepOf (now (bytes .entry))) ⌝ }
+{
+    let code = bits::wide(bytes[0]);
+    let value = value_record::words_at(bytes, 11);
+    if is_key_usable(code, value_record::words_at(bytes, 2)) {
+        if is_prototype_usable(code, value) {
+            if is_mask_usable(code, value) {
+                if is_object_usable(proxy, code) {
+                    return is_receiver_usable(code, value_record::words_at(bytes, 20));
                 }
             }
         }

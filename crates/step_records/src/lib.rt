@@ -1,27 +1,39 @@
 // The refusals over a call's records, in their order: 1 to 4 over the step, then 1 to 3 over the sheet.
-// parts: which parts a code uses. form: refusal 1. reading: the step of its bytes. kinds: refusals 2 and 3.
-// value_tests: refusals 2 to 4 over a value and a descriptor. sheet_tests: refusals 2 and 3 over the sheet.
+// step_refusals: 1 to 3 over the step, of which kinds: 3 by kinds, parts: which parts a code uses. sheet_refusals: 1 to 3 over the sheet.
+// value_refusals: 1 to 3 over a value and a descriptor in bytes. value_tests: 2 to 4 over a decoded descriptor. reading: the step of its bytes.
 use record::Counts;
 use record::Refusal;
-use record::Step;
 use store::Object;
 use store_read::ObjectFound;
 use text::StringCount;
+use value_operations::bits;
 ghost use mathlib.Core.Path.{_≡_};
-ghost use mathlib.Core.Bool.{true};
+ghost use mathlib.Core.Bool.{true, _&&_};
+ghost use lib.Dec.{eqb};
 ghost use Rattle.text.specs.Table.{isTable};
 ghost use Rattle.store.specs.Store.{lookup};
 ghost use Rattle.store.specs.Words.{isStore, storeOf, worldOf};
 ghost use Rattle.record.specs.Tests.{firstFailing, refusal};
 ghost use Rattle.steps.specs.Step.{countsOf, isProxy, recordTests};
-ghost use Rattle.step_records.specs.Groups.{stepTests, sheetTests};
+ghost use Rattle.step_records.specs.Refusals.{refusalOf};
 
-pub mod form;
-pub mod kinds;
+mod kinds;
 mod parts;
 pub mod reading;
-pub mod sheet_tests;
+pub mod sheet_refusals;
+pub mod step_refusals;
+pub mod value_refusals;
 pub mod value_tests;
+
+// 4 is none.
+fn refusal_of(n: u64) -> Refusal
+    ensures { λ r. ⌜ r ≡ refusalOf n ⌝ }
+{
+    if n < 4 {
+        return Refusal::Failed(n);
+    }
+    Refusal::Passed
+}
 
 fn is_proxy(words: &[u64], o: u64) -> bool
     requires { ⌜ isStore (now words) ≡ true ⌝ }
@@ -58,38 +70,15 @@ pub fn counts_of(words: &[u64], strings: &[u16]) -> Counts
     }
 }
 
-// Refusals 2 to 4 over the step.
-fn step_refusal(words: &[u64], n: Counts, s: Step) -> Refusal
+// Whether a step that revokes has a proxy.
+fn revokes_proxy(words: &[u64], code: u64, object: u64) -> bool
     requires { ⌜ isStore (now words) ≡ true ⌝ }
-    ensures { λ r. ⌜ r ≡ refusal (firstFailing (stepTests (isProxy (lookup (storeOf (now (words .entry))) (s .object))) n s)) ⌝ }
+    ensures { λ r. ⌜ r ≡ (eqb code 3 && isProxy (lookup (storeOf (now (words .entry))) object)) ⌝ }
 {
-    let d = s.descriptor;
-    if kinds::are_objects_made(n, s) {
-        if kinds::are_kinds_usable(is_proxy(words, s.object), n, s) {
-            if value_tests::is_descriptor(d) {
-                return Refusal::Passed;
-            }
-            return Refusal::Failed(4);
-        }
-        return Refusal::Failed(3);
+    if code == 3 {
+        return is_proxy(words, object);
     }
-    Refusal::Failed(2)
-}
-
-// Refusals 1 to 3 over the sheet.
-fn sheet_refusal(n: Counts, sheet: &[u8]) -> Refusal
-    ensures { λ r. ⌜ r ≡ refusal (firstFailing (sheetTests n (now (sheet .entry)))) ⌝ }
-{
-    if sheet::is_sheet(sheet) {
-        if sheet_tests::sheet_made(sheet, n) {
-            if sheet_tests::sheet_known(sheet, n) {
-                return Refusal::Passed;
-            }
-            return Refusal::Failed(3);
-        }
-        return Refusal::Failed(2);
-    }
-    Refusal::Failed(1)
+    false
 }
 
 // The number of the first test that the records do not pass.
@@ -97,14 +86,17 @@ pub fn record_refusal(words: &[u64], strings: &[u16], bytes: &[u8], sheet: &[u8]
     requires { ⌜ (isStore (now words) ≡ true) × (isTable (now strings) ≡ true) ⌝ }
     ensures { λ r. ⌜ r ≡ refusal (firstFailing (recordTests (worldOf (now (words .entry)) (now (strings .entry))) (now (bytes .entry)) (now (sheet .entry)))) ⌝ }
 {
-    if form::is_step(bytes) {
-        let n = counts_of(words, strings);
-        let first = step_refusal(words, n, reading::step_of(bytes));
-        match first {
-            Refusal::Failed(i) => Refusal::Failed(i),
-            Refusal::Passed => sheet_refusal(n, sheet),
-        }
-    } else {
-        Refusal::Failed(1)
+    if bytes.len() != 58 {
+        return Refusal::Failed(1);
     }
+    let n = counts_of(words, strings);
+    let proxy = revokes_proxy(words, bits::wide(bytes[0]), bits::wide(bytes[1]));
+    let refused = step_refusals::step_refusal(proxy, n, bytes);
+    if refused < 4 {
+        return Refusal::Failed(refused);
+    }
+    if value_refusals::is_descriptor_at(bytes, 29) {
+        return refusal_of(sheet_refusals::sheet_refusal(n, sheet));
+    }
+    Refusal::Failed(4)
 }

@@ -1,4 +1,4 @@
-// Refusals 2, 3 and 4 over a value and a descriptor.
+// Refusals 2, 3 and 4 over a decoded descriptor.
 use descriptors::errors;
 use property::DescriptorObject;
 use property::Field;
@@ -42,7 +42,7 @@ fn is_known(n: Counts, v: Value) -> bool
     }
 }
 
-pub fn passes(test: Test, n: Counts, v: Value) -> bool
+fn passes(test: Test, n: Counts, v: Value) -> bool
     ensures { λ r. ⌜ r ≡ asks test n v ⌝ }
 {
     match test {

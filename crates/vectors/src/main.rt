@@ -10,11 +10,9 @@ use property::OwnProperty;
 use property::Property;
 use property::PropertyDescriptor;
 use record::Counts;
-use step_records::form;
-use step_records::kinds;
-use step_records::reading;
-use step_records::sheet_tests;
-use step_records::value_tests;
+use step_records::sheet_refusals;
+use step_records::step_refusals;
+use step_records::value_refusals;
 use text::indices;
 use validation::merging;
 use validation::outcome;
@@ -196,25 +194,23 @@ fn validate(r: &[u8]) -> bool
     }
 }
 
+// The number of a refusal as the vectors have it: 0 is none.
+fn number_of(refusal: u64) -> u64 {
+    if refusal < 4 { refusal } else { 0 }
+}
+
 // The first of refusals 1 to 4 over a step, or 0
-fn step_refusal(bytes: &[u8], n: Counts, proxy: bool) -> u8 {
-    if form::is_step(bytes) {
-        if bytes.len() == 58 {
-            let s = reading::step_of(bytes);
-            let d = s.descriptor;
-            if kinds::are_objects_made(n, s) {
-                if kinds::are_kinds_usable(proxy, n, s) {
-                    if value_tests::is_descriptor(d) {
-                        return 0;
-                    }
-                    return 4;
-                }
-                return 3;
-            }
-            return 2;
+fn step_refusal(bytes: &[u8], n: Counts, proxy: bool) -> u64 {
+    let refusal = step_refusals::step_refusal(proxy, n, bytes);
+    if refusal < 4 {
+        return refusal;
+    }
+    if bytes.len() == 58 {
+        if value_refusals::is_descriptor_at(bytes, 29) {
+            return 0;
         }
     }
-    1
+    4
 }
 
 // 6: the tests of a step
@@ -227,24 +223,10 @@ fn step_tests(r: &[u8]) -> bool
     };
     let end = 5 + bits::wide(r[4]) as usize;
     if end <= 80 {
-        step_refusal(&r[5..end], n, truth(r[3])) == r[80]
+        step_refusal(&r[5..end], n, truth(r[3])) == bits::wide(r[80])
     } else {
         false
     }
-}
-
-// The first of refusals 1 to 3 over a sheet, or 0
-fn sheet_refusal(bytes: &[u8], n: Counts) -> u8 {
-    if sheet::is_sheet(bytes) {
-        if sheet_tests::sheet_made(bytes, n) {
-            if sheet_tests::sheet_known(bytes, n) {
-                return 0;
-            }
-            return 3;
-        }
-        return 2;
-    }
-    1
 }
 
 // 7: the tests of a sheet
@@ -257,7 +239,7 @@ fn sheet_tests(r: &[u8]) -> bool
     };
     let end = 4 + bits::wide(r[3]) as usize;
     if end <= 180 {
-        sheet_refusal(&r[4..end], n) == r[180]
+        number_of(sheet_refusals::sheet_refusal(n, &r[4..end])) == bits::wide(r[180])
     } else {
         false
     }

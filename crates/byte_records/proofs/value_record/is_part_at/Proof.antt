@@ -9,7 +9,7 @@ returns c = rw (c .before .if1 .taken, c .is-value-at .ensures)
 
 returns-2 : tie.Need-returns-2
 unfolding isPartAt
-returns-2 c = rw (c .before .if1 .left, c .are-zero .ensures)
+returns-2 c = rw (c .before .if1 .left, c .is-zero-at .ensures)
 
 pub is-part-at-spec : {M : Type 1} → statement M
 is-part-at-spec = tie.close (tie.spec (λ c κs. search needs) (λ c κs. search needs) returns returns-2)

@@ -1,13 +1,17 @@
+use borrow.Author.Tests.{ne-eqb}
+use Rattle.step_records.proofs.KindLaws.{key-kind}
 use borrow.Author.Needs.{needs}
-use mathlib.Core.Path.{_∙_, sym}
 use Rattle.step_records.proofs.kinds.is_key_usable.Statement.{statement}
 use Rattle.step_records.proofs.kinds.is_key_usable.Tie as tie
 
 returns : tie.Need-returns
-returns c = rw (sym (c .before .before .uses-key .ensures) ∙ c .before .if1 .taken, c .is-key .ensures)
+returns c = rw (← c .before .before .before .uses-key .ensures, c .before .before .if1 .taken, ← key-kind _ _, c .if2 .taken)
 
 returns-2 : tie.Need-returns-2
-returns-2 c = rw (sym (c .before .uses-key .ensures) ∙ c .if1 .left)
+returns-2 c = rw (← c .before .before .before .before .uses-key .ensures, c .before .before .before .if1 .taken, ← key-kind _ _, ne-eqb _ _ (c .before .if2 .left))
+
+returns-3 : tie.Need-returns-3
+returns-3 c = rw (← c .before .uses-key .ensures, c .if1 .left)
 
 pub is-key-usable-spec : {M : Type 1} → statement M
-is-key-usable-spec = tie.close (tie.spec (λ c κs. search needs) (λ c κs. search needs) returns returns-2)
+is-key-usable-spec = tie.close (tie.spec (λ c κs. search needs) returns returns-2 returns-3)
