@@ -1,8 +1,11 @@
 -- The end of a run over lent memory is the definitions' end. Assumes nothing.
-use Prim.Native.Nat.{ℕ}
+use Prim.Native.Nat.{ℕ, _<_}
 use mathlib.Core.Path.{_≡_, refl, sym}
 use mathlib.Core.Bool.{true}
 use mathlib.Core.List.{List}
+use lib.ListN.{length}
+use borrow.Author.Tests.{ltb-true}
+use Rattle.value.proofs.Bools.{and-true}
 use Rattle.value.specs.declared.Value.{Value}
 use Rattle.store.specs.Words.{storeOf, isStore, worldOf}
 use Rattle.store_write.specs.declared.write.Write.{Write}
@@ -10,7 +13,7 @@ use Rattle.store_write.specs.Write.{applied}
 use Rattle.internal_methods.specs.declared.Failure.{Failure}
 use Rattle.internal_methods.specs.declared.Failure.the-variants.{Refused, TypeError, Thrown}
 use Rattle.internal_methods.specs.Monad.{State, failed}
-use Rattle.record.specs.Sheet.{sheetOf}
+use Rattle.record.specs.Sheet.{sheetOf, isSheet}
 use Rattle.calls.specs.declared.Progress.{Progress}
 use Rattle.calls.specs.Outs.{stateOf}
 use Rattle.steps.specs.declared.Completion.{Completion}
@@ -25,6 +28,11 @@ use Rattle.reporting.specs.declared.Performed.the-variants.{Failed, Done
 use Rattle.reporting.specs.Performed.{Taken, outPerformed, isPlain}
 use Rattle.reporting.specs.Reports.{failureResponse, completionReport, performedReport, Finished}
 use Rattle.reporting.specs.Memory.{Shown, shown, shownBy, WordsAfter}
+
+-- a sheet has its first byte
+pub sheet-begins : (sheet : List ℕ) → isSheet sheet ≡ true → 0 < length sheet
+unfolding isSheet
+sheet-begins sheet h = ltb-true _ _ (and-true _ _ h .0)
 
 module _ (words cells sheet output : List ℕ) where
   abbrev endedAs : Performed → Shown

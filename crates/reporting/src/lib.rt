@@ -13,7 +13,7 @@ ghost use mathlib.Core.Bool.{true};
 ghost use Prim.Native.Nat.{_<_, _-_};
 ghost use lib.ListN.{length};
 ghost use Rattle.store.specs.Words.{isStore};
-ghost use Rattle.record.specs.Sheet.{sheetOf, answersAt};
+ghost use Rattle.record.specs.Sheet.{sheetOf, isSheet, answersAt};
 ghost use Rattle.calls.specs.Outs.{stateOf};
 ghost use Rattle.steps.specs.Perform.{maximumCalls};
 ghost use Rattle.steps.specs.Response.{reportOf, refusal};
@@ -88,7 +88,7 @@ pub fn refused(n: u64) -> Report
 }
 
 pub fn failed(sheet: &[u8], f: Failure, s: Progress) -> Report
-    requires { ⌜ 0 < length (now sheet) ⌝ }
+    requires { ⌜ isSheet (now sheet) ≡ true ⌝ }
     ensures { λ r. ⌜ r ≡ reportOf (failureResponse (sheetOf (now (sheet .entry))) f (stateOf (now (sheet .entry)) s)) ⌝ }
 {
     match f {
@@ -107,7 +107,7 @@ pub fn failed(sheet: &[u8], f: Failure, s: Progress) -> Report
 }
 
 pub fn completed(sheet: &[u8], c: Completion, s: Progress) -> Report
-    requires { ⌜ 0 < length (now sheet) ⌝ }
+    requires { ⌜ isSheet (now sheet) ≡ true ⌝ }
     ensures { λ r. ⌜ r ≡ completionReport (sheetOf (now (sheet .entry))) c (stateOf (now (sheet .entry)) s) ⌝ }
 {
     Report {
@@ -119,7 +119,7 @@ pub fn completed(sheet: &[u8], c: Completion, s: Progress) -> Report
 
 // The one write is made here, once the result stands.
 pub fn finish(words: &mut [u64], sheet: &[u8], p: Performed) -> Report
-    requires { ⌜ (0 < length (now sheet)) × ((isStore (now words) ≡ true) × Taken (now words) p) ⌝ }
+    requires { ⌜ (isSheet (now sheet) ≡ true) × ((isStore (now words) ≡ true) × Taken (now words) p) ⌝ }
     ensures { λ r. ⌜ r ≡ performedReport (now (sheet .entry)) p ⌝ }
     ensures { λ _. ⌜ Finished (now (words .entry)) (now (words .exit)) p ⌝ }
 {

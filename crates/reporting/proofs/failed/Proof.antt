@@ -1,3 +1,4 @@
+use Rattle.reporting.proofs.EndLaws.{sheet-begins}
 use borrow.Author.Needs.{needs}
 use Rattle.reporting.proofs.failed.Statement.{statement}
 use Rattle.reporting.proofs.failed.Tie as tie
@@ -18,10 +19,10 @@ failed-spec =
     (λ c. search needs)
     (λ c κs. search needs)
     (λ c. search needs)
-    (λ c κs. search needs)
+    (λ c κs. search (needs, sheet-begins))
     (λ c κs. search needs)
     (λ c. search needs)
-    (λ c κs. search needs)
+    (λ c κs. search (needs, sheet-begins))
     (λ c κs. search needs)
     returns
     returns-2
