@@ -16,8 +16,9 @@ use Rattle.value.specs.declared.Value.{Value}
 use Rattle.property.specs.declared.OwnProperty.{OwnProperty}
 use Rattle.property.specs.declared.OwnProperty.the-variants.{Absent, Present}
 use Rattle.store.specs.Store.{Store}
-use Rattle.store.specs.Words.{isStore}
+use Rattle.store.specs.Words.{storeOf, worldOf}
 use Rattle.internal_methods.specs.Monad.{State, M, pure, next, _>>=_}
+use Rattle.record.specs.Sheet.{sheetOf}
 use Rattle.calls.specs.declared.ValueOut.{ValueOut}
 use Rattle.calls.specs.declared.ValueOut.the-variants as value
 use Rattle.calls.specs.declared.BooleanOut.{BooleanOut}
@@ -26,51 +27,48 @@ use Rattle.calls.specs.declared.OwnPropertyOut.{OwnPropertyOut}
 use Rattle.calls.specs.declared.OwnPropertyOut.the-variants as own
 use Rattle.calls.specs.declared.WriteOut.{WriteOut}
 use Rattle.calls.specs.declared.WriteOut.the-variants as write
-use Rattle.calls.specs.Outs.{outValue, outBoolean, outOwnProperty, outWrite, Fitting}
+use Rattle.calls.specs.Outs.{stateOf, outValue, outBoolean, outOwnProperty, outWrite, Fitting}
 use Rattle.steps.specs.Perform.{reading, writing, ownResult}
 use Rattle.steps.specs.Perform as result
+use Rattle.steps.specs.declared.Report.{Report}
+use Rattle.steps.specs.Step.{ended}
 use Rattle.reporting.specs.Performed.{Taken, outPerformed}
+use Rattle.reporting.specs.Reports.{performedReport}
+use Rattle.reporting.specs.Memory.{shown, shownBy}
+use Rattle.reporting.proofs.EndLaws.{failing}
 use Rattle.performing.specs.Results.{isReading, valueResult, booleanResult, ownPropertyResult, writeResult}
 
-module _ (sheet : List ℕ) (σ : Store) (s : State) where
-  pub value-told : (m : M Value) (out : ValueOut) → outValue sheet out ≡ m .run s → outPerformed sheet σ (valueResult out) ≡ reading σ result.value m .run s
+-- the report of an operation that writes nothing shows its end
+module _ (words cells sheet : List ℕ) (s : State) (r : Report) where
+  pub value-told : (m : M Value) (out : ValueOut) → outValue sheet out ≡ m .run s → r ≡ performedReport sheet (valueResult out)
+      → (output : List ℕ) → shown r words cells output ≡ shownBy (ended (worldOf words cells) (sheetOf sheet) output (reading (storeOf words) result.value m .run s))
   unfolding pure next _>>=_
-  value-told m (value.Failed f t) e = rw (sym e)
-  value-told m (value.Done v t) e = rw (sym e)
+  value-told m (value.Failed f t) e q output = rw (sym e, q) (sym (failing words cells sheet output f (stateOf sheet t)))
+  value-told m (value.Done v t) e q output = rw (sym e, q)
 
-  pub boolean-told : (m : M Bool) (out : BooleanOut) → outBoolean sheet out ≡ m .run s → outPerformed sheet σ (booleanResult out) ≡ reading σ result.boolean m .run s
+  pub boolean-told : (m : M Bool) (out : BooleanOut) → outBoolean sheet out ≡ m .run s → r ≡ performedReport sheet (booleanResult out)
+      → (output : List ℕ) → shown r words cells output ≡ shownBy (ended (worldOf words cells) (sheetOf sheet) output (reading (storeOf words) result.boolean m .run s))
   unfolding pure next _>>=_
-  boolean-told m (boolean.Failed f t) e = rw (sym e)
-  boolean-told m (boolean.Done b t) e = rw (sym e)
+  boolean-told m (boolean.Failed f t) e q output = rw (sym e, q) (sym (failing words cells sheet output f (stateOf sheet t)))
+  boolean-told m (boolean.Done b t) e q output = rw (sym e, q)
 
-  pub own-told : (m : M OwnProperty) (out : OwnPropertyOut) → outOwnProperty sheet out ≡ m .run s → outPerformed sheet σ (ownPropertyResult out) ≡ reading σ ownResult m .run s
+  pub own-told : (m : M OwnProperty) (out : OwnPropertyOut) → outOwnProperty sheet out ≡ m .run s → r ≡ performedReport sheet (ownPropertyResult out)
+      → (output : List ℕ) → shown r words cells output ≡ shownBy (ended (worldOf words cells) (sheetOf sheet) output (reading (storeOf words) ownResult m .run s))
   unfolding pure next _>>=_
-  own-told m (own.Failed f t) e = rw (sym e)
-  own-told m (own.Done Absent t) e = rw (sym e)
-  own-told m (own.Done (Present p) t) e = rw (sym e)
+  own-told m (own.Failed f t) e q output = rw (sym e, q) (sym (failing words cells sheet output f (stateOf sheet t)))
+  own-told m (own.Done Absent t) e q output = rw (sym e, q)
+  own-told m (own.Done (Present p) t) e q output = rw (sym e, q)
 
-  pub write-told : (m : M (Bool × Store)) (out : WriteOut) → outWrite sheet σ out ≡ m .run s → outPerformed sheet σ (writeResult out) ≡ writing m .run s
+-- what an operation that may write leaves to be reported
+module _ (words sheet : List ℕ) (s : State) where
+  pub write-told : (m : M (Bool × Store)) (out : WriteOut) → outWrite sheet (storeOf words) out ≡ m .run s → outPerformed sheet (storeOf words) (writeResult out) ≡ writing m .run s
   unfolding pure next _>>=_
   write-told m (write.Failed f t) e = rw (sym e)
   write-told m (write.Done b w t) e = rw (sym e)
 
-module _ (words : List ℕ) where
-  pub value-taken : isStore words ≡ true → (out : ValueOut) → Taken words (valueResult out)
-  value-taken h (value.Failed f t) = tt
-  value-taken h (value.Done v t) = (record { store = h; bounds = tt }, refl)
-
-  pub boolean-taken : isStore words ≡ true → (out : BooleanOut) → Taken words (booleanResult out)
-  boolean-taken h (boolean.Failed f t) = tt
-  boolean-taken h (boolean.Done b t) = (record { store = h; bounds = tt }, refl)
-
-  pub own-taken : isStore words ≡ true → (out : OwnPropertyOut) → Taken words (ownPropertyResult out)
-  own-taken h (own.Failed f t) = tt
-  own-taken h (own.Done Absent t) = (record { store = h; bounds = tt }, refl)
-  own-taken h (own.Done (Present p) t) = (record { store = h; bounds = tt }, refl)
-
-  pub write-taken : (out : WriteOut) → Fitting words out → Taken words (writeResult out)
-  write-taken (write.Failed f t) h = tt
-  write-taken (write.Done b w t) h = (h, refl)
+pub write-taken : (words : List ℕ) (out : WriteOut) → Fitting words out → Taken words (writeResult out)
+write-taken words (write.Failed f t) h = tt
+write-taken words (write.Done b w t) h = (h, refl)
 
 -- the key of a step, or the first
 pub key-there : (o : Option PropertyKey) (r : KeyResult) (k : PropertyKey) → r ≡ keyResult o → r ≡ Key k → k ≡ keyOrFirst o

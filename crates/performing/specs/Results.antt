@@ -2,6 +2,7 @@
 use Prim.Native.Nat.{ℕ, _<_, _≤_, _^_}
 use mathlib.Core.Bool.{Bool, _||_}
 use mathlib.Core.List.{List}
+use lib.ListN.{length}
 use lib.Dec.{eqb}
 use Rattle.value.specs.declared.Value.the-variants as language
 use Rattle.value.specs.PropertyKey.{keyOf}
@@ -10,7 +11,7 @@ use Rattle.property.specs.declared.OwnProperty.the-variants.{Absent, Present}
 use Rattle.store.specs.Store.{maximumProperties}
 use Rattle.store_write.specs.declared.write.Write.the-variants.{Nothing}
 use Rattle.store_write.specs.Write.{numberIn}
-use Rattle.record.specs.declared.Step.{Step}
+use Rattle.record.specs.Bytes.{valueAt}
 use Rattle.calls.specs.declared.Progress.{Progress}
 use Rattle.calls.specs.declared.ValueOut.{ValueOut}
 use Rattle.calls.specs.declared.ValueOut.the-variants as value
@@ -27,11 +28,12 @@ use Rattle.steps.specs.Operation.{keyOrFirst}
 use Rattle.reporting.specs.declared.Performed.{Performed}
 use Rattle.reporting.specs.declared.Performed.the-variants.{Failed, Done}
 
--- what performing asks of the memory, the allowance and the step's key
-pub record Performable (words cells : List ℕ) (allowance : ℕ) (s : Step) : Type 0 where
+-- what performing asks of the memory, the allowance and the step's bytes
+pub record Performable (words cells : List ℕ) (allowance : ℕ) (bytes : List ℕ) : Type 0 where
   pub readable : Readable words cells
   pub allowed : allowance ≤ maximumProperties
-  pub key : numberIn (keyOrFirst (keyOf (s .key))) < 2 ^ 58
+  pub long : 58 ≤ length bytes
+  pub key : numberIn (keyOrFirst (keyOf (valueAt bytes 2))) < 2 ^ 58
 
 -- the codes of the methods that write nothing and list no keys
 unfoldable pub isReading : ℕ → Bool

@@ -16,7 +16,7 @@ ghost use Rattle.text.specs.Table.{stringsOf};
 ghost use Rattle.store.specs.Store.{maximumProperties};
 ghost use Rattle.store.specs.Words.{storeOf, worldOf};
 ghost use Rattle.internal_methods.specs.Monad.{done};
-ghost use Rattle.record.specs.Sheet.{sheetOf};
+ghost use Rattle.record.specs.Sheet.{sheetOf, isSheet};
 ghost use Rattle.calls.specs.Outs.{Readable, context, stateOf};
 ghost use Rattle.own_keys.specs.Lists.{areListsFit};
 ghost use Rattle.own_keys.specs.Loading.{listedKeys, Loadable};
@@ -37,7 +37,7 @@ fn write_out(
     s: Progress,
     output: &mut [u8],
 ) -> Report
-    requires { ⌜ Readable (now words) (now strings) × ((0 < length (now sheet)) × (Loadable (now sheet) found × (256 ≤ length (now keys)))) ⌝ }
+    requires { ⌜ Readable (now words) (now strings) × ((isSheet (now sheet) ≡ true) × (Loadable (now sheet) found × (256 ≤ length (now keys)))) ⌝ }
     ensures { λ r. ⌜ shown r (now (words .entry)) (now (strings .entry)) (now (output .exit)) ≡ shownBy (ended (worldOf (now (words .entry)) (now (strings .entry))) (sheetOf (now (sheet .entry))) (now (output .entry)) (done (result.keys (listedKeys (now (sheet .entry)) (stringsOf (now (strings .entry))) (storeOf (now (words .entry))) found), storeOf (now (words .entry))) (stateOf (now (sheet .entry)) s))) ⌝ }
 {
     let n = loading::load_list(words, strings, sheet, found, keys);
@@ -50,7 +50,7 @@ fn write_out(
 
 // Code 14
 pub fn list(words: &[u64], strings: &[u16], sheet: &[u8], o: u64, output: &mut [u8]) -> Report
-    requires { ⌜ Readable (now words) (now strings) × ((0 < length (now sheet)) × (areListsFit (sheetOf (now sheet)) ≡ true)) ⌝ }
+    requires { ⌜ Readable (now words) (now strings) × ((isSheet (now sheet) ≡ true) × (areListsFit (sheetOf (now sheet)) ≡ true)) ⌝ }
     ensures { λ r. ⌜ shown r (now (words .entry)) (now (strings .entry)) (now (output .exit)) ≡ shownBy (ended (worldOf (now (words .entry)) (now (strings .entry))) (sheetOf (now (sheet .entry))) (now (output .entry)) (perform maximumCalls (context (now (words .entry)) (now (strings .entry)) maximumProperties) (ownPropertyKeys o) .run (stateOf (now (sheet .entry)) (start (now (sheet .entry)))))) ⌝ }
 {
     let mut keys = [0u64; 256];

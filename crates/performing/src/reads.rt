@@ -1,71 +1,87 @@
 // The operations that write nothing and list no keys: codes 4, 6, 8, 10 and 11.
+use byte_records::value_record;
 use calls::BooleanOut;
 use calls::OwnPropertyOut;
 use calls::Progress;
 use calls::ValueOut;
 use property::OwnProperty;
-use record::Step;
 use reporting::MAXIMUM_CALLS;
-use reporting::Performed;
 use steps::Completion;
-use store_write::Write;
+use steps::Report;
 use value::KeyResult;
 use value::PropertyKey;
 use value::Value;
+use value_operations::bits;
 use value_operations::keys;
 ghost use mathlib.Core.Path.{_≡_};
 ghost use mathlib.Core.Bool.{true, false};
-ghost use Prim.Native.Nat.{_≤_, _<_};
+ghost use mathlib.Core.List.{List};
+ghost use Prim.Native.Nat.{ℕ, _≤_, _<_};
+ghost use lib.ListN.{length};
 ghost use Rattle.value.specs.PropertyKey.{keyOf};
-ghost use Rattle.store.specs.Words.{storeOf};
+ghost use Rattle.store.specs.Words.{worldOf};
+ghost use Rattle.record.specs.Bytes.{byteAt, valueAt};
+ghost use Rattle.record.specs.Step.{stepOf};
+ghost use Rattle.record.specs.Sheet.{sheetOf, isSheet};
 ghost use Rattle.calls.specs.Outs.{context, stateOf};
 ghost use Rattle.steps.specs.Operation.{keyOrFirst, operationOf};
 ghost use Rattle.steps.specs.Perform.{perform, maximumCalls};
-ghost use Rattle.reporting.specs.Performed.{Taken, outPerformed};
+ghost use Rattle.steps.specs.Step.{ended};
+ghost use Rattle.reporting.specs.Reports.{performedReport};
+ghost use Rattle.reporting.specs.Memory.{shown, shownBy};
 ghost use Rattle.performing.specs.Results.{Performable, isReading, valueResult, booleanResult, ownPropertyResult};
 
-fn value_result(out: ValueOut) -> Performed
-    ensures { λ r. ⌜ r ≡ valueResult out ⌝ }
+fn value_result(sheet: &[u8], out: ValueOut) -> Report
+    requires { ⌜ isSheet (now sheet) ≡ true ⌝ }
+    ensures { λ r. ⌜ r ≡ performedReport (now (sheet .entry)) (valueResult out) ⌝ }
 {
     match out {
-        ValueOut::Failed(f, s) => Performed::Failed(f, s),
-        ValueOut::Done(v, s) => Performed::Done(Completion::Value(v), Write::Nothing, s),
+        ValueOut::Failed(f, s) => reporting::failed(sheet, f, s),
+        ValueOut::Done(v, s) => reporting::completed(sheet, Completion::Value(v), s),
     }
 }
 
-fn boolean_result(out: BooleanOut) -> Performed
-    ensures { λ r. ⌜ r ≡ booleanResult out ⌝ }
+fn boolean_result(sheet: &[u8], out: BooleanOut) -> Report
+    requires { ⌜ isSheet (now sheet) ≡ true ⌝ }
+    ensures { λ r. ⌜ r ≡ performedReport (now (sheet .entry)) (booleanResult out) ⌝ }
 {
     match out {
-        BooleanOut::Failed(f, s) => Performed::Failed(f, s),
+        BooleanOut::Failed(f, s) => reporting::failed(sheet, f, s),
         BooleanOut::Done(b, s) => {
-            Performed::Done(Completion::Value(Value::Boolean(b)), Write::Nothing, s)
+            reporting::completed(sheet, Completion::Value(Value::Boolean(b)), s)
         }
     }
 }
 
-fn own_property_result(out: OwnPropertyOut) -> Performed
-    ensures { λ r. ⌜ r ≡ ownPropertyResult out ⌝ }
+fn own_property_result(sheet: &[u8], out: OwnPropertyOut) -> Report
+    requires { ⌜ isSheet (now sheet) ≡ true ⌝ }
+    ensures { λ r. ⌜ r ≡ performedReport (now (sheet .entry)) (ownPropertyResult out) ⌝ }
 {
     match out {
-        OwnPropertyOut::Failed(f, s) => Performed::Failed(f, s),
+        OwnPropertyOut::Failed(f, s) => reporting::failed(sheet, f, s),
         OwnPropertyOut::Done(p, s) => match p {
-            OwnProperty::Absent => Performed::Done(Completion::Absent, Write::Nothing, s),
-            OwnProperty::Present(q) => {
-                Performed::Done(Completion::Descriptor(q), Write::Nothing, s)
-            }
+            OwnProperty::Absent => reporting::completed(sheet, Completion::Absent, s),
+            OwnProperty::Present(q) => { reporting::completed(sheet, Completion::Descriptor(q), s) }
         },
     }
 }
 
 // The key of a step that has one.
-pub fn key_or_first(v: Value) -> PropertyKey
+fn key_or_first(v: Value) -> PropertyKey
     ensures { λ r. ⌜ r ≡ keyOrFirst (keyOf v) ⌝ }
 {
     match keys::key_of(v) {
         KeyResult::Key(k) => k,
         KeyResult::NotKey => PropertyKey::String(0),
     }
+}
+
+// The key of a step's bytes.
+pub fn key_at(bytes: &[u8]) -> PropertyKey
+    requires { ⌜ 58 ≤ length (now bytes) ⌝ }
+    ensures { λ r. ⌜ r ≡ keyOrFirst (keyOf (valueAt (now (bytes .entry)) 2)) ⌝ }
+{
+    key_or_first(value_record::value_at(bytes, 2))
 }
 
 // The codes of the methods that write nothing and list no keys.
@@ -88,18 +104,14 @@ pub fn perform_reading(
     strings: &[u16],
     allowance: usize,
     sheet: &[u8],
-    step: Step,
+    bytes: &[u8],
     s: Progress,
-) -> Performed
-    requires { ⌜ Performable (now words) (now strings) allowance step × (isReading (step .code) ≡ true) ⌝ }
-    ensures { λ r. ⌜ outPerformed (now (sheet .entry)) (storeOf (now (words .entry))) r ≡ perform maximumCalls (context (now (words .entry)) (now (strings .entry)) allowance) (operationOf step) .run (stateOf (now (sheet .entry)) s) ⌝ }
-    ensures { λ r. ⌜ Taken (now (words .entry)) r ⌝ }
+) -> Report
+    requires { ⌜ Performable (now words) (now strings) allowance (now bytes) × ((isSheet (now sheet) ≡ true) × (isReading (byteAt (now bytes) 0) ≡ true)) ⌝ }
+    ensures { λ r. ⌜ ((output : List ℕ) → shown r (now (words .entry)) (now (strings .entry)) output ≡ shownBy (ended (worldOf (now (words .entry)) (now (strings .entry))) (sheetOf (now (sheet .entry))) output (perform maximumCalls (context (now (words .entry)) (now (strings .entry)) allowance) (operationOf (stepOf (now (bytes .entry)))) .run (stateOf (now (sheet .entry)) s)))) ⌝ }
 {
-    let code = step.code;
-    let o = step.object;
-    let named = step.key;
-    let key = key_or_first(named);
-    let receiver = step.receiver;
+    let code = bits::wide(bytes[0]);
+    let o = bits::wide(bytes[1]);
     match code {
         4 => {
             let out = prototypes::get_prototype_of(
@@ -111,7 +123,7 @@ pub fn perform_reading(
                 MAXIMUM_CALLS,
                 s,
             );
-            value_result(out)
+            value_result(sheet, out)
         }
         6 => {
             let out = extensibility::is_extensible(
@@ -123,7 +135,7 @@ pub fn perform_reading(
                 MAXIMUM_CALLS,
                 s,
             );
-            boolean_result(out)
+            boolean_result(sheet, out)
         }
         8 => {
             let out = own_property::get_own_property(
@@ -132,11 +144,11 @@ pub fn perform_reading(
                 allowance,
                 sheet,
                 o,
-                key,
+                key_at(bytes),
                 MAXIMUM_CALLS,
                 s,
             );
-            own_property_result(out)
+            own_property_result(sheet, out)
         }
         10 => {
             let out = has_property::has_property(
@@ -145,11 +157,11 @@ pub fn perform_reading(
                 allowance,
                 sheet,
                 o,
-                key,
+                key_at(bytes),
                 MAXIMUM_CALLS,
                 s,
             );
-            boolean_result(out)
+            boolean_result(sheet, out)
         }
         _ => {
             let out = getting::get(
@@ -158,12 +170,12 @@ pub fn perform_reading(
                 allowance,
                 sheet,
                 o,
-                key,
-                receiver,
+                key_at(bytes),
+                value_record::value_at(bytes, 20),
                 MAXIMUM_CALLS,
                 s,
             );
-            value_result(out)
+            value_result(sheet, out)
         }
     }
 }

@@ -1,17 +1,21 @@
 // The operations that may write: codes 5, 7, 9, 12 and 13.
 use crate::reads;
+use byte_records::descriptor_record;
+use byte_records::value_record;
 use calls::Progress;
 use calls::WriteOut;
 use extensibility::prevention;
-use record::Step;
 use reporting::MAXIMUM_CALLS;
 use reporting::Performed;
 use steps::Completion;
 use value::Value;
+use value_operations::bits;
 ghost use mathlib.Core.Path.{_≡_};
 ghost use mathlib.Core.Bool.{true, false};
 ghost use Prim.Native.Nat.{_≤_, _<_};
 ghost use Rattle.store.specs.Words.{storeOf};
+ghost use Rattle.record.specs.Bytes.{byteAt};
+ghost use Rattle.record.specs.Step.{stepOf};
 ghost use Rattle.calls.specs.Outs.{context, stateOf};
 ghost use Rattle.steps.specs.Operation.{operationOf};
 ghost use Rattle.steps.specs.Perform.{perform, maximumCalls};
@@ -33,20 +37,15 @@ pub fn perform_writing(
     strings: &[u16],
     allowance: usize,
     sheet: &[u8],
-    step: Step,
+    bytes: &[u8],
     s: Progress,
 ) -> Performed
-    requires { ⌜ Performable (now words) (now strings) allowance step × ((isReading (step .code) ≡ false) × ((4 ≤ step .code) × (step .code < 14))) ⌝ }
-    ensures { λ r. ⌜ outPerformed (now (sheet .entry)) (storeOf (now (words .entry))) r ≡ perform maximumCalls (context (now (words .entry)) (now (strings .entry)) allowance) (operationOf step) .run (stateOf (now (sheet .entry)) s) ⌝ }
+    requires { ⌜ Performable (now words) (now strings) allowance (now bytes) × ((isReading (byteAt (now bytes) 0) ≡ false) × ((4 ≤ byteAt (now bytes) 0) × (byteAt (now bytes) 0 < 14))) ⌝ }
+    ensures { λ r. ⌜ outPerformed (now (sheet .entry)) (storeOf (now (words .entry))) r ≡ perform maximumCalls (context (now (words .entry)) (now (strings .entry)) allowance) (operationOf (stepOf (now (bytes .entry)))) .run (stateOf (now (sheet .entry)) s) ⌝ }
     ensures { λ r. ⌜ Taken (now (words .entry)) r ⌝ }
 {
-    let code = step.code;
-    let o = step.object;
-    let named = step.key;
-    let key = reads::key_or_first(named);
-    let v = step.value;
-    let receiver = step.receiver;
-    let descriptor = step.descriptor;
+    let code = bits::wide(bytes[0]);
+    let o = bits::wide(bytes[1]);
     match code {
         5 => {
             let out = prototypes::set_prototype_of(
@@ -55,7 +54,7 @@ pub fn perform_writing(
                 allowance,
                 sheet,
                 o,
-                v,
+                value_record::value_at(bytes, 11),
                 MAXIMUM_CALLS,
                 s,
             );
@@ -74,14 +73,17 @@ pub fn perform_writing(
             write_result(out)
         }
         9 => {
-            let d = descriptors::to_property_descriptor(descriptor);
+            let d = descriptors::to_property_descriptor(descriptor_record::descriptor_at(
+                bytes,
+                29,
+            ));
             let out = definition::define_own_property(
                 words,
                 strings,
                 allowance,
                 sheet,
                 o,
-                key,
+                reads::key_at(bytes),
                 d,
                 MAXIMUM_CALLS,
                 s,
@@ -95,16 +97,25 @@ pub fn perform_writing(
                 allowance,
                 sheet,
                 o,
-                key,
-                v,
-                receiver,
+                reads::key_at(bytes),
+                value_record::value_at(bytes, 11),
+                value_record::value_at(bytes, 20),
                 MAXIMUM_CALLS,
                 s,
             );
             write_result(out)
         }
         _ => {
-            let out = deletion::delete(words, strings, allowance, sheet, o, key, MAXIMUM_CALLS, s);
+            let out = deletion::delete(
+                words,
+                strings,
+                allowance,
+                sheet,
+                o,
+                reads::key_at(bytes),
+                MAXIMUM_CALLS,
+                s,
+            );
             write_result(out)
         }
     }

@@ -14,15 +14,18 @@ use Rattle.text.specs.Table.{isTable, stringsOf}
 use Rattle.text.specs.Answers.{entryOf, enterCells, cellsAfter}
 use Rattle.store.specs.Store.{Store}
 use Rattle.store.specs.Words.{isStore, storeOf, worldOf}
-use Rattle.record.specs.declared.Step.{Step}
+use Rattle.store_read.proofs.ListLaws.{few-strings}
+use Rattle.internal_methods.specs.Monad.{Out}
+use Rattle.record.specs.Bytes.{byteAt}
 use Rattle.record.specs.Step.{stepOf}
 use Rattle.record.specs.Tests.{firstFailing}
-use Rattle.record.specs.Sheet.{sheetOf}
+use Rattle.record.specs.Sheet.{sheetOf, isSheet}
+use Rattle.step_records.proofs.PassedLaws.{step-length, key-fits, code-low, code-high}
 use Rattle.calls.specs.declared.Progress.{Progress}
 use Rattle.calls.specs.Outs.{Readable, context, stateOf}
 use Rattle.steps.specs.declared.Report.{Report}
-use Rattle.steps.specs.Operation.{Operation, ownPropertyKeys, operationOf, asked}
-use Rattle.steps.specs.Perform.{perform, maximumCalls}
+use Rattle.steps.specs.Operation.{ownPropertyKeys, operationOf, asked}
+use Rattle.steps.specs.Perform.{Result, perform, maximumCalls}
 use Rattle.steps.specs.Response.{reportOf, refusal}
 use Rattle.steps.specs.Step.{recordTests, ended, ran, step}
 use Rattle.steps.specs.StringEntry.{enterString, entered}
@@ -31,39 +34,62 @@ use Rattle.reporting.specs.Performed.{Taken, outPerformed}
 use Rattle.reporting.specs.Reports.{start, performedReport, Finished}
 use Rattle.reporting.specs.Memory.{Shown, shown, shownBy, isMemory, stepOver, shownEntry, enterOver}
 use Rattle.reporting.proofs.EndLaws.{finished}
+use Rattle.performing.specs.Results.{Performable}
 use Rattle.step.specs.Entry.{entryReport}
 
 pub memory-readable : (words cells : List ℕ) → isMemory words cells ≡ true → Readable words cells
 unfolding isMemory
 memory-readable words cells e = let p = and-true (isStore words) (isTable cells) e in record { store = p .0; table = p .1 }
 
+-- what a step that passes its tests has for `performing`
+module _ (words cells bytes sheet : List ℕ) (m : Readable words cells) (h : firstFailing (recordTests (worldOf words cells) bytes sheet) ≡ none) where
+  pub performable : Performable words cells 256 bytes
+  unfolding stepOf
+  performable = record {
+    readable = m;
+    allowed = omega arith;
+    long = omega (arith, step-length (worldOf words cells) bytes sheet h);
+    key = key-fits (worldOf words cells) bytes sheet h (few-strings cells (m .table));
+  }
+
+  -- a code that lists no keys
+  pub other-codes : (byteAt bytes 0 ≡ 14 → ⊥) → (1 ≤ byteAt bytes 0) × (byteAt bytes 0 < 14)
+  unfolding stepOf
+  other-codes d = (code-low (worldOf words cells) bytes sheet h, below (byteAt bytes 0) (code-high (worldOf words cells) bytes sheet h) d)
+    where
+      below : (code : ℕ) → code ≤ 14 → (code ≡ 14 → ⊥) → code < 14
+      below code q e = omega (arith, q, e)
+
 module _ (words cells bytes sheet output : List ℕ) where
+  abbrev endsAs : Out (Result × Store) → Shown
+  endsAs o = shownBy (ended (worldOf words cells) (sheetOf sheet) output o)
+
   abbrev runs : Shown
-  runs = shownBy (ended (worldOf words cells) (sheetOf sheet) output (ran (worldOf words cells) bytes sheet))
+  runs = endsAs (ran (worldOf words cells) bytes sheet)
 
-  -- the run of a step, by what it asks for
-  asks : (st : Step) (op : Operation) → st ≡ stepOf bytes → operationOf st ≡ op
-      → perform maximumCalls (context words cells 256) op .run (stateOf sheet (start sheet)) ≡ ran (worldOf words cells) bytes sheet
+  -- the run of what the bytes ask for, from the sheet's start
+  asks : isSheet sheet ≡ true
+      → perform maximumCalls (context words cells 256) (operationOf (stepOf bytes)) .run (stateOf sheet (start sheet)) ≡ ran (worldOf words cells) bytes sheet
   unfolding ran asked sheetOf
-  asks st op e q = ap (λ (o : Operation). perform maximumCalls (context words cells 256) o .run (stateOf sheet (start sheet))) (sym q ∙ ap (λ (t : Step). operationOf t) e)
+  asks formed = refl
 
-  lists : (st : Step) → st .code ≡ 14 → operationOf st ≡ ownPropertyKeys (st .object)
-  unfolding operationOf
-  lists st q = rw q
+  lists : byteAt bytes 0 ≡ 14 → operationOf (stepOf bytes) ≡ ownPropertyKeys (byteAt bytes 1)
+  unfolding operationOf stepOf
+  lists e = rw e
 
-  pub run-listed : (st : Step) (x : Shown) → st ≡ stepOf bytes → st .code ≡ 14
-      → x ≡ shownBy (ended (worldOf words cells) (sheetOf sheet) output (perform maximumCalls (context words cells 256) (ownPropertyKeys (st .object)) .run (stateOf sheet (start sheet))))
-      → x ≡ runs
-  run-listed st x e q h = h ∙ ap (λ o. shownBy (ended (worldOf words cells) (sheetOf sheet) output o)) (asks st (ownPropertyKeys (st .object)) e (lists st q))
+  module _ (formed : isSheet sheet ≡ true) where
+    pub run-shown : (s : Progress) (x : Shown) → s ≡ start sheet
+        → x ≡ endsAs (perform maximumCalls (context words cells 256) (operationOf (stepOf bytes)) .run (stateOf sheet s)) → x ≡ runs
+    run-shown s x e h = (rw e at h) ∙ ap endsAs (asks formed)
 
-  pub run-performed : (st : Step) (s : Progress) (after : List ℕ) (p : Performed) (r : Report) → st ≡ stepOf bytes → s ≡ start sheet
-      → outPerformed sheet (storeOf words) p ≡ perform maximumCalls (context words cells 256) (operationOf st) .run (stateOf sheet s)
-      → Taken words p → Finished words after p → r ≡ performedReport sheet p → shown r after cells output ≡ runs
-  run-performed st s after p r e f h t g q =
-      ap (λ (k : Report). shown k after cells output) q
-      ∙ (finished words cells sheet output after p t g
-      ∙ ap (λ o. shownBy (ended (worldOf words cells) (sheetOf sheet) output o))
-      (h ∙ (ap (λ (k : Progress). perform maximumCalls (context words cells 256) (operationOf st) .run (stateOf sheet k)) f ∙ asks st (operationOf st) e refl)))
+    pub run-listed : (o : ℕ) (x : Shown) → o ≡ byteAt bytes 1 → byteAt bytes 0 ≡ 14
+        → x ≡ endsAs (perform maximumCalls (context words cells 256) (ownPropertyKeys o) .run (stateOf sheet (start sheet))) → x ≡ runs
+    run-listed o x e q h = run-shown (start sheet) x refl (rw (lists q, sym e) h)
+
+    pub run-performed : (s : Progress) (after : List ℕ) (p : Performed) (r : Report) → s ≡ start sheet
+        → outPerformed sheet (storeOf words) p ≡ perform maximumCalls (context words cells 256) (operationOf (stepOf bytes)) .run (stateOf sheet s)
+        → Taken words p → Finished words after p → r ≡ performedReport sheet p → shown r after cells output ≡ runs
+    run-performed s after p r e h t g q = run-shown s (shown r after cells output) e (rw q (finished words cells sheet output after p t g) ∙ ap endsAs h)
 
   -- the step, by what its tests say
   pub step-unread : (r : Report) → isMemory words cells ≡ false → r ≡ reportOf (refusal 1) → shown r words cells output ≡ shownBy (stepOver words cells bytes sheet output)
@@ -97,6 +123,3 @@ module _ (σ : Store) (cells units after : List ℕ) where
           → shownEntry (entryReport a) σ after ≡ shownBy (cond b (entered (record { store = σ; strings = stringsOf cells }) (enter (stringsOf cells) units)) (entered (record { store = σ; strings = stringsOf cells }) (entry.refused 1)))
       go true f g = told a _ f g
       go false f g = told a _ f g
-
-pub below : (code : ℕ) → code ≤ 14 → (code ≡ 14 → ⊥) → code < 14
-below code h d = omega (arith, h, d)

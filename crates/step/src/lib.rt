@@ -1,14 +1,15 @@
 // The interface: a step over lent memory, and the entering of a string.
 use performing::MAXIMUM_PROPERTIES;
 use performing::listing;
+use performing::reads;
 use record::Refusal;
-use step_records::reading;
 use steps::Completion;
 use steps::Outcome;
 use steps::Report;
 use text::EntryAnswer;
 use text::entry;
 use value::Value;
+use value_operations::bits;
 ghost use mathlib.Core.Path.{_≡_};
 ghost use mathlib.Core.Option.{none};
 ghost use Rattle.store.specs.Words.{worldOf};
@@ -25,12 +26,15 @@ fn run(words: &mut [u64], strings: &[u16], bytes: &[u8], sheet: &[u8], output: &
     ensures { λ r. ⌜ shown r (now (words .exit)) (now (strings .entry)) (now (output .exit)) ≡ shownBy (ended (worldOf (now (words .entry)) (now (strings .entry))) (sheetOf (now (sheet .entry))) (now (output .entry)) (ran (worldOf (now (words .entry)) (now (strings .entry))) (now (bytes .entry)) (now (sheet .entry)))) ⌝ }
     ensures { λ r. ⌜ WordsAfter (r .outcome) (now (words .entry)) (now (words .exit)) ⌝ }
 {
-    let step = reading::step_of(bytes);
-    if step.code == 14 {
-        return listing::list(words, strings, sheet, step.object, output);
+    let code = bits::wide(bytes[0]);
+    if code == 14 {
+        return listing::list(words, strings, sheet, bits::wide(bytes[1]), output);
     }
     let s = reporting::start(sheet);
-    let performed = performing::perform(words, strings, MAXIMUM_PROPERTIES, sheet, step, s);
+    if reads::is_reading(code) {
+        return reads::perform_reading(words, strings, MAXIMUM_PROPERTIES, sheet, bytes, s);
+    }
+    let performed = performing::perform(words, strings, MAXIMUM_PROPERTIES, sheet, bytes, s);
     reporting::finish(words, sheet, performed)
 }
 

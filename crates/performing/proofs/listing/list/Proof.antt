@@ -3,6 +3,7 @@ use native.Mathlib.Omega.{arith}
 use Rattle.record.specs.Sheet.{sheetOf}
 use Rattle.store.specs.Store.{maximumProperties}
 use Rattle.calls.specs.Outs.{context}
+use Rattle.reporting.proofs.SheetLaws.{sheet-there}
 use Rattle.performing.proofs.ListingLaws.{listing-failed, listing-done}
 use borrow.Author.Needs.{needs}
 use Rattle.performing.proofs.listing.list.Statement.{statement}
@@ -25,7 +26,7 @@ pub list-spec : {M : Type 1} → statement M
 list-spec =
     tie.close
     (tie.spec
-    (λ c κs. search needs)
+    (λ c κs. search (needs, sheet-there))
     (λ c. search needs)
     (λ c. search needs)
     (λ c. search needs)
