@@ -34,6 +34,7 @@ use Rattle.reporting.specs.Performed.{Taken, outPerformed}
 use Rattle.reporting.specs.Reports.{start, performedReport, Finished}
 use Rattle.reporting.specs.Memory.{Shown, shown, shownBy, isMemory, stepOver, shownEntry, enterOver}
 use Rattle.reporting.proofs.EndLaws.{finished}
+use Rattle.reporting.proofs.SheetLaws.{begins}
 use Rattle.performing.specs.Results.{Performable}
 use Rattle.step.specs.Entry.{entryReport}
 
@@ -70,8 +71,8 @@ module _ (words cells bytes sheet output : List ℕ) where
   -- the run of what the bytes ask for, from the sheet's start
   asks : isSheet sheet ≡ true
       → perform maximumCalls (context words cells 256) (operationOf (stepOf bytes)) .run (stateOf sheet (start sheet)) ≡ ran (worldOf words cells) bytes sheet
-  unfolding ran asked sheetOf
-  asks formed = refl
+  unfolding ran asked
+  asks formed = rw (begins sheet formed)
 
   lists : byteAt bytes 0 ≡ 14 → operationOf (stepOf bytes) ≡ ownPropertyKeys (byteAt bytes 1)
   unfolding operationOf stepOf

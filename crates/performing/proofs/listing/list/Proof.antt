@@ -1,6 +1,6 @@
 use denote.Ref.{now}
 use native.Mathlib.Omega.{arith}
-use Rattle.record.specs.Sheet.{sheetOf}
+use Rattle.sheet.proofs.FromLaws.{sheet-from}
 use Rattle.store.specs.Store.{maximumProperties}
 use Rattle.calls.specs.Outs.{context}
 use Rattle.reporting.proofs.SheetLaws.{sheet-there}
@@ -10,8 +10,7 @@ use Rattle.performing.proofs.listing.list.Statement.{statement}
 use Rattle.performing.proofs.listing.list.Tie as tie
 
 own-property-keys-requires : tie.Need-own-property-keys-requires
-unfolding sheetOf
-own-property-keys-requires c κs = (c .before .before .before .before .before .before .before .before .pre .0, (rw (c .before .before .before .start .ensures) (c .before .before .before .before .before .before .before .before .pre .1 .1), (omega arith, (omega arith, omega arith))))
+own-property-keys-requires c κs = (c .before .before .before .before .before .before .before .before .pre .0, (rw (c .before .before .before .start .ensures, sheet-from _ (c .before .before .before .before .before .before .before .before .pre .1 .0)) (c .before .before .before .before .before .before .before .before .pre .1 .1), (omega arith, (omega arith, omega arith))))
 
 write-out-requires : tie.Need-write-out-requires
 write-out-requires c κs = (c .before .before .before .before .before .before .before .before .before .before .before .before .before .before .before .before .before .pre .0, (c .before .before .before .before .before .before .before .before .before .before .before .before .before .before .before .before .before .pre .1 .0, (rw (c .before .before .before .found .given .1) at (c .before .before .before .before .before .before .before .before .own-property-keys .ensures .1), search needs)))
