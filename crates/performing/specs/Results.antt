@@ -12,7 +12,6 @@ use Rattle.store.specs.Store.{maximumProperties}
 use Rattle.store_write.specs.declared.write.Write.the-variants.{Nothing}
 use Rattle.store_write.specs.Write.{numberIn}
 use Rattle.record.specs.Bytes.{valueAt}
-use Rattle.calls.specs.declared.Progress.{Progress}
 use Rattle.calls.specs.declared.ValueOut.{ValueOut}
 use Rattle.calls.specs.declared.ValueOut.the-variants as value
 use Rattle.calls.specs.declared.BooleanOut.{BooleanOut}

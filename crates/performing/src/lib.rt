@@ -5,7 +5,7 @@ use calls::Progress;
 use reporting::Performed;
 use value_operations::bits;
 ghost use mathlib.Core.Path.{_≡_};
-ghost use mathlib.Core.Bool.{true, false};
+ghost use mathlib.Core.Bool.{false};
 ghost use Prim.Native.Nat.{_≤_, _<_};
 ghost use Rattle.store.specs.Words.{storeOf};
 ghost use Rattle.record.specs.Bytes.{byteAt};

@@ -10,7 +10,7 @@ use steps::Completion;
 use steps::Report;
 ghost use mathlib.Core.Path.{_≡_};
 ghost use mathlib.Core.Bool.{true};
-ghost use Prim.Native.Nat.{_<_, _≤_};
+ghost use Prim.Native.Nat.{_≤_};
 ghost use lib.ListN.{length};
 ghost use Rattle.text.specs.Table.{stringsOf};
 ghost use Rattle.store.specs.Store.{maximumProperties};

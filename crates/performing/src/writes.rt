@@ -11,7 +11,7 @@ use steps::Completion;
 use value::Value;
 use value_operations::bits;
 ghost use mathlib.Core.Path.{_≡_};
-ghost use mathlib.Core.Bool.{true, false};
+ghost use mathlib.Core.Bool.{false};
 ghost use Prim.Native.Nat.{_≤_, _<_};
 ghost use Rattle.store.specs.Words.{storeOf};
 ghost use Rattle.record.specs.Bytes.{byteAt};
