@@ -25,6 +25,9 @@ ltb-one : (p : ℕ) → ltb p 1 ≡ eqb p 0
 ltb-one zero = refl
 ltb-one (suc k) = rw (le-ltb (suc k) 1 (omega arith), ne-eqb (suc k) 0 (λ e. omega arith))
 
+past : (m k : ℕ) → m ≤ k → (k ≡ m → ⊥) → suc m ≤ k
+past m k h n = omega arith
+
 module _ (n : Counts) (p : ℕ) where
   pub refusal-0 : cond (ltb p 1) 4 1 ≡ valueRefusal n 0 p
   unfolding valueOf isFormed isMade isKnown
@@ -66,10 +69,13 @@ module _ (n : Counts) (p : ℕ) where
   unfolding valueOf isFormed isMade isKnown
   refusal-8 = by-known (ltb p 256)
 
-  pub refusal-above : (k : ℕ) → 9 ≤ k → 1 ≡ valueRefusal n k p
+  refusal-above : (k : ℕ) → 9 ≤ k → 1 ≡ valueRefusal n k p
   unfolding isFormed
   refusal-above k h =
       rw (le-ltb k 2 (omega arith), ne-eqb k 2 (λ e. omega arith), ne-eqb k 3 (λ e. omega arith), le-ltb k 9 h)
+
+  pub refusal-other : (k : ℕ) → (k ≡ 0 → ⊥) → (k ≡ 1 → ⊥) → (k ≡ 2 → ⊥) → (k ≡ 3 → ⊥) → (k ≡ 4 → ⊥) → (k ≡ 5 → ⊥) → (k ≡ 6 → ⊥) → (k ≡ 7 → ⊥) → (k ≡ 8 → ⊥) → 1 ≡ valueRefusal n k p
+  refusal-other k n0 n1 n2 n3 n4 n5 n6 n7 n8 = refusal-above k (past 8 k (past 7 k (past 6 k (past 5 k (past 4 k (past 3 k (past 2 k (past 1 k (past 0 k (omega arith) n0) n1) n2) n3) n4) n5) n6) n7) n8)
 
 -- a part: zero is undefined, which passes refusals 2 and 3
 

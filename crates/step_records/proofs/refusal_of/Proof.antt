@@ -1,15 +1,13 @@
+use borrow.Author.Tests.{lt-ltb, le-ltb}
+use borrow.Author.Needs.{needs}
 use Rattle.step_records.proofs.refusal_of.Statement.{statement}
 use Rattle.step_records.proofs.refusal_of.Tie as tie
-use Rattle.step_records.proofs.refusal_of.Reads as reads
-use Rattle.step_records.proofs.refusal_of.Lts as lts
 
--- src/lib.rt:33:9
 returns : tie.Need-returns
-returns c = ?
+returns c = rw (lt-ltb _ _ (c .if1 .taken))
 
--- src/lib.rt:29:1
 returns-2 : tie.Need-returns-2
-returns-2 c = ?
+returns-2 c = rw (le-ltb _ _ (c .if1 .left))
 
 pub refusal-of-spec : {M : Type 1} → statement M
 refusal-of-spec = tie.close (tie.spec returns returns-2)

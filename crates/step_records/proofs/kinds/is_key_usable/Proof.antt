@@ -1,25 +1,17 @@
+use borrow.Author.Tests.{ne-eqb}
+use Rattle.step_records.proofs.KindLaws.{key-kind}
 use borrow.Author.Needs.{needs}
 use Rattle.step_records.proofs.kinds.is_key_usable.Statement.{statement}
 use Rattle.step_records.proofs.kinds.is_key_usable.Tie as tie
-use Rattle.step_records.proofs.kinds.is_key_usable.Reads as reads
-use Rattle.step_records.proofs.kinds.is_key_usable.Lts as lts
-use Rattle.step_records.proofs.parts.uses_key.Reads as uses-key-reads
 
--- src/kinds.rt:19:8
-uses-key-requires : tie.Need-uses-key-requires
-uses-key-requires c κs = search needs
-
--- src/kinds.rt:21:13
 returns : tie.Need-returns
-returns c = ?
+returns c = rw (← c .before .before .before .uses-key .ensures, c .before .before .if1 .taken, ← key-kind _ _, c .if2 .taken)
 
--- src/kinds.rt:23:9
 returns-2 : tie.Need-returns-2
-returns-2 c = ?
+returns-2 c = rw (← c .before .before .before .before .uses-key .ensures, c .before .before .before .if1 .taken, ← key-kind _ _, ne-eqb _ _ (c .before .if2 .left))
 
--- src/kinds.rt:16:1
 returns-3 : tie.Need-returns-3
-returns-3 c = ?
+returns-3 c = rw (← c .before .uses-key .ensures, c .if1 .left)
 
 pub is-key-usable-spec : {M : Type 1} → statement M
-is-key-usable-spec = tie.close (tie.spec uses-key-requires returns returns-2 returns-3)
+is-key-usable-spec = tie.close (tie.spec (λ c κs. search needs) returns returns-2 returns-3)

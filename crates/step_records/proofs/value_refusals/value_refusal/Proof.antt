@@ -1,101 +1,38 @@
+use mathlib.Core.Path.{_∙_}
+use Rattle.step_records.proofs.ValueLaws.{refusal-0, refusal-1, refusal-2, refusal-3, refusal-4, refusal-5, refusal-6, refusal-7, refusal-8, refusal-other}
 use borrow.Author.Needs.{needs}
 use Rattle.step_records.proofs.value_refusals.value_refusal.Statement.{statement}
 use Rattle.step_records.proofs.value_refusals.value_refusal.Tie as tie
-use Rattle.step_records.proofs.value_refusals.value_refusal.Reads as reads
-use Rattle.step_records.proofs.value_refusals.value_refusal.Lts as lts
-use Rattle.step_records.proofs.value_refusals.number_refusal.Reads as number-refusal-reads
 
--- src/value_refusals.rt:36:14
-number-refusal-requires : tie.Need-number-refusal-requires
-number-refusal-requires c κs = search needs
-
--- src/value_refusals.rt:37:14
-number-refusal-requires-2 : tie.Need-number-refusal-requires-2
-number-refusal-requires-2 c κs = search needs
-
--- src/value_refusals.rt:38:14
-number-refusal-requires-3 : tie.Need-number-refusal-requires-3
-number-refusal-requires-3 c κs = search needs
-
--- src/value_refusals.rt:39:14
-number-refusal-requires-4 : tie.Need-number-refusal-requires-4
-number-refusal-requires-4 c κs = search needs
-
--- src/value_refusals.rt:41:14
-number-refusal-requires-5 : tie.Need-number-refusal-requires-5
-number-refusal-requires-5 c κs = search needs
-
--- src/value_refusals.rt:42:14
-number-refusal-requires-6 : tie.Need-number-refusal-requires-6
-number-refusal-requires-6 c κs = search needs
-
--- src/value_refusals.rt:43:14
-number-refusal-requires-7 : tie.Need-number-refusal-requires-7
-number-refusal-requires-7 c κs = search needs
-
--- src/value_refusals.rt:44:14
-number-refusal-requires-8 : tie.Need-number-refusal-requires-8
-number-refusal-requires-8 c κs = search needs
-
--- src/value_refusals.rt:30:1
 returns : tie.Need-returns
-returns c = ?
+returns c = rw (c .before .match .keys1) (c .number-refusal .ensures ∙ refusal-0 _ _)
 
--- src/value_refusals.rt:30:1
 returns-2 : tie.Need-returns-2
-returns-2 c = ?
+returns-2 c = rw (c .before .match .keys2) (c .number-refusal2 .ensures ∙ refusal-1 _ _)
 
--- src/value_refusals.rt:30:1
 returns-3 : tie.Need-returns-3
-returns-3 c = ?
+returns-3 c = rw (c .before .match .keys3) (c .number-refusal3 .ensures ∙ refusal-2 _ _)
 
--- src/value_refusals.rt:30:1
 returns-4 : tie.Need-returns-4
-returns-4 c = ?
+returns-4 c = rw (c .before .match .keys4) (c .number-refusal4 .ensures ∙ refusal-3 _ _)
 
--- src/value_refusals.rt:30:1
 returns-5 : tie.Need-returns-5
-returns-5 c = ?
+returns-5 c = rw (c .match .keys5) (refusal-4 _ _)
 
--- src/value_refusals.rt:30:1
 returns-6 : tie.Need-returns-6
-returns-6 c = ?
+returns-6 c = rw (c .before .match .keys6) (c .number-refusal5 .ensures ∙ refusal-5 _ _)
 
--- src/value_refusals.rt:30:1
 returns-7 : tie.Need-returns-7
-returns-7 c = ?
+returns-7 c = rw (c .before .match .keys7) (c .number-refusal6 .ensures ∙ refusal-6 _ _)
 
--- src/value_refusals.rt:30:1
 returns-8 : tie.Need-returns-8
-returns-8 c = ?
+returns-8 c = rw (c .before .match .keys8) (c .number-refusal7 .ensures ∙ refusal-7 _ _)
 
--- src/value_refusals.rt:30:1
 returns-9 : tie.Need-returns-9
-returns-9 c = ?
+returns-9 c = rw (c .before .match .keys9) (c .number-refusal8 .ensures ∙ refusal-8 _ _)
 
--- src/value_refusals.rt:30:1
 returns-10 : tie.Need-returns-10
-returns-10 c = ?
+returns-10 c = refusal-other _ _ _ (c .match .rest .0 .0 .0 .0 .0 .0 .0 .0 .1) (c .match .rest .0 .0 .0 .0 .0 .0 .0 .1) (c .match .rest .0 .0 .0 .0 .0 .0 .1) (c .match .rest .0 .0 .0 .0 .0 .1) (c .match .rest .0 .0 .0 .0 .1) (c .match .rest .0 .0 .0 .1) (c .match .rest .0 .0 .1) (c .match .rest .0 .1) (c .match .rest .1)
 
 pub value-refusal-spec : {M : Type 1} → statement M
-value-refusal-spec =
-    tie.close
-    (tie.spec
-    number-refusal-requires
-    number-refusal-requires-2
-    number-refusal-requires-3
-    number-refusal-requires-4
-    number-refusal-requires-5
-    number-refusal-requires-6
-    number-refusal-requires-7
-    number-refusal-requires-8
-    returns
-    returns-2
-    returns-3
-    returns-4
-    returns-5
-    returns-6
-    returns-7
-    returns-8
-    returns-9
-    returns-10)
+value-refusal-spec = tie.close (tie.spec (λ c κs. search needs) (λ c κs. search needs) (λ c κs. search needs) (λ c κs. search needs) (λ c κs. search needs) (λ c κs. search needs) (λ c κs. search needs) (λ c κs. search needs) returns returns-2 returns-3 returns-4 returns-5 returns-6 returns-7 returns-8 returns-9 returns-10)
