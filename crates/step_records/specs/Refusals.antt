@@ -3,7 +3,8 @@ use Prim.Native.Nat.{ℕ, _+_}
 use mathlib.Core.Bool.{Bool, true, false, cond, _&&_}
 use mathlib.Core.List.{List}
 use lib.Dec.{leb, ltb}
-use Rattle.value.specs.Words.{valueOf, isFormed}
+use Rattle.value.specs.PropertyKey.{keyOf}
+use Rattle.value.specs.Words.{kindOf, valueOf, isFormed}
 use Rattle.record.specs.declared.Refusal.{Refusal}
 use Rattle.record.specs.declared.Refusal.the-variants.{Passed, Failed}
 use Rattle.record.specs.Bytes.{valueAt, isPartAt}
@@ -33,6 +34,19 @@ valueRefusal n kind payload = first (isFormed kind payload) (isMade n (valueOf k
 -- a part that is not used is zero
 abbrev pub partRefusal : Bool → Counts → List ℕ → ℕ → ℕ
 partRefusal used n bytes i = first (isPartAt used bytes i) (isMade n (valueAt bytes i)) (isKnown n (valueAt bytes i))
+
+-- a step's key, prototype, trap mask and receiver, with the kinds that they may have
+abbrev pub keyRefusal : Counts → List ℕ → ℕ
+keyRefusal n bytes = first (isValueAt bytes 2) (isMade n (valueAt bytes 2)) (isKnown n (valueAt bytes 2) && isSome (keyOf (valueAt bytes 2)))
+
+abbrev pub prototypeRefusal : Counts → List ℕ → ℕ
+prototypeRefusal n bytes = first (isValueAt bytes 11) (isMade n (valueAt bytes 11)) (isKnown n (valueAt bytes 11) && isNullOrObject (valueAt bytes 11))
+
+abbrev pub maskRefusal : Counts → List ℕ → ℕ
+maskRefusal n bytes = first (isValueAt bytes 11 && isMaskIfInteger32 (valueAt bytes 11)) (isMade n (valueAt bytes 11)) (isKnown n (valueAt bytes 11) && eqb (kindOf (valueAt bytes 11)) 3)
+
+abbrev pub receiverRefusal : Counts → List ℕ → ℕ
+receiverRefusal n bytes = first (isValueAt bytes 20) (isMade n (valueAt bytes 20)) (isKnown n (valueAt bytes 20) && not (eqb (kindOf (valueAt bytes 20)) 8))
 
 abbrev pub descriptorRefusal : Counts → List ℕ → ℕ → ℕ
 descriptorRefusal n bytes i = first (isDescriptorAt bytes i) (descriptorPasses (isMade n) (descriptorAt bytes i)) (descriptorPasses (isKnown n) (descriptorAt bytes i))
