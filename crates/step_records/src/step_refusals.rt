@@ -6,9 +6,19 @@ use byte_records::numbers;
 use byte_records::value_record;
 use record::Counts;
 use value_operations::bits;
+ghost use mathlib.Core.Path.{_≡_};
+ghost use mathlib.Core.Bool.{cond, _&&_};
+ghost use Prim.Native.Nat.{_-_, _≤_};
+ghost use lib.Dec.{ltb};
+ghost use lib.ListN.{length};
+ghost use Rattle.record.specs.Bytes.{byteAt, numberAt, areZero};
+ghost use Rattle.step_records.specs.Refusals.{first, earlier, valueRefusal, objectRefusal, keyRefusal, prototypeRefusal, maskRefusal, receiverRefusal, descriptorRefusal, stepRefusal};
 
 // Whether the bytes from `at` on are zero, a word at a time; the last word may overlap the one before it.
-fn are_zero_from(bytes: &[u8], at: usize) -> bool {
+fn are_zero_from(bytes: &[u8], at: usize) -> bool
+    requires { ⌜ (at ≤ 50) × (58 ≤ length (now bytes)) ⌝ }
+    ensures { λ r. ⌜ r ≡ areZero (now (bytes .entry)) at (58 - at) ⌝ }
+{
     let mut i: usize = at;
     while i < 50 {
         if numbers::word_at(bytes, i) != 0 {
@@ -19,12 +29,17 @@ fn are_zero_from(bytes: &[u8], at: usize) -> bool {
     numbers::word_at(bytes, 50) == 0
 }
 
-fn object_refusal(n: Counts, object: u64) -> u64 {
+fn object_refusal(n: Counts, object: u64) -> u64
+    ensures { λ r. ⌜ r ≡ objectRefusal n object ⌝ }
+{
     number_refusal(object, n.objects, 2)
 }
 
 // A string or a symbol.
-fn key_refusal(n: Counts, bytes: &[u8]) -> u64 {
+fn key_refusal(n: Counts, bytes: &[u8]) -> u64
+    requires { ⌜ length (now bytes) ≡ 58 ⌝ }
+    ensures { λ r. ⌜ r ≡ keyRefusal n (now (bytes .entry)) ⌝ }
+{
     let w = value_record::words_at(bytes, 2);
     let kind = w.kind;
     match kind {
@@ -35,7 +50,10 @@ fn key_refusal(n: Counts, bytes: &[u8]) -> u64 {
 }
 
 // Null or an object.
-fn prototype_refusal(n: Counts, bytes: &[u8]) -> u64 {
+fn prototype_refusal(n: Counts, bytes: &[u8]) -> u64
+    requires { ⌜ length (now bytes) ≡ 58 ⌝ }
+    ensures { λ r. ⌜ r ≡ prototypeRefusal n (now (bytes .entry)) ⌝ }
+{
     let w = value_record::words_at(bytes, 11);
     let kind = w.kind;
     match kind {
@@ -46,7 +64,10 @@ fn prototype_refusal(n: Counts, bytes: &[u8]) -> u64 {
 }
 
 // An Integer32 from 0 to 2047.
-fn mask_refusal(n: Counts, bytes: &[u8]) -> u64 {
+fn mask_refusal(n: Counts, bytes: &[u8]) -> u64
+    requires { ⌜ length (now bytes) ≡ 58 ⌝ }
+    ensures { λ r. ⌜ r ≡ maskRefusal n (now (bytes .entry)) ⌝ }
+{
     let w = value_record::words_at(bytes, 11);
     if w.kind == 3 {
         return number_refusal(w.payload, 2048, 1);
@@ -55,7 +76,10 @@ fn mask_refusal(n: Counts, bytes: &[u8]) -> u64 {
 }
 
 // No function receives.
-fn receiver_refusal(n: Counts, bytes: &[u8]) -> u64 {
+fn receiver_refusal(n: Counts, bytes: &[u8]) -> u64
+    requires { ⌜ length (now bytes) ≡ 58 ⌝ }
+    ensures { λ r. ⌜ r ≡ receiverRefusal n (now (bytes .entry)) ⌝ }
+{
     let w = value_record::words_at(bytes, 20);
     if w.kind == 8 {
         return 3;
@@ -63,21 +87,30 @@ fn receiver_refusal(n: Counts, bytes: &[u8]) -> u64 {
     value_refusals::value_refusal(n, w)
 }
 
-fn object_step(n: Counts, object: u64, bytes: &[u8]) -> u64 {
+fn object_step(n: Counts, object: u64, bytes: &[u8]) -> u64
+    requires { ⌜ length (now bytes) ≡ 58 ⌝ }
+    ensures { λ r. ⌜ r ≡ cond (areZero (now (bytes .entry)) 2 56) (objectRefusal n object) 1 ⌝ }
+{
     if are_zero_from(bytes, 2) {
         return object_refusal(n, object);
     }
     1
 }
 
-fn key_step(n: Counts, object: u64, bytes: &[u8]) -> u64 {
+fn key_step(n: Counts, object: u64, bytes: &[u8]) -> u64
+    requires { ⌜ length (now bytes) ≡ 58 ⌝ }
+    ensures { λ r. ⌜ r ≡ cond (areZero (now (bytes .entry)) 11 47) (earlier (objectRefusal n object) (keyRefusal n (now (bytes .entry)))) 1 ⌝ }
+{
     if are_zero_from(bytes, 11) {
         return earlier(object_refusal(n, object), key_refusal(n, bytes));
     }
     1
 }
 
-fn definition_step(n: Counts, object: u64, bytes: &[u8]) -> u64 {
+fn definition_step(n: Counts, object: u64, bytes: &[u8]) -> u64
+    requires { ⌜ length (now bytes) ≡ 58 ⌝ }
+    ensures { λ r. ⌜ r ≡ cond (areZero (now (bytes .entry)) 11 9 && areZero (now (bytes .entry)) 20 9) (earlier (objectRefusal n object) (earlier (keyRefusal n (now (bytes .entry))) (descriptorRefusal n (now (bytes .entry)) 29))) 1 ⌝ }
+{
     if value_record::is_zero_at(bytes, 11) {
         if value_record::is_zero_at(bytes, 20) {
             return earlier(
@@ -89,7 +122,10 @@ fn definition_step(n: Counts, object: u64, bytes: &[u8]) -> u64 {
     1
 }
 
-fn get_step(n: Counts, object: u64, bytes: &[u8]) -> u64 {
+fn get_step(n: Counts, object: u64, bytes: &[u8]) -> u64
+    requires { ⌜ length (now bytes) ≡ 58 ⌝ }
+    ensures { λ r. ⌜ r ≡ cond (areZero (now (bytes .entry)) 11 9 && areZero (now (bytes .entry)) 29 29) (earlier (objectRefusal n object) (earlier (keyRefusal n (now (bytes .entry))) (receiverRefusal n (now (bytes .entry))))) 1 ⌝ }
+{
     if value_record::is_zero_at(bytes, 11) {
         if are_zero_from(bytes, 29) {
             return earlier(
@@ -101,7 +137,10 @@ fn get_step(n: Counts, object: u64, bytes: &[u8]) -> u64 {
     1
 }
 
-fn set_step(n: Counts, object: u64, bytes: &[u8]) -> u64 {
+fn set_step(n: Counts, object: u64, bytes: &[u8]) -> u64
+    requires { ⌜ length (now bytes) ≡ 58 ⌝ }
+    ensures { λ r. ⌜ r ≡ cond (areZero (now (bytes .entry)) 29 29) (earlier (objectRefusal n object) (earlier (keyRefusal n (now (bytes .entry))) (earlier (valueRefusal n (byteAt (now (bytes .entry)) 11) (numberAt (now (bytes .entry)) 12 8)) (receiverRefusal n (now (bytes .entry)))))) 1 ⌝ }
+{
     if are_zero_from(bytes, 29) {
         let value = value_refusals::value_refusal(n, value_record::words_at(bytes, 11));
         return earlier(
@@ -113,41 +152,58 @@ fn set_step(n: Counts, object: u64, bytes: &[u8]) -> u64 {
 }
 
 // Whether of key, value, receiver and descriptor there is at most a value.
-fn has_value_alone(bytes: &[u8]) -> bool {
+fn has_value_alone(bytes: &[u8]) -> bool
+    requires { ⌜ length (now bytes) ≡ 58 ⌝ }
+    ensures { λ r. ⌜ r ≡ (areZero (now (bytes .entry)) 2 9 && areZero (now (bytes .entry)) 20 38) ⌝ }
+{
     if value_record::is_zero_at(bytes, 2) {
         return are_zero_from(bytes, 20);
     }
     false
 }
 
-fn creation_step(n: Counts, object: u64, bytes: &[u8]) -> u64 {
+fn creation_step(n: Counts, object: u64, bytes: &[u8]) -> u64
+    requires { ⌜ length (now bytes) ≡ 58 ⌝ }
+    ensures { λ r. ⌜ r ≡ cond (areZero (now (bytes .entry)) 2 9 && areZero (now (bytes .entry)) 20 38) (earlier (cond (ltb object 1) 4 1) (prototypeRefusal n (now (bytes .entry)))) 1 ⌝ }
+{
     if has_value_alone(bytes) {
         return earlier(number_refusal(object, 1, 1), prototype_refusal(n, bytes));
     }
     1
 }
 
-fn proxy_step(n: Counts, object: u64, bytes: &[u8]) -> u64 {
+fn proxy_step(n: Counts, object: u64, bytes: &[u8]) -> u64
+    requires { ⌜ length (now bytes) ≡ 58 ⌝ }
+    ensures { λ r. ⌜ r ≡ cond (areZero (now (bytes .entry)) 2 9 && areZero (now (bytes .entry)) 20 38) (earlier (objectRefusal n object) (maskRefusal n (now (bytes .entry)))) 1 ⌝ }
+{
     if has_value_alone(bytes) {
         return earlier(object_refusal(n, object), mask_refusal(n, bytes));
     }
     1
 }
 
-fn prototype_step(n: Counts, object: u64, bytes: &[u8]) -> u64 {
+fn prototype_step(n: Counts, object: u64, bytes: &[u8]) -> u64
+    requires { ⌜ length (now bytes) ≡ 58 ⌝ }
+    ensures { λ r. ⌜ r ≡ cond (areZero (now (bytes .entry)) 2 9 && areZero (now (bytes .entry)) 20 38) (earlier (objectRefusal n object) (prototypeRefusal n (now (bytes .entry)))) 1 ⌝ }
+{
     if has_value_alone(bytes) {
         return earlier(object_refusal(n, object), prototype_refusal(n, bytes));
     }
     1
 }
 
-fn revoking_step(proxy: bool, n: Counts, object: u64, bytes: &[u8]) -> u64 {
+fn revoking_step(proxy: bool, n: Counts, object: u64, bytes: &[u8]) -> u64
+    requires { ⌜ length (now bytes) ≡ 58 ⌝ }
+    ensures { λ r. ⌜ r ≡ earlier (cond proxy 4 3) (cond (areZero (now (bytes .entry)) 2 56) (objectRefusal n object) 1) ⌝ }
+{
     let found = object_step(n, object, bytes);
     if proxy { found } else { earlier(3, found) }
 }
 
 // Refusals 1 to 3; `proxy` says whether the step's object is one.
-pub fn step_refusal(proxy: bool, n: Counts, bytes: &[u8]) -> u64 {
+pub fn step_refusal(proxy: bool, n: Counts, bytes: &[u8]) -> u64
+    ensures { λ r. ⌜ r ≡ stepRefusal proxy n (now (bytes .entry)) ⌝ }
+{
     if bytes.len() != 58 {
         return 1;
     }
