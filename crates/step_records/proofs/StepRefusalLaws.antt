@@ -4,10 +4,11 @@ use native.Mathlib.Omega.{arith}
 use mathlib.Core.Path.{_≡_, refl, sym, ap, _∙_}
 use mathlib.Core.Bool.{Bool, true, false, cond, not, _&&_, _||_, and-assoc, and-comm}
 use mathlib.Core.Bool as bool
+use mathlib.Core.Logic.{_⊎_, inl, inr, ⊎-elim}
 use mathlib.Core.List.{List}
 use lib.Dec.{eqb, ltb}
 use lib.ListN.{length}
-use borrow.Author.Tests.{eq-eqb, ne-eqb, ltb-true, ltb-false, le-ltb}
+use borrow.Author.Tests.{eq-eqb, ne-eqb, eqb-true, eqb-false, ltb-true, ltb-false, le-ltb, le-leb, lt-leb}
 use Rattle.value.proofs.Bools.{and-true}
 use Rattle.value.specs.declared.Value.{Value}
 use Rattle.value.specs.PropertyKey.{keyOf}
@@ -123,6 +124,9 @@ and-left-comm true y z = refl
 and-left-comm false true z = refl
 and-left-comm false false z = refl
 
+past-14 : (c : ℕ) → 13 ≤ c → (c ≡ 13 → ⊥) → (c ≡ 14 → ⊥) → 14 < c
+past-14 c h s t = omega arith
+
 formed : (o k v r d m : Bool) → (o && (k && ((m && v) && (r && d)))) ≡ (o && ((k && (v && r)) && (d && m)))
 formed o k v r d m = simp (and-assoc, and-comm, and-left-comm)
 
@@ -173,6 +177,14 @@ in-proxy : (proxy : Bool) → In (cond proxy 4 3)
 in-proxy true = (omega arith, omega arith)
 in-proxy false = (omega arith, omega arith)
 
+four : (z m : Bool) → cond z (first true m true) 1 ≡ earlier 4 (cond z (first true m true) 1)
+four true true = refl
+four true false = refl
+four false m = refl
+
+pub revoking-proxy : (n : Counts) (o : ℕ) (b : List ℕ) → cond (areZero b 2 56) (objectRefusal n o) 1 ≡ earlier 4 (cond (areZero b 2 56) (objectRefusal n o) 1)
+revoking-proxy n o b = four (areZero b 2 56) (ltb o (n .objects))
+
 revoked : (proxy m : Bool) → earlier (cond proxy 4 3) (first true m true) ≡ first true m proxy
 revoked true true = refl
 revoked true false = refl
@@ -203,9 +215,9 @@ module _ (proxy : Bool) (n : Counts) (b : List ℕ) where
   no-length h = rw (ne-eqb _ _ h)
 
   module _ (l : length b ≡ 58) where
-    pub no-code : isCode (byteAt b 0) ≡ false → 1 ≡ stepRefusal proxy n b
+    pub no-code : (c : ℕ) → c ≡ byteAt b 0 → isCode c ≡ false → 1 ≡ stepRefusal proxy n b
     unfolding isStep
-    no-code h = rw (eq-eqb _ _ l, h)
+    no-code c e h = rw (eq-eqb _ _ l, ← e, h)
 
     parts : (c : ℕ) → byteAt b 0 ≡ c → isCode c ≡ true → whole c ≡ stepRefusal proxy n b
     unfolding isStep stepOf areObjectsMade areKindsUsable
@@ -263,8 +275,44 @@ module _ (proxy : Bool) (n : Counts) (b : List ℕ) where
 
   -- each code, with the parts that it uses
 
-  pub by-code : length b ≡ 58 → (c d x : ℕ) → whole d ≡ x → whole c ≡ whole d → isCode c ≡ true → byteAt b 0 ≡ c → x ≡ stepRefusal proxy n b
-  by-code l c d x e f h g = sym e ∙ (sym f ∙ parts l c g h)
+  -- c is a code, and its parts are those of d
+  abbrev Like : ℕ → ℕ → Type 0
+  Like c d = (whole c ≡ whole d) × (isCode c ≡ true)
+
+  pub by-code : length b ≡ 58 → (c d x : ℕ) → c ≡ byteAt b 0 → whole d ≡ x → Like c d → x ≡ stepRefusal proxy n b
+  by-code l c d x e f h = sym f ∙ (sym (h .0) ∙ parts l c (sym e) (h .1))
+
+  module _ (c : ℕ) where
+    pub same-code : (d : ℕ) → isCode d ≡ true → c ≡ d → Like c d
+    same-code d h e = rw e (refl, h)
+
+    like : (m d : ℕ) → Like m d → c ≡ m → Like c d
+    like m d h e = rw e h
+
+    pub object-codes : (c ≡ 4) ⊎ (c ≡ 14) → Like c 4
+    object-codes = ⊎-elim (like 4 4 (refl, refl)) (like 14 4 (refl, refl))
+
+    pub object-range : (c ≡ 1 → ⊥) → (c ≡ 2 → ⊥) → (c ≡ 3 → ⊥) → (c ≡ 5 → ⊥) → ((c ≡ 4) ⊎ (c ≡ 14) → ⊥) → 1 ≤ c → c < 8 → Like c 4
+    object-range n1 n2 n3 n5 n4 h k = by (eqb c 6) refl
+      where
+        by : (t : Bool) → eqb c 6 ≡ t → Like c 4
+        by true q = like 6 4 (refl, refl) (eqb-true c 6 q)
+        by false q =
+            let n4' : c ≡ 4 → ⊥ = λ e. n4 (inl e) in
+            let n6 : c ≡ 6 → ⊥ = eqb-false c 6 q in
+            like 7 4 (refl, refl) (omega arith)
+
+    pub key-codes : (c ≡ 8) ⊎ ((c ≡ 10) ⊎ (c ≡ 13)) → Like c 8
+    key-codes = ⊎-elim (like 8 8 (refl, refl)) (⊎-elim (like 10 8 (refl, refl)) (like 13 8 (refl, refl)))
+
+    pub code-low : c < 1 → isCode c ≡ false
+    code-low h = rw (lt-leb 1 c h)
+
+    pub code-high : ((c ≡ 4) ⊎ (c ≡ 14) → ⊥) → ((c ≡ 8) ⊎ ((c ≡ 10) ⊎ (c ≡ 13)) → ⊥) → (c ≡ 9 → ⊥) → (c ≡ 11 → ⊥) → (c ≡ 12 → ⊥) → 8 ≤ c → isCode c ≡ false
+    code-high n4 n8 n9 n11 n12 h =
+        let n8' : c ≡ 8 → ⊥ = λ e. n8 (inl e) in
+        let n10 : c ≡ 10 → ⊥ = λ e. n8 (inr (inl e)) in
+        rw (le-leb 1 c (omega arith), lt-leb c 14 (past-14 c (omega arith) (λ e. n8 (inr (inr e))) (λ e. n4 (inr e))))
 
   alone : (x : ℕ) → In x → earlier x (earlier (partRefusal false n b 2) (earlier (partRefusal false n b 11) (earlier (partRefusal false n b 20) (descriptor 0)))) ≡ cond (areZero b 2 56) x 1
   alone x h = rw tail2 (last x (areZero b 2 56) h)
