@@ -117,15 +117,26 @@ module _ (n : Counts) (b : List ℕ) (k p : ℕ) where
     unfolding valueAt isValueAt
     receiver-other s = rw (← e, ← f) (usable n k p (not (eqb (kindOf (valueOf k p)) 8)) (rw (← function-kind p k, ne-eqb k 8 s)))
 
+past-14 : (c : ℕ) → 13 ≤ c → (c ≡ 13 → ⊥) → (c ≡ 14 → ⊥) → 14 < c
+past-14 c h s t = omega arith
+
+-- no code
+module _ (c : ℕ) where
+  pub code-low : c < 1 → isCode c ≡ false
+  code-low h = rw (lt-leb 1 c h)
+
+  pub code-high : ((c ≡ 4) ⊎ (c ≡ 14) → ⊥) → ((c ≡ 8) ⊎ ((c ≡ 10) ⊎ (c ≡ 13)) → ⊥) → (c ≡ 9 → ⊥) → (c ≡ 11 → ⊥) → (c ≡ 12 → ⊥) → 8 ≤ c → isCode c ≡ false
+  code-high n4 n8 n9 n11 n12 h =
+      let n8' : c ≡ 8 → ⊥ = λ e. n8 (inl e) in
+      let n10 : c ≡ 10 → ⊥ = λ e. n8 (inr (inl e)) in
+      rw (le-leb 1 c (omega arith), lt-leb c 14 (past-14 c (omega arith) (λ e. n8 (inr (inr e))) (λ e. n4 (inr e))))
+
 -- the parts of a step by its code
 
 and-left-comm : (x y z : Bool) → (x && (y && z)) ≡ (y && (x && z))
 and-left-comm true y z = refl
 and-left-comm false true z = refl
 and-left-comm false false z = refl
-
-past-14 : (c : ℕ) → 13 ≤ c → (c ≡ 13 → ⊥) → (c ≡ 14 → ⊥) → 14 < c
-past-14 c h s t = omega arith
 
 formed : (o k v r d m : Bool) → (o && (k && ((m && v) && (r && d)))) ≡ (o && ((k && (v && r)) && (d && m)))
 formed o k v r d m = simp (and-assoc, and-comm, and-left-comm)
@@ -279,20 +290,17 @@ module _ (proxy : Bool) (n : Counts) (b : List ℕ) where
   abbrev Like : ℕ → ℕ → Type 0
   Like c d = (whole c ≡ whole d) × (isCode c ≡ true)
 
-  pub by-code : length b ≡ 58 → (c d x : ℕ) → c ≡ byteAt b 0 → whole d ≡ x → Like c d → x ≡ stepRefusal proxy n b
-  by-code l c d x e f h = sym f ∙ (sym (h .0) ∙ parts l c (sym e) (h .1))
-
   module _ (c : ℕ) where
-    pub same-code : (d : ℕ) → isCode d ≡ true → c ≡ d → Like c d
+    same-code : (d : ℕ) → isCode d ≡ true → c ≡ d → Like c d
     same-code d h e = rw e (refl, h)
 
     like : (m d : ℕ) → Like m d → c ≡ m → Like c d
     like m d h e = rw e h
 
-    pub object-codes : (c ≡ 4) ⊎ (c ≡ 14) → Like c 4
+    object-codes : (c ≡ 4) ⊎ (c ≡ 14) → Like c 4
     object-codes = ⊎-elim (like 4 4 (refl, refl)) (like 14 4 (refl, refl))
 
-    pub object-range : (c ≡ 1 → ⊥) → (c ≡ 2 → ⊥) → (c ≡ 3 → ⊥) → (c ≡ 5 → ⊥) → ((c ≡ 4) ⊎ (c ≡ 14) → ⊥) → 1 ≤ c → c < 8 → Like c 4
+    object-range : (c ≡ 1 → ⊥) → (c ≡ 2 → ⊥) → (c ≡ 3 → ⊥) → (c ≡ 5 → ⊥) → ((c ≡ 4) ⊎ (c ≡ 14) → ⊥) → 1 ≤ c → c < 8 → Like c 4
     object-range n1 n2 n3 n5 n4 h k = by (eqb c 6) refl
       where
         by : (t : Bool) → eqb c 6 ≡ t → Like c 4
@@ -302,17 +310,8 @@ module _ (proxy : Bool) (n : Counts) (b : List ℕ) where
             let n6 : c ≡ 6 → ⊥ = eqb-false c 6 q in
             like 7 4 (refl, refl) (omega arith)
 
-    pub key-codes : (c ≡ 8) ⊎ ((c ≡ 10) ⊎ (c ≡ 13)) → Like c 8
+    key-codes : (c ≡ 8) ⊎ ((c ≡ 10) ⊎ (c ≡ 13)) → Like c 8
     key-codes = ⊎-elim (like 8 8 (refl, refl)) (⊎-elim (like 10 8 (refl, refl)) (like 13 8 (refl, refl)))
-
-    pub code-low : c < 1 → isCode c ≡ false
-    code-low h = rw (lt-leb 1 c h)
-
-    pub code-high : ((c ≡ 4) ⊎ (c ≡ 14) → ⊥) → ((c ≡ 8) ⊎ ((c ≡ 10) ⊎ (c ≡ 13)) → ⊥) → (c ≡ 9 → ⊥) → (c ≡ 11 → ⊥) → (c ≡ 12 → ⊥) → 8 ≤ c → isCode c ≡ false
-    code-high n4 n8 n9 n11 n12 h =
-        let n8' : c ≡ 8 → ⊥ = λ e. n8 (inl e) in
-        let n10 : c ≡ 10 → ⊥ = λ e. n8 (inr (inl e)) in
-        rw (le-leb 1 c (omega arith), lt-leb c 14 (past-14 c (omega arith) (λ e. n8 (inr (inr e))) (λ e. n4 (inr e))))
 
   alone : (x : ℕ) → In x → earlier x (earlier (partRefusal false n b 2) (earlier (partRefusal false n b 11) (earlier (partRefusal false n b 20) (descriptor 0)))) ≡ cond (areZero b 2 56) x 1
   alone x h = rw tail2 (last x (areZero b 2 56) h)
@@ -320,56 +319,70 @@ module _ (proxy : Bool) (n : Counts) (b : List ℕ) where
   with-value : (x w : ℕ) → In x → In w → earlier x (earlier (partRefusal false n b 2) (earlier w (earlier (partRefusal false n b 20) (descriptor 0)))) ≡ cond (areZero b 2 9 && areZero b 20 38) (earlier x w) 1
   with-value x w h k = rw (tail20, unused 2, around (areZero b 2 9) (areZero b 20 38) w k) (pull x w (areZero b 2 9 && areZero b 20 38) h)
 
-  pub object-code : whole 4 ≡ cond (areZero b 2 56) (objectRefusal n (byteAt b 1)) 1
-  unfolding isPartAt
-  object-code = alone (objectRefusal n (byteAt b 1)) in-object
+  module _ (l : length b ≡ 58) (c : ℕ) (e : c ≡ byteAt b 0) where
+    by-code : (d x : ℕ) → Like c d → whole d ≡ x → x ≡ stepRefusal proxy n b
+    by-code d x h f = sym f ∙ (sym (h .0) ∙ parts l c (sym e) (h .1))
 
-  pub revoking-code : whole 3 ≡ earlier (cond proxy 4 3) (cond (areZero b 2 56) (objectRefusal n (byteAt b 1)) 1)
-  unfolding isPartAt
-  revoking-code =
-      alone (first true (ltb (byteAt b 1) (n .objects)) proxy) (in-first true (ltb (byteAt b 1) (n .objects)) proxy)
-      ∙ sym (rw (pull (cond proxy 4 3) (objectRefusal n (byteAt b 1)) (areZero b 2 56) (in-proxy proxy), revoked proxy (ltb (byteAt b 1) (n .objects))))
+    by-object : Like c 4 → cond (areZero b 2 56) (objectRefusal n (byteAt b 1)) 1 ≡ stepRefusal proxy n b
+    unfolding isPartAt
+    by-object h = by-code 4 _ h (alone (objectRefusal n (byteAt b 1)) in-object)
 
-  pub creation-code : whole 1 ≡ cond (areZero b 2 9 && areZero b 20 38) (earlier (cond (ltb (byteAt b 1) 1) 4 1) (prototypeRefusal n b)) 1
-  unfolding isPartAt valueOf isFormed isMade isKnown
-  creation-code =
-      rw (refusal-0 n (byteAt b 1))
-      (with-value (first (eqb (byteAt b 1) 0) true true) (prototypeRefusal n b) (in-first (eqb (byteAt b 1) 0) true true) in-prototype)
+    pub object-code : (c ≡ 4) ⊎ (c ≡ 14) → cond (areZero b 2 56) (objectRefusal n (byteAt b 1)) 1 ≡ stepRefusal proxy n b
+    object-code h = by-object (object-codes c h)
 
-  pub proxy-code : whole 2 ≡ cond (areZero b 2 9 && areZero b 20 38) (earlier (objectRefusal n (byteAt b 1)) (maskRefusal n b)) 1
-  unfolding isPartAt
-  proxy-code = with-value (objectRefusal n (byteAt b 1)) (maskRefusal n b) in-object in-mask
+    pub object-range-code : (c ≡ 1 → ⊥) → (c ≡ 2 → ⊥) → (c ≡ 3 → ⊥) → (c ≡ 5 → ⊥) → ((c ≡ 4) ⊎ (c ≡ 14) → ⊥) → 1 ≤ c → c < 8
+        → cond (areZero b 2 56) (objectRefusal n (byteAt b 1)) 1 ≡ stepRefusal proxy n b
+    object-range-code n1 n2 n3 n5 n4 h k = by-object (object-range c n1 n2 n3 n5 n4 h k)
 
-  pub prototype-code : whole 5 ≡ cond (areZero b 2 9 && areZero b 20 38) (earlier (objectRefusal n (byteAt b 1)) (prototypeRefusal n b)) 1
-  unfolding isPartAt
-  prototype-code = with-value (objectRefusal n (byteAt b 1)) (prototypeRefusal n b) in-object in-prototype
+    pub revoking-code : c ≡ 3 → earlier (cond proxy 4 3) (cond (areZero b 2 56) (objectRefusal n (byteAt b 1)) 1) ≡ stepRefusal proxy n b
+    unfolding isPartAt
+    revoking-code h =
+        by-code 3 _ (same-code c 3 refl h)
+        (alone (first true (ltb (byteAt b 1) (n .objects)) proxy) (in-first true (ltb (byteAt b 1) (n .objects)) proxy)
+        ∙ sym (rw (pull (cond proxy 4 3) (objectRefusal n (byteAt b 1)) (areZero b 2 56) (in-proxy proxy), revoked proxy (ltb (byteAt b 1) (n .objects)))))
 
-  pub key-code : whole 8 ≡ cond (areZero b 11 47) (earlier (objectRefusal n (byteAt b 1)) (keyRefusal n b)) 1
-  unfolding isPartAt
-  key-code =
-      ap (λ (x : ℕ). earlier (objectRefusal n (byteAt b 1)) (earlier (keyRefusal n b) x)) tail11
-      ∙ (rw (last (keyRefusal n b) (areZero b 11 47) in-key) (pull (objectRefusal n (byteAt b 1)) (keyRefusal n b) (areZero b 11 47) in-object))
+    pub creation-code : c ≡ 1 → cond (areZero b 2 9 && areZero b 20 38) (earlier (cond (ltb (byteAt b 1) 1) 4 1) (prototypeRefusal n b)) 1 ≡ stepRefusal proxy n b
+    unfolding isPartAt valueOf isFormed isMade isKnown
+    creation-code h =
+        rw (refusal-0 n (byteAt b 1))
+        (by-code 1 _ (same-code c 1 refl h)
+        (with-value (first (eqb (byteAt b 1) 0) true true) (prototypeRefusal n b) (in-first (eqb (byteAt b 1) 0) true true) in-prototype))
 
-  pub definition-code : whole 9 ≡ cond (areZero b 11 9 && areZero b 20 9) (earlier (objectRefusal n (byteAt b 1)) (earlier (keyRefusal n b) (descriptorRefusal n b 29))) 1
-  unfolding isPartAt
-  definition-code =
-      pulls (objectRefusal n (byteAt b 1)) (keyRefusal n b) _ (descriptorRefusal n b 29) (areZero b 11 9 && areZero b 20 9) in-object in-key rest
-    where
-      rest : earlier (partRefusal false n b 11) (earlier (partRefusal false n b 20) (descriptorRefusal n b 29)) ≡ cond (areZero b 11 9 && areZero b 20 9) (descriptorRefusal n b 29) 1
-      rest = rw (unused 11, unused 20) (before (areZero b 11 9) (areZero b 20 9) (descriptorRefusal n b 29) in-descriptor)
+    pub proxy-code : c ≡ 2 → cond (areZero b 2 9 && areZero b 20 38) (earlier (objectRefusal n (byteAt b 1)) (maskRefusal n b)) 1 ≡ stepRefusal proxy n b
+    unfolding isPartAt
+    proxy-code h = by-code 2 _ (same-code c 2 refl h) (with-value (objectRefusal n (byteAt b 1)) (maskRefusal n b) in-object in-mask)
 
-  pub get-code : whole 11 ≡ cond (areZero b 11 9 && areZero b 29 29) (earlier (objectRefusal n (byteAt b 1)) (earlier (keyRefusal n b) (receiverRefusal n b))) 1
-  unfolding isPartAt
-  get-code =
-      pulls (objectRefusal n (byteAt b 1)) (keyRefusal n b) _ (receiverRefusal n b) (areZero b 11 9 && areZero b 29 29) in-object in-key rest
-    where
-      rest : earlier (partRefusal false n b 11) (earlier (receiverRefusal n b) (descriptor 0)) ≡ cond (areZero b 11 9 && areZero b 29 29) (receiverRefusal n b) 1
-      rest = rw (unused 11, tail29) (around (areZero b 11 9) (areZero b 29 29) (receiverRefusal n b) in-receiver)
+    pub prototype-code : c ≡ 5 → cond (areZero b 2 9 && areZero b 20 38) (earlier (objectRefusal n (byteAt b 1)) (prototypeRefusal n b)) 1 ≡ stepRefusal proxy n b
+    unfolding isPartAt
+    prototype-code h = by-code 5 _ (same-code c 5 refl h) (with-value (objectRefusal n (byteAt b 1)) (prototypeRefusal n b) in-object in-prototype)
 
-  pub set-code : whole 12 ≡ cond (areZero b 29 29) (earlier (objectRefusal n (byteAt b 1)) (earlier (keyRefusal n b) (earlier (valueRefusal n (byteAt b 11) (numberAt b 12 8)) (receiverRefusal n b)))) 1
-  unfolding isPartAt isValueAt valueAt
-  set-code =
-      pulls (objectRefusal n (byteAt b 1)) (keyRefusal n b) _ (earlier (partRefusal true n b 11) (receiverRefusal n b)) (areZero b 29 29) in-object in-key rest
-    where
-      rest : earlier (partRefusal true n b 11) (earlier (receiverRefusal n b) (descriptor 0)) ≡ cond (areZero b 29 29) (earlier (partRefusal true n b 11) (receiverRefusal n b)) 1
-      rest = rw (tail29, last (receiverRefusal n b) (areZero b 29 29) in-receiver) (pull (partRefusal true n b 11) (receiverRefusal n b) (areZero b 29 29) in-value)
+    pub key-code : (c ≡ 8) ⊎ ((c ≡ 10) ⊎ (c ≡ 13)) → cond (areZero b 11 47) (earlier (objectRefusal n (byteAt b 1)) (keyRefusal n b)) 1 ≡ stepRefusal proxy n b
+    unfolding isPartAt
+    key-code h =
+        by-code 8 _ (key-codes c h)
+        (ap (λ (x : ℕ). earlier (objectRefusal n (byteAt b 1)) (earlier (keyRefusal n b) x)) tail11
+        ∙ (rw (last (keyRefusal n b) (areZero b 11 47) in-key) (pull (objectRefusal n (byteAt b 1)) (keyRefusal n b) (areZero b 11 47) in-object)))
+
+    pub definition-code : c ≡ 9 → cond (areZero b 11 9 && areZero b 20 9) (earlier (objectRefusal n (byteAt b 1)) (earlier (keyRefusal n b) (descriptorRefusal n b 29))) 1 ≡ stepRefusal proxy n b
+    unfolding isPartAt
+    definition-code h =
+        by-code 9 _ (same-code c 9 refl h) (pulls (objectRefusal n (byteAt b 1)) (keyRefusal n b) _ (descriptorRefusal n b 29) (areZero b 11 9 && areZero b 20 9) in-object in-key rest)
+      where
+        rest : earlier (partRefusal false n b 11) (earlier (partRefusal false n b 20) (descriptorRefusal n b 29)) ≡ cond (areZero b 11 9 && areZero b 20 9) (descriptorRefusal n b 29) 1
+        rest = rw (unused 11, unused 20) (before (areZero b 11 9) (areZero b 20 9) (descriptorRefusal n b 29) in-descriptor)
+
+    pub get-code : c ≡ 11 → cond (areZero b 11 9 && areZero b 29 29) (earlier (objectRefusal n (byteAt b 1)) (earlier (keyRefusal n b) (receiverRefusal n b))) 1 ≡ stepRefusal proxy n b
+    unfolding isPartAt
+    get-code h =
+        by-code 11 _ (same-code c 11 refl h) (pulls (objectRefusal n (byteAt b 1)) (keyRefusal n b) _ (receiverRefusal n b) (areZero b 11 9 && areZero b 29 29) in-object in-key rest)
+      where
+        rest : earlier (partRefusal false n b 11) (earlier (receiverRefusal n b) (descriptor 0)) ≡ cond (areZero b 11 9 && areZero b 29 29) (receiverRefusal n b) 1
+        rest = rw (unused 11, tail29) (around (areZero b 11 9) (areZero b 29 29) (receiverRefusal n b) in-receiver)
+
+    pub set-code : c ≡ 12 → cond (areZero b 29 29) (earlier (objectRefusal n (byteAt b 1)) (earlier (keyRefusal n b) (earlier (valueRefusal n (byteAt b 11) (numberAt b 12 8)) (receiverRefusal n b)))) 1 ≡ stepRefusal proxy n b
+    unfolding isPartAt isValueAt valueAt
+    set-code h =
+        by-code 12 _ (same-code c 12 refl h) (pulls (objectRefusal n (byteAt b 1)) (keyRefusal n b) _ (earlier (partRefusal true n b 11) (receiverRefusal n b)) (areZero b 29 29) in-object in-key rest)
+      where
+        rest : earlier (partRefusal true n b 11) (earlier (receiverRefusal n b) (descriptor 0)) ≡ cond (areZero b 29 29) (earlier (partRefusal true n b 11) (receiverRefusal n b)) 1
+        rest = rw (tail29, last (receiverRefusal n b) (areZero b 29 29) in-receiver) (pull (partRefusal true n b 11) (receiverRefusal n b) (areZero b 29 29) in-value)
