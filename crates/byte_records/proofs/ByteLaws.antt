@@ -40,7 +40,7 @@ unfolding areZero numberAt
 zero-number b i zero = refl
 zero-number b i (suc n) = ap (λ (t : Bool). eqb (byteAt b i) 0 && t) (zero-number b (suc i) n) ∙ sum-zero (byteAt b i) (numberAt b (suc i) n)
 
-zero-join : (b : List ℕ) (i m n : ℕ) → areZero b i (m + n) ≡ (areZero b i m && areZero b (i + m) n)
+pub zero-join : (b : List ℕ) (i m n : ℕ) → areZero b i (m + n) ≡ (areZero b i m && areZero b (i + m) n)
 unfolding areZero
 zero-join b i zero n = let e : i + 0 ≡ i = omega arith in let f : 0 + n ≡ n = omega arith in rw (e, f)
 zero-join b i (suc m) n =
@@ -48,30 +48,9 @@ zero-join b i (suc m) n =
     let f : suc m + n ≡ suc (m + n) = omega arith in
     rw (e, f) (ap (λ (t : Bool). eqb (byteAt b i) 0 && t) (zero-join b (suc i) m n) ∙ sym (and-assoc (eqb (byteAt b i) 0) (areZero b (suc i) m) _))
 
--- two stretches that have k bytes in common
-zero-overlap : (b : List ℕ) (i m k n : ℕ) → areZero b i (m + (k + n)) ≡ (areZero b i (m + k) && areZero b (i + m) (k + n))
-zero-overlap b i m k n =
-    zero-join b i m (k + n)
-    ∙ (rw (zero-join b i m k, zero-join b (i + m) k n) (by (areZero b i m) (areZero b (i + m) k) (areZero b (i + m + k) n)))
-  where
-    by : (s t u : Bool) → (s && (t && u)) ≡ ((s && t) && (t && u))
-    by true true u = refl
-    by true false u = refl
-    by false t u = refl
-
-abbrev wordZero : List ℕ → ℕ → Bool
-wordZero b i = eqb (numberAt b i 8) 0
-
-pub zero-value : (b : List ℕ) (i : ℕ) → areZero b i 9 ≡ (eqb (byteAt b i) 0 && wordZero b (i + 1))
+pub zero-value : (b : List ℕ) (i : ℕ) → areZero b i 9 ≡ (eqb (byteAt b i) 0 && eqb (numberAt b (i + 1) 8) 0)
 unfolding areZero
 zero-value b i = rw (add-one i, ← zero-number b (suc i) 8)
-
-pub zero-words : (b : List ℕ) (i : ℕ) → areZero b i 29 ≡ (wordZero b i && (wordZero b (i + 8) && (wordZero b (i + 16) && wordZero b (i + 21))))
-zero-words b i =
-    let e : i + 8 + 8 ≡ i + 16 = omega arith in
-    let f : i + 16 + 5 ≡ i + 21 = omega arith in
-    zero-join b i 8 21
-    ∙ (rw (zero-join b (i + 8) 8 13, e, zero-overlap b (i + 16) 5 3 5, f, zero-number b i 8, zero-number b (i + 8) 8, zero-number b (i + 16) 8, zero-number b (i + 21) 8))
 
 pub store-step : (l : List ℕ) (i k x : ℕ) → k < 8 → sets l (i + k) (bytesOf (8 - k) x) ≡ sets (set l (i + k) (x % 256)) (i + (k + 1)) (bytesOf (8 - (k + 1)) (x / 256))
 unfolding bytesOf

@@ -1,5 +1,4 @@
 // A descriptor in 29 bytes: a presence mask, a byte of booleans, then value, get and set.
-use crate::numbers;
 use crate::value_record;
 use descriptors::fields;
 use descriptors::flags;
@@ -13,7 +12,6 @@ ghost use mathlib.Core.Bool.{not, _||_};
 ghost use Prim.Native.Nat.{_+_, _<_, _≤_, _/_, _%_};
 ghost use lib.Dec.{eqb};
 ghost use lib.ListN.{length};
-ghost use Rattle.record.specs.Bytes.{areZero};
 ghost use Rattle.byte_records.specs.Head.{isHeadAt};
 ghost use Rattle.record.specs.Descriptor.{flagOf, fieldOf, descriptorAt, areFlagsFormed, arePartsFormed, isDescriptorAt, maskOf, flagsOf, descriptorBytes};
 ghost use lib.Seq.{sets};
@@ -114,21 +112,6 @@ pub fn is_descriptor_at(bytes: &[u8], at: usize) -> bool
 {
     if is_head_at(bytes, at) {
         return are_parts_formed(bits::wide(bytes[at]), bytes, at);
-    }
-    false
-}
-
-// Whether the 29 bytes of a descriptor are zero: three words, and a fourth that overlaps the third.
-pub fn is_zero_at(bytes: &[u8], at: usize) -> bool
-    requires { ⌜ at + 29 ≤ length (now bytes) ⌝ }
-    ensures { λ r. ⌜ r ≡ areZero (now (bytes .entry)) at 29 ⌝ }
-{
-    if numbers::word_at(bytes, at) == 0 {
-        if numbers::word_at(bytes, at + 8) == 0 {
-            if numbers::word_at(bytes, at + 16) == 0 {
-                return numbers::word_at(bytes, at + 21) == 0;
-            }
-        }
     }
     false
 }

@@ -1,7 +1,7 @@
 pub mod RefusalLaws
 pub mod ValueLaws
 pub mod KindLaws
-pub mod StepLaws
+pub mod StepRefusalLaws
 pub mod SheetLaws
 pub mod TestLaws
 pub mod PassedLaws

@@ -31,6 +31,12 @@ first-least true false c = omega arith
 first-least true true false = omega arith
 first-least true true true = omega arith
 
+pub first-most : (a b c : Bool) → first a b c ≤ 4
+first-most false b c = omega arith
+first-most true false c = omega arith
+first-most true true false = omega arith
+first-most true true true = omega arith
+
 pub first-earlier : (a b c : Bool) → first a b c ≡ earlier 4 (first a b c)
 first-earlier false b c = refl
 first-earlier true false c = refl

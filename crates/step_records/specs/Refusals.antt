@@ -1,16 +1,16 @@
 -- Refusals 1 to 3 as one number, of a value, a part, a descriptor, an answer, a step and a sheet. Assumes nothing.
 use Prim.Native.Nat.{ℕ, _+_}
-use mathlib.Core.Bool.{Bool, true, false, cond, _&&_}
+use mathlib.Core.Bool.{Bool, true, false, not, cond, _&&_}
 use mathlib.Core.List.{List}
-use lib.Dec.{leb, ltb}
-use Rattle.value.specs.Words.{valueOf, isFormed}
+use lib.Dec.{eqb, leb, ltb}
+use Rattle.value.specs.PropertyKey.{keyOf}
+use Rattle.value.specs.Words.{kindOf, valueOf, isFormed}
 use Rattle.record.specs.declared.Refusal.{Refusal}
 use Rattle.record.specs.declared.Refusal.the-variants.{Passed, Failed}
-use Rattle.record.specs.Bytes.{valueAt, isPartAt}
+use Rattle.record.specs.Bytes.{valueAt, isValueAt, isPartAt}
 use Rattle.record.specs.Descriptor.{descriptorAt, isDescriptorAt}
 use Rattle.record.specs.Tests.{Counts, isMade, isKnown, descriptorPasses}
-use Rattle.record.specs.declared.Step.{Step}
-use Rattle.record.specs.Step.{stepOf, isDescriptorFormed, isStep, areObjectsMade, isKeyUsable, isPrototypeUsable, isMaskUsable, isObjectUsable, isReceiverUsable, areKindsUsable}
+use Rattle.record.specs.Step.{stepOf, isMaskIfInteger32, isStep, areObjectsMade, isSome, isNullOrObject, areKindsUsable}
 use Rattle.record.specs.Sheet.{valuesAt, areValuesAt, keyCountAt, answerAt, isBodyAt, isSheet, sheetOf, valuesPass, answerPasses, sheetPasses}
 
 -- the first of three tests that does not pass: 1 the form, 2 what was made, 3 what is known; 4 where all pass
@@ -34,6 +34,23 @@ valueRefusal n kind payload = first (isFormed kind payload) (isMade n (valueOf k
 abbrev pub partRefusal : Bool → Counts → List ℕ → ℕ → ℕ
 partRefusal used n bytes i = first (isPartAt used bytes i) (isMade n (valueAt bytes i)) (isKnown n (valueAt bytes i))
 
+-- a step's object
+abbrev pub objectRefusal : Counts → ℕ → ℕ
+objectRefusal n object = first true (ltb object (n .objects)) true
+
+-- a step's key, prototype, trap mask and receiver, with the kinds that they may have
+abbrev pub keyRefusal : Counts → List ℕ → ℕ
+keyRefusal n bytes = first (isValueAt bytes 2) (isMade n (valueAt bytes 2)) (isSome (keyOf (valueAt bytes 2)) && isKnown n (valueAt bytes 2))
+
+abbrev pub prototypeRefusal : Counts → List ℕ → ℕ
+prototypeRefusal n bytes = first (isValueAt bytes 11) (isMade n (valueAt bytes 11)) (isNullOrObject (valueAt bytes 11) && isKnown n (valueAt bytes 11))
+
+abbrev pub maskRefusal : Counts → List ℕ → ℕ
+maskRefusal n bytes = first (isMaskIfInteger32 (valueAt bytes 11) && isValueAt bytes 11) (isMade n (valueAt bytes 11)) (eqb (kindOf (valueAt bytes 11)) 3 && isKnown n (valueAt bytes 11))
+
+abbrev pub receiverRefusal : Counts → List ℕ → ℕ
+receiverRefusal n bytes = first (isValueAt bytes 20) (isMade n (valueAt bytes 20)) (not (eqb (kindOf (valueAt bytes 20)) 8) && isKnown n (valueAt bytes 20))
+
 abbrev pub descriptorRefusal : Counts → List ℕ → ℕ → ℕ
 descriptorRefusal n bytes i = first (isDescriptorAt bytes i) (descriptorPasses (isMade n) (descriptorAt bytes i)) (descriptorPasses (isKnown n) (descriptorAt bytes i))
 
@@ -47,14 +64,6 @@ keysRefusal counts bytes i = first (leb (keyCountAt bytes i) 256 && areValuesAt 
 
 abbrev pub answerRefusal : Counts → List ℕ → ℕ → ℕ
 answerRefusal n bytes i = first (isBodyAt bytes i) (answerPasses (isMade n) (answerAt bytes i)) (answerPasses (isKnown n) (answerAt bytes i))
-
--- of the descriptor of a step
-abbrev pub stepDescriptorRefusal : ℕ → Counts → List ℕ → ℕ
-stepDescriptorRefusal code n bytes = first (isDescriptorFormed code bytes) (descriptorPasses (isMade n) (descriptorAt bytes 29)) (descriptorPasses (isKnown n) (descriptorAt bytes 29))
-
--- the kinds that a step's code asks for; `proxy` says whether the step's object is one
-abbrev pub areKindsFit : Bool → Step → Bool
-areKindsFit proxy s = isKeyUsable s && (isPrototypeUsable s && (isMaskUsable s && (isObjectUsable proxy s && isReceiverUsable s)))
 
 abbrev pub stepRefusal : Bool → Counts → List ℕ → ℕ
 stepRefusal proxy n bytes = first (isStep bytes) (areObjectsMade n (stepOf bytes)) (areKindsUsable proxy n (stepOf bytes))

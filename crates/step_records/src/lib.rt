@@ -1,6 +1,6 @@
 // The refusals over a call's records, in their order: 1 to 4 over the step, then 1 to 3 over the sheet.
-// step_refusals: 1 to 3 over the step, of which kinds: 3 by kinds, parts: which parts a code uses. sheet_refusals: 1 to 3 over the sheet.
-// value_refusals: 1 to 3 over a value and a descriptor in bytes. value_tests: 2 to 4 over a decoded descriptor. reading: the step of its bytes.
+// step_refusals: 1 to 3 over the step, by its code. sheet_refusals: 1 to 3 over the sheet.
+// value_refusals: 1 to 3 over a value and a descriptor in bytes. value_tests: 2 to 4 over a decoded descriptor.
 use record::Counts;
 use record::Refusal;
 use store::Object;
@@ -17,9 +17,6 @@ ghost use Rattle.record.specs.Tests.{firstFailing, refusal};
 ghost use Rattle.steps.specs.Step.{countsOf, isProxy, recordTests};
 ghost use Rattle.step_records.specs.Refusals.{refusalOf};
 
-mod kinds;
-mod parts;
-pub mod reading;
 pub mod sheet_refusals;
 pub mod step_refusals;
 pub mod value_refusals;

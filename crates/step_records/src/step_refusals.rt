@@ -1,94 +1,203 @@
-// Refusals 1 to 3 over a step of 58 bytes: code, object, key, value, receiver, descriptor.
-use crate::kinds;
-use crate::parts;
+// Refusals 1 to 3 over a step of 58 bytes: code, object, key, value, receiver, descriptor. Each code has its parts; the others are zero.
 use crate::value_refusals;
 use crate::value_refusals::earlier;
-use byte_records::descriptor_record;
+use crate::value_refusals::number_refusal;
+use byte_records::numbers;
 use byte_records::value_record;
 use record::Counts;
 use value_operations::bits;
 ghost use mathlib.Core.Path.{_≡_};
-ghost use mathlib.Core.Bool.{true, _&&_};
+ghost use mathlib.Core.Bool.{cond, _&&_};
+ghost use Prim.Native.Nat.{_-_, _≤_};
 ghost use lib.Dec.{ltb};
 ghost use lib.ListN.{length};
-ghost use Prim.Native.Nat.{_≤_};
-ghost use Rattle.record.specs.Tests.{isMade, isKnown};
-ghost use Rattle.record.specs.Step.{isCode, isObjectFormed, usesObject, unless, areValuesFormed, isDescriptorFormed, isMaskFormed, stepOf, stepPasses};
-ghost use Rattle.step_records.specs.Refusals.{first, stepDescriptorRefusal, areKindsFit, stepRefusal};
+ghost use Rattle.record.specs.Bytes.{byteAt, numberAt, areZero};
+ghost use Rattle.step_records.specs.Refusals.{first, earlier, valueRefusal, objectRefusal, keyRefusal, prototypeRefusal, maskRefusal, receiverRefusal, descriptorRefusal, stepRefusal};
 
-fn is_code(code: u64) -> bool
-    ensures { λ r. ⌜ r ≡ isCode code ⌝ }
+// Whether the bytes from `at` on are zero, a word at a time; the last word may overlap the one before it.
+fn are_zero_from(bytes: &[u8], at: usize) -> bool
+    requires { ⌜ (at ≤ 50) × (58 ≤ length (now bytes)) ⌝ }
+    ensures { λ r. ⌜ r ≡ areZero (now (bytes .entry)) at (58 - at) ⌝ }
 {
-    if 1 <= code {
-        return code <= 14;
+    let mut i: usize = at;
+    while i < 50 {
+        if numbers::word_at(bytes, i) != 0 {
+            return false;
+        }
+        i += 8;
+    }
+    numbers::word_at(bytes, 50) == 0
+}
+
+fn object_refusal(n: Counts, object: u64) -> u64
+    ensures { λ r. ⌜ r ≡ objectRefusal n object ⌝ }
+{
+    number_refusal(object, n.objects, 2)
+}
+
+// A string or a symbol.
+fn key_refusal(n: Counts, bytes: &[u8]) -> u64
+    requires { ⌜ length (now bytes) ≡ 58 ⌝ }
+    ensures { λ r. ⌜ r ≡ keyRefusal n (now (bytes .entry)) ⌝ }
+{
+    let w = value_record::words_at(bytes, 2);
+    let kind = w.kind;
+    match kind {
+        5 => number_refusal(w.payload, n.strings, 3),
+        6 => number_refusal(w.payload, 256, 3),
+        _ => earlier(3, value_refusals::value_refusal(n, w)),
+    }
+}
+
+// Null or an object.
+fn prototype_refusal(n: Counts, bytes: &[u8]) -> u64
+    requires { ⌜ length (now bytes) ≡ 58 ⌝ }
+    ensures { λ r. ⌜ r ≡ prototypeRefusal n (now (bytes .entry)) ⌝ }
+{
+    let w = value_record::words_at(bytes, 11);
+    let kind = w.kind;
+    match kind {
+        1 => number_refusal(w.payload, 1, 1),
+        7 => number_refusal(w.payload, n.objects, 2),
+        _ => earlier(3, value_refusals::value_refusal(n, w)),
+    }
+}
+
+// An Integer32 from 0 to 2047.
+fn mask_refusal(n: Counts, bytes: &[u8]) -> u64
+    requires { ⌜ length (now bytes) ≡ 58 ⌝ }
+    ensures { λ r. ⌜ r ≡ maskRefusal n (now (bytes .entry)) ⌝ }
+{
+    let w = value_record::words_at(bytes, 11);
+    if w.kind == 3 {
+        return number_refusal(w.payload, 2048, 1);
+    }
+    earlier(3, value_refusals::value_refusal(n, w))
+}
+
+// No function receives.
+fn receiver_refusal(n: Counts, bytes: &[u8]) -> u64
+    requires { ⌜ length (now bytes) ≡ 58 ⌝ }
+    ensures { λ r. ⌜ r ≡ receiverRefusal n (now (bytes .entry)) ⌝ }
+{
+    let w = value_record::words_at(bytes, 20);
+    if w.kind == 8 {
+        return 3;
+    }
+    value_refusals::value_refusal(n, w)
+}
+
+fn object_step(n: Counts, object: u64, bytes: &[u8]) -> u64
+    requires { ⌜ length (now bytes) ≡ 58 ⌝ }
+    ensures { λ r. ⌜ r ≡ cond (areZero (now (bytes .entry)) 2 56) (objectRefusal n object) 1 ⌝ }
+{
+    if are_zero_from(bytes, 2) {
+        return object_refusal(n, object);
+    }
+    1
+}
+
+fn key_step(n: Counts, object: u64, bytes: &[u8]) -> u64
+    requires { ⌜ length (now bytes) ≡ 58 ⌝ }
+    ensures { λ r. ⌜ r ≡ cond (areZero (now (bytes .entry)) 11 47) (earlier (objectRefusal n object) (keyRefusal n (now (bytes .entry)))) 1 ⌝ }
+{
+    if are_zero_from(bytes, 11) {
+        return earlier(object_refusal(n, object), key_refusal(n, bytes));
+    }
+    1
+}
+
+fn definition_step(n: Counts, object: u64, bytes: &[u8]) -> u64
+    requires { ⌜ length (now bytes) ≡ 58 ⌝ }
+    ensures { λ r. ⌜ r ≡ cond (areZero (now (bytes .entry)) 11 9 && areZero (now (bytes .entry)) 20 9) (earlier (objectRefusal n object) (earlier (keyRefusal n (now (bytes .entry))) (descriptorRefusal n (now (bytes .entry)) 29))) 1 ⌝ }
+{
+    if value_record::is_zero_at(bytes, 11) {
+        if value_record::is_zero_at(bytes, 20) {
+            return earlier(
+                object_refusal(n, object),
+                earlier(key_refusal(n, bytes), value_refusals::descriptor_refusal(n, bytes, 29)),
+            );
+        }
+    }
+    1
+}
+
+fn get_step(n: Counts, object: u64, bytes: &[u8]) -> u64
+    requires { ⌜ length (now bytes) ≡ 58 ⌝ }
+    ensures { λ r. ⌜ r ≡ cond (areZero (now (bytes .entry)) 11 9 && areZero (now (bytes .entry)) 29 29) (earlier (objectRefusal n object) (earlier (keyRefusal n (now (bytes .entry))) (receiverRefusal n (now (bytes .entry))))) 1 ⌝ }
+{
+    if value_record::is_zero_at(bytes, 11) {
+        if are_zero_from(bytes, 29) {
+            return earlier(
+                object_refusal(n, object),
+                earlier(key_refusal(n, bytes), receiver_refusal(n, bytes)),
+            );
+        }
+    }
+    1
+}
+
+fn set_step(n: Counts, object: u64, bytes: &[u8]) -> u64
+    requires { ⌜ length (now bytes) ≡ 58 ⌝ }
+    ensures { λ r. ⌜ r ≡ cond (areZero (now (bytes .entry)) 29 29) (earlier (objectRefusal n object) (earlier (keyRefusal n (now (bytes .entry))) (earlier (valueRefusal n (byteAt (now (bytes .entry)) 11) (numberAt (now (bytes .entry)) 12 8)) (receiverRefusal n (now (bytes .entry)))))) 1 ⌝ }
+{
+    if are_zero_from(bytes, 29) {
+        let value = value_refusals::value_refusal(n, value_record::words_at(bytes, 11));
+        return earlier(
+            object_refusal(n, object),
+            earlier(key_refusal(n, bytes), earlier(value, receiver_refusal(n, bytes))),
+        );
+    }
+    1
+}
+
+// Whether of key, value, receiver and descriptor there is at most a value.
+fn has_value_alone(bytes: &[u8]) -> bool
+    requires { ⌜ length (now bytes) ≡ 58 ⌝ }
+    ensures { λ r. ⌜ r ≡ (areZero (now (bytes .entry)) 2 9 && areZero (now (bytes .entry)) 20 38) ⌝ }
+{
+    if value_record::is_zero_at(bytes, 2) {
+        return are_zero_from(bytes, 20);
     }
     false
 }
 
-// A trap mask that is an Integer32 is 0 to 2047.
-fn is_mask_formed(code: u64, bytes: &[u8]) -> bool
-    requires { ⌜ 58 ≤ length (now bytes) ⌝ }
-    ensures { λ r. ⌜ r ≡ isMaskFormed code (now (bytes .entry)) ⌝ }
+fn creation_step(n: Counts, object: u64, bytes: &[u8]) -> u64
+    requires { ⌜ length (now bytes) ≡ 58 ⌝ }
+    ensures { λ r. ⌜ r ≡ cond (areZero (now (bytes .entry)) 2 9 && areZero (now (bytes .entry)) 20 38) (earlier (cond (ltb object 1) 4 1) (prototypeRefusal n (now (bytes .entry)))) 1 ⌝ }
 {
-    if code == 2 {
-        let w = value_record::words_at(bytes, 11);
-        if w.kind == 3 {
-            if w.payload < 4294967296 {
-                return w.payload < 2048;
-            }
-        }
-    }
-    true
-}
-
-fn object_refusal(code: u64, object: u64, n: Counts) -> u64
-    ensures { λ r. ⌜ r ≡ first (isObjectFormed code object) (unless (usesObject code) (ltb object (n .objects))) true ⌝ }
-{
-    if parts::uses_object(code) {
-        if object < n.objects {
-            return 4;
-        }
-        return 2;
-    }
-    if object == 0 {
-        return 4;
+    if has_value_alone(bytes) {
+        return earlier(number_refusal(object, 1, 1), prototype_refusal(n, bytes));
     }
     1
 }
 
-fn descriptor_refusal(code: u64, n: Counts, bytes: &[u8]) -> u64
-    requires { ⌜ 58 ≤ length (now bytes) ⌝ }
-    ensures { λ r. ⌜ r ≡ stepDescriptorRefusal code n (now (bytes .entry)) ⌝ }
+fn proxy_step(n: Counts, object: u64, bytes: &[u8]) -> u64
+    requires { ⌜ length (now bytes) ≡ 58 ⌝ }
+    ensures { λ r. ⌜ r ≡ cond (areZero (now (bytes .entry)) 2 9 && areZero (now (bytes .entry)) 20 38) (earlier (objectRefusal n object) (maskRefusal n (now (bytes .entry)))) 1 ⌝ }
 {
-    if code == 9 {
-        return value_refusals::descriptor_refusal(n, bytes, 29);
-    }
-    if descriptor_record::is_zero_at(bytes, 29) {
-        return 4;
+    if has_value_alone(bytes) {
+        return earlier(object_refusal(n, object), mask_refusal(n, bytes));
     }
     1
 }
 
-// Key, value, receiver and descriptor.
-fn values_refusal(code: u64, n: Counts, bytes: &[u8]) -> u64
-    requires { ⌜ 58 ≤ length (now bytes) ⌝ }
-    ensures { λ r. ⌜ r ≡ first (areValuesFormed code (now (bytes .entry)) && isDescriptorFormed code (now (bytes .entry))) (stepPasses (isMade n) (stepOf (now (bytes .entry)))) (stepPasses (isKnown n) (stepOf (now (bytes .entry)))) ⌝ }
+fn prototype_step(n: Counts, object: u64, bytes: &[u8]) -> u64
+    requires { ⌜ length (now bytes) ≡ 58 ⌝ }
+    ensures { λ r. ⌜ r ≡ cond (areZero (now (bytes .entry)) 2 9 && areZero (now (bytes .entry)) 20 38) (earlier (objectRefusal n object) (prototypeRefusal n (now (bytes .entry)))) 1 ⌝ }
 {
-    let key = value_refusals::part_refusal(parts::uses_key(code), n, bytes, 2);
-    let value = value_refusals::part_refusal(parts::uses_value(code), n, bytes, 11);
-    let receiver = value_refusals::part_refusal(parts::uses_receiver(code), n, bytes, 20);
-    let descriptor = descriptor_refusal(code, n, bytes);
-    earlier(key, earlier(value, earlier(receiver, descriptor)))
+    if has_value_alone(bytes) {
+        return earlier(object_refusal(n, object), prototype_refusal(n, bytes));
+    }
+    1
 }
 
-fn kinds_refusal(proxy: bool, bytes: &[u8]) -> u64
-    requires { ⌜ 58 ≤ length (now bytes) ⌝ }
-    ensures { λ r. ⌜ r ≡ first true true (areKindsFit proxy (stepOf (now (bytes .entry)))) ⌝ }
+fn revoking_step(proxy: bool, n: Counts, object: u64, bytes: &[u8]) -> u64
+    requires { ⌜ length (now bytes) ≡ 58 ⌝ }
+    ensures { λ r. ⌜ r ≡ earlier (cond proxy 4 3) (cond (areZero (now (bytes .entry)) 2 56) (objectRefusal n object) 1) ⌝ }
 {
-    if kinds::are_kinds_usable(proxy, bytes) {
-        return 4;
-    }
-    3
+    let found = object_step(n, object, bytes);
+    if proxy { found } else { earlier(3, found) }
 }
 
 // Refusals 1 to 3; `proxy` says whether the step's object is one.
@@ -100,13 +209,16 @@ pub fn step_refusal(proxy: bool, n: Counts, bytes: &[u8]) -> u64
     }
     let code = bits::wide(bytes[0]);
     let object = bits::wide(bytes[1]);
-    if is_code(code) {
-        if is_mask_formed(code, bytes) {
-            let named = object_refusal(code, object, n);
-            let values = values_refusal(code, n, bytes);
-            let usable = kinds_refusal(proxy, bytes);
-            return earlier(named, earlier(values, usable));
-        }
+    match code {
+        1 => creation_step(n, object, bytes),
+        2 => proxy_step(n, object, bytes),
+        3 => revoking_step(proxy, n, object, bytes),
+        5 => prototype_step(n, object, bytes),
+        4 | 6 | 7 | 14 => object_step(n, object, bytes),
+        8 | 10 | 13 => key_step(n, object, bytes),
+        9 => definition_step(n, object, bytes),
+        11 => get_step(n, object, bytes),
+        12 => set_step(n, object, bytes),
+        _ => 1,
     }
-    1
 }

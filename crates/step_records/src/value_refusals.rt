@@ -21,7 +21,7 @@ pub fn earlier(a: u64, b: u64) -> u64
     if a < b { a } else { b }
 }
 
-fn number_refusal(payload: u64, limit: u64, n: u64) -> u64
+pub fn number_refusal(payload: u64, limit: u64, n: u64) -> u64
     ensures { λ r. ⌜ r ≡ cond (ltb payload limit) 4 n ⌝ }
 {
     if payload < limit { 4 } else { n }
