@@ -87,6 +87,7 @@ fn receiver_refusal(n: Counts, bytes: &[u8]) -> u64
     value_refusals::value_refusal(n, w)
 }
 
+// Codes 4, 6, 7 and 14: an object alone.
 fn object_step(n: Counts, object: u64, bytes: &[u8]) -> u64
     requires { ⌜ length (now bytes) ≡ 58 ⌝ }
     ensures { λ r. ⌜ r ≡ cond (areZero (now (bytes .entry)) 2 56) (objectRefusal n object) 1 ⌝ }
@@ -97,6 +98,7 @@ fn object_step(n: Counts, object: u64, bytes: &[u8]) -> u64
     1
 }
 
+// Codes 8, 10 and 13: an object and a key.
 fn key_step(n: Counts, object: u64, bytes: &[u8]) -> u64
     requires { ⌜ length (now bytes) ≡ 58 ⌝ }
     ensures { λ r. ⌜ r ≡ cond (areZero (now (bytes .entry)) 11 47) (earlier (objectRefusal n object) (keyRefusal n (now (bytes .entry)))) 1 ⌝ }
@@ -107,6 +109,7 @@ fn key_step(n: Counts, object: u64, bytes: &[u8]) -> u64
     1
 }
 
+// Code 9: object, key and descriptor.
 fn definition_step(n: Counts, object: u64, bytes: &[u8]) -> u64
     requires { ⌜ length (now bytes) ≡ 58 ⌝ }
     ensures { λ r. ⌜ r ≡ cond (areZero (now (bytes .entry)) 11 9 && areZero (now (bytes .entry)) 20 9) (earlier (objectRefusal n object) (earlier (keyRefusal n (now (bytes .entry))) (descriptorRefusal n (now (bytes .entry)) 29))) 1 ⌝ }
@@ -115,13 +118,17 @@ fn definition_step(n: Counts, object: u64, bytes: &[u8]) -> u64
         if value_record::is_zero_at(bytes, 20) {
             return earlier(
                 object_refusal(n, object),
-                earlier(key_refusal(n, bytes), value_refusals::descriptor_refusal(n, bytes, 29)),
+                earlier(
+                    key_refusal(n, bytes),
+                    value_refusals::descriptor_refusal(n, bytes, 29),
+                ),
             );
         }
     }
     1
 }
 
+// Code 11: object, key and receiver.
 fn get_step(n: Counts, object: u64, bytes: &[u8]) -> u64
     requires { ⌜ length (now bytes) ≡ 58 ⌝ }
     ensures { λ r. ⌜ r ≡ cond (areZero (now (bytes .entry)) 11 9 && areZero (now (bytes .entry)) 29 29) (earlier (objectRefusal n object) (earlier (keyRefusal n (now (bytes .entry))) (receiverRefusal n (now (bytes .entry))))) 1 ⌝ }
@@ -137,6 +144,7 @@ fn get_step(n: Counts, object: u64, bytes: &[u8]) -> u64
     1
 }
 
+// Code 12: object, key, value and receiver.
 fn set_step(n: Counts, object: u64, bytes: &[u8]) -> u64
     requires { ⌜ length (now bytes) ≡ 58 ⌝ }
     ensures { λ r. ⌜ r ≡ cond (areZero (now (bytes .entry)) 29 29) (earlier (objectRefusal n object) (earlier (keyRefusal n (now (bytes .entry))) (earlier (valueRefusal n (byteAt (now (bytes .entry)) 11) (numberAt (now (bytes .entry)) 12 8)) (receiverRefusal n (now (bytes .entry)))))) 1 ⌝ }
@@ -145,7 +153,10 @@ fn set_step(n: Counts, object: u64, bytes: &[u8]) -> u64
         let value = value_refusals::value_refusal(n, value_record::words_at(bytes, 11));
         return earlier(
             object_refusal(n, object),
-            earlier(key_refusal(n, bytes), earlier(value, receiver_refusal(n, bytes))),
+            earlier(
+                key_refusal(n, bytes),
+                earlier(value, receiver_refusal(n, bytes)),
+            ),
         );
     }
     1
@@ -162,6 +173,7 @@ fn has_value_alone(bytes: &[u8]) -> bool
     false
 }
 
+// Code 1: a prototype.
 fn creation_step(n: Counts, object: u64, bytes: &[u8]) -> u64
     requires { ⌜ length (now bytes) ≡ 58 ⌝ }
     ensures { λ r. ⌜ r ≡ cond (areZero (now (bytes .entry)) 2 9 && areZero (now (bytes .entry)) 20 38) (earlier (cond (ltb object 1) 4 1) (prototypeRefusal n (now (bytes .entry)))) 1 ⌝ }
@@ -172,6 +184,7 @@ fn creation_step(n: Counts, object: u64, bytes: &[u8]) -> u64
     1
 }
 
+// Code 2: an object and a trap mask.
 fn proxy_step(n: Counts, object: u64, bytes: &[u8]) -> u64
     requires { ⌜ length (now bytes) ≡ 58 ⌝ }
     ensures { λ r. ⌜ r ≡ cond (areZero (now (bytes .entry)) 2 9 && areZero (now (bytes .entry)) 20 38) (earlier (objectRefusal n object) (maskRefusal n (now (bytes .entry)))) 1 ⌝ }
@@ -182,6 +195,7 @@ fn proxy_step(n: Counts, object: u64, bytes: &[u8]) -> u64
     1
 }
 
+// Code 5: an object and a prototype.
 fn prototype_step(n: Counts, object: u64, bytes: &[u8]) -> u64
     requires { ⌜ length (now bytes) ≡ 58 ⌝ }
     ensures { λ r. ⌜ r ≡ cond (areZero (now (bytes .entry)) 2 9 && areZero (now (bytes .entry)) 20 38) (earlier (objectRefusal n object) (prototypeRefusal n (now (bytes .entry)))) 1 ⌝ }
@@ -192,6 +206,7 @@ fn prototype_step(n: Counts, object: u64, bytes: &[u8]) -> u64
     1
 }
 
+// Code 3: an object that is a proxy.
 fn revoking_step(proxy: bool, n: Counts, object: u64, bytes: &[u8]) -> u64
     requires { ⌜ length (now bytes) ≡ 58 ⌝ }
     ensures { λ r. ⌜ r ≡ earlier (cond proxy 4 3) (cond (areZero (now (bytes .entry)) 2 56) (objectRefusal n object) 1) ⌝ }
