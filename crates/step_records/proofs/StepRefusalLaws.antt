@@ -1,5 +1,5 @@
 -- Refusals 1 to 3 over a step: runs of zeros, values by their kind, and the parts that each code uses. Assumes nothing.
-use Prim.Native.Nat.{ℕ, zero, suc, _+_, _-_, _<_, _≤_}
+use Prim.Native.Nat.{ℕ, _+_, _-_, _<_, _≤_}
 use native.Mathlib.Omega.{arith}
 use mathlib.Core.Path.{_≡_, refl, sym, ap, _∙_}
 use mathlib.Core.Bool.{Bool, true, false, cond, not, _&&_, _||_, and-assoc, and-comm}
@@ -10,7 +10,6 @@ use lib.Dec.{eqb, ltb}
 use lib.ListN.{length}
 use borrow.Author.Tests.{eq-eqb, ne-eqb, eqb-true, eqb-false, ltb-true, ltb-false, le-ltb, le-leb, lt-leb}
 use Rattle.value.proofs.Bools.{and-true}
-use Rattle.value.specs.declared.Value.{Value}
 use Rattle.value.specs.PropertyKey.{keyOf}
 use Rattle.value.specs.Words.{kindOf, valueOf, isFormed}
 use Rattle.record.specs.Bytes.{byteAt, numberAt, areZero, valueAt, isValueAt, isPartAt}
@@ -233,10 +232,10 @@ module _ (proxy : Bool) (n : Counts) (b : List ℕ) where
     parts : (c : ℕ) → byteAt b 0 ≡ c → isCode c ≡ true → whole c ≡ stepRefusal proxy n b
     unfolding isStep stepOf areObjectsMade areKindsUsable
     parts c e h = rw (eq-eqb _ _ l, e, h, earlier-first, earlier-first, earlier-first, earlier-first)
-      (same _ _ _ _ _
-      (formed (isObjectFormed c (byteAt b 1)) (isPartAt (usesKey c) b 2) (isPartAt (usesValue c) b 11) (isPartAt (usesReceiver c) b 20) (isDescriptorFormed c b) (isMaskFormed c b))
-      (known (isKnown n (valueAt b 2)) (isKnown n (valueAt b 11)) (isKnown n (valueAt b 20)) (descriptorPasses (isKnown n) (descriptorAt b 29))
-      (unless (usesKey c) (isSome (keyOf (valueAt b 2)))) (unless (usesPrototype c) (isNullOrObject (valueAt b 11))) (unless (usesMask c) (eqb (kindOf (valueAt b 11)) 3)) (unless (eqb c 3) proxy) (unless (usesReceiver c) (not (eqb (kindOf (valueAt b 20)) 8)))))
+        (same _ _ _ _ _
+        (formed (isObjectFormed c (byteAt b 1)) (isPartAt (usesKey c) b 2) (isPartAt (usesValue c) b 11) (isPartAt (usesReceiver c) b 20) (isDescriptorFormed c b) (isMaskFormed c b))
+        (known (isKnown n (valueAt b 2)) (isKnown n (valueAt b 11)) (isKnown n (valueAt b 20)) (descriptorPasses (isKnown n) (descriptorAt b 29))
+        (unless (usesKey c) (isSome (keyOf (valueAt b 2)))) (unless (usesPrototype c) (isNullOrObject (valueAt b 11))) (unless (usesMask c) (eqb (kindOf (valueAt b 11)) 3)) (unless (eqb c 3) proxy) (unless (usesReceiver c) (not (eqb (kindOf (valueAt b 20)) 8)))))
 
   -- the parts that are not used, by the runs of bytes that are zero
 

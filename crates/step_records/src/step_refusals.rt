@@ -12,7 +12,7 @@ ghost use Prim.Native.Nat.{_-_, _≤_};
 ghost use lib.Dec.{ltb};
 ghost use lib.ListN.{length};
 ghost use Rattle.record.specs.Bytes.{byteAt, numberAt, areZero};
-ghost use Rattle.step_records.specs.Refusals.{first, earlier, valueRefusal, objectRefusal, keyRefusal, prototypeRefusal, maskRefusal, receiverRefusal, descriptorRefusal, stepRefusal};
+ghost use Rattle.step_records.specs.Refusals.{earlier, valueRefusal, objectRefusal, keyRefusal, prototypeRefusal, maskRefusal, receiverRefusal, descriptorRefusal, stepRefusal};
 
 // Whether the bytes from `at` on are zero, a word at a time; the last word may overlap the one before it.
 fn are_zero_from(bytes: &[u8], at: usize) -> bool
@@ -115,7 +115,10 @@ fn definition_step(n: Counts, object: u64, bytes: &[u8]) -> u64
         if value_record::is_zero_at(bytes, 20) {
             return earlier(
                 object_refusal(n, object),
-                earlier(key_refusal(n, bytes), value_refusals::descriptor_refusal(n, bytes, 29)),
+                earlier(
+                    key_refusal(n, bytes),
+                    value_refusals::descriptor_refusal(n, bytes, 29),
+                ),
             );
         }
     }
@@ -145,7 +148,10 @@ fn set_step(n: Counts, object: u64, bytes: &[u8]) -> u64
         let value = value_refusals::value_refusal(n, value_record::words_at(bytes, 11));
         return earlier(
             object_refusal(n, object),
-            earlier(key_refusal(n, bytes), earlier(value, receiver_refusal(n, bytes))),
+            earlier(
+                key_refusal(n, bytes),
+                earlier(value, receiver_refusal(n, bytes)),
+            ),
         );
     }
     1
