@@ -4,7 +4,7 @@ use native.Mathlib.Omega.{arith}
 use mathlib.Core.Path.{_≡_, refl}
 use mathlib.Core.Bool.{Bool, true, false, _&&_, _||_}
 use lib.Dec.{eqb, ltb}
-use borrow.Author.Tests.{ltb-true, ltb-false, lt-ltb, le-ltb, le-leb, lt-leb, ne-eqb}
+use borrow.Author.Tests.{ltb-true, ltb-false, lt-ltb, le-leb, lt-leb, ne-eqb}
 use mir.Syntax.{w32}
 use mir.Val.{toZ}
 use Rattle.value.specs.declared.Value.{Value}
@@ -79,10 +79,6 @@ module _ (p : ℕ) where
           rw (lt-ltb p 2147483648 (omega (arith, ltb-true p 2048 d)), d, le-leb p 2047 (omega (arith, ltb-true p 2048 d)))
       by false true d q = rw (q, d, lt-leb p 2047 (omega (arith, ltb-false p 2048 d)))
       by false false d q = rw (q, d)
-
-  pub large-mask : 4294967296 ≤ p → true ≡ isMaskIfInteger32 (valueOf 3 p)
-  unfolding valueOf isMaskIfInteger32
-  large-mask h = rw (le-ltb p 4294967296 h)
 
   pub other-mask : (k : ℕ) → (k ≡ 3 → ⊥) → true ≡ isMaskIfInteger32 (valueOf k p)
   unfolding valueOf isMaskIfInteger32

@@ -12,7 +12,7 @@ ghost use Prim.Native.Nat.{_-_, _≤_};
 ghost use lib.Dec.{ltb};
 ghost use lib.ListN.{length};
 ghost use Rattle.record.specs.Bytes.{byteAt, numberAt, areZero};
-ghost use Rattle.step_records.specs.Refusals.{first, earlier, valueRefusal, objectRefusal, keyRefusal, prototypeRefusal, maskRefusal, receiverRefusal, descriptorRefusal, stepRefusal};
+ghost use Rattle.step_records.specs.Refusals.{earlier, valueRefusal, objectRefusal, keyRefusal, prototypeRefusal, maskRefusal, receiverRefusal, descriptorRefusal, stepRefusal};
 
 // Whether the bytes from `at` on are zero, a word at a time; the last word may overlap the one before it.
 fn are_zero_from(bytes: &[u8], at: usize) -> bool
