@@ -45,7 +45,7 @@ static struct step step(uint8_t code, uint8_t object, struct part key, struct pa
 }
 
 struct sheet {
-    uint8_t bytes[1 + 3 + DEMNYALUZ_MAXIMUM_KEYS * DEMNYALUZ_VALUE_BYTES];
+    uint8_t bytes[1 + 3 + DEMNYALUZ_MAXIMUM_KEYS * DEMNYALUZ_VALUE_BYTES]; /* one answer: a list of keys at the longest */
     size_t size;
 };
 
@@ -150,7 +150,7 @@ static int prepare(const char *work, struct step steps[2], struct sheet sheets[2
         proxy(0, DEMNYALUZ_TRAP(DEMNYALUZ_CODE_OWN_PROPERTY_KEYS));
         steps[0] = step(DEMNYALUZ_CODE_OWN_PROPERTY_KEYS, 1, none, none, none, none);
         struct sheet *keys = &sheets[0];
-        *keys = (struct sheet){{1, DEMNYALUZ_ANSWER_KEYS, 0, 1}, sizeof keys->bytes + 1};
+        *keys = (struct sheet){{1, DEMNYALUZ_ANSWER_KEYS, 0, 1}, 4}; /* 256 keys */
         uint8_t *at = keys->bytes + 4;
         for (uint64_t i = 0; i < DEMNYALUZ_MAXIMUM_KEYS; i++, at += DEMNYALUZ_VALUE_BYTES) memcpy(at, string(i).bytes, DEMNYALUZ_VALUE_BYTES);
         keys->size = (size_t)(at - keys->bytes);
