@@ -117,23 +117,20 @@ fn main() {
     m.must(&make, &empty); // 11
     m.must(&proxy(11, 4), &empty); // 12: an isExtensible trap
 
-    let mut plain = Memory::new();
-    for i in 0..17 {
-        plain.enter(&format!("key{i}"));
-    }
-    plain.must(&make, &empty);
-    for i in 0..17 {
-        plain.must(&step(9, 0, &value(5, i), &NONE, &NONE, &descriptor(15, 7, &value(3, i))), &empty);
-    }
-
-    let mut listing = Memory::new();
-    for i in 0..256 {
-        listing.enter(&format!("key{i}"));
-    }
-    listing.must(&make, &empty);
-    for i in 0..144 {
-        listing.must(&step(9, 0, &value(5, i), &NONE, &NONE, &descriptor(15, 7, &value(3, i))), &empty);
-    }
+    // An object of which so many of the strings are keys.
+    let holding = |strings: u64, keys: u64| {
+        let mut memory = Memory::new();
+        for i in 0..strings {
+            memory.enter(&format!("key{i}"));
+        }
+        memory.must(&make, &empty);
+        for i in 0..keys {
+            memory.must(&step(9, 0, &value(5, i), &NONE, &NONE, &descriptor(15, 7, &value(3, i))), &empty);
+        }
+        memory
+    };
+    let mut plain = holding(17, 17);
+    let mut listing = holding(256, 144);
     listing.must(&proxy(0, 1024), &empty);
     let mut keys = vec![3, 0, 1];
     for i in 0..256 {
