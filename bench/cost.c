@@ -110,9 +110,11 @@ static int prepare(const char *work, struct step steps[2], struct sheet sheets[2
     sheets[1] = empty;
     for (int i = 0; i < DEMNYALUZ_MAXIMUM_STRINGS; i++) enter("key", i);
     make();
-    if (strcmp(work, "get") == 0) {
+    if (strcmp(work, "get") == 0 || strcmp(work, "get-hop") == 0) {
         for (uint64_t i = 0; i < 17; i++) must(define(i, OPEN, i), empty);
-        steps[0] = get(0, 16);
+        uint8_t hops = strcmp(work, "get-hop") == 0;
+        if (hops) proxy(0, 0);
+        steps[0] = get(hops, 16);
         return 1;
     }
     if (strcmp(work, "get-trap") == 0 || strcmp(work, "get-forwarded") == 0) {
@@ -164,7 +166,7 @@ int main(int count, char **words) {
     static struct sheet sheets[2];
     int each = count == 3 ? prepare(words[1], steps, sheets) : 0;
     if (each == 0) {
-        fputs("usage: cost get|get-trap|get-forwarded|descriptor-trap|extensible-trap|define-delete|keys-trap TURNS\n", stderr);
+        fputs("usage: cost get|get-hop|get-trap|get-forwarded|descriptor-trap|extensible-trap|define-delete|keys-trap TURNS\n", stderr);
         return 2;
     }
     for (int i = 0; i < each; i++) must(steps[i], sheets[i]);

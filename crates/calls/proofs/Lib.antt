@@ -1,4 +1,3 @@
 pub mod EnterLaws
-pub mod HandedLaws
 pub mod AnswerLaws
 pub mod Cycle

@@ -1,18 +1,20 @@
-// How a call begins: it is counted, and goes to the methods of its object's kind.
+// How a call begins: past each proxy without its trap, counted at each, at the methods of an object's kind.
 use crate::Entered;
-use crate::Handed;
 use crate::Progress;
 use internal_methods::Failure;
 use store::Object;
+use store::OrdinaryObject;
 use store::ProxyObject;
 use store_read::ObjectFound;
+use value::Value;
 ghost use mathlib.Core.Path.{_≡_};
 ghost use mathlib.Core.Bool.{true};
-ghost use Prim.Native.Nat.{_<_, _≤_};
+ghost use Prim.Native.Nat.{_<_};
 ghost use Rattle.internal_methods.specs.Proxy.{hasTrap};
 ghost use Rattle.store.specs.Store.{lookup};
 ghost use Rattle.store.specs.Words.{isStore, storeOf};
-ghost use Rattle.calls.specs.Entering.{progress, entering, begun, handsOn, targetOf, handed};
+ghost use Rattle.store_read.specs.Answers.{objectFound};
+ghost use Rattle.calls.specs.Entering.{progress, ordinaryIn, isOrdinary, entering};
 
 // Is the trap of this number there?
 pub fn has_trap(p: ProxyObject, trap: u64) -> bool
@@ -22,69 +24,8 @@ pub fn has_trap(p: ProxyObject, trap: u64) -> bool
     (p.traps >> trap) % 2 == 1
 }
 
-// Does the object hand a call on, being a proxy without the trap?
-fn hands_on(found: ObjectFound, trap: u64) -> bool
-    requires { ⌜ trap < 64 ⌝ }
-    ensures { λ r. ⌜ r ≡ handsOn trap found ⌝ }
-{
-    match found {
-        ObjectFound::Missing => false,
-        ObjectFound::Made(x) => match x {
-            Object::Ordinary(_) => false,
-            Object::Proxy(p) => {
-                if p.revoked {
-                    return false;
-                }
-                !has_trap(p, trap)
-            }
-        },
-    }
-}
-
-fn target_of(found: ObjectFound) -> u64
-    ensures { λ r. ⌜ r ≡ targetOf found ⌝ }
-{
-    match found {
-        ObjectFound::Missing => 0,
-        ObjectFound::Made(x) => match x {
-            Object::Ordinary(_) => 0,
-            Object::Proxy(p) => p.target,
-        },
-    }
-}
-
-// Down the targets past each proxy without the trap, one call and one level less at each.
-pub fn hand_on(words: &[u64], o: u64, trap: u64, depth: usize, calls: usize) -> Handed
-    requires { ⌜ (isStore (now words) ≡ true) × (trap < 64) ⌝ }
-    ensures { λ r. ⌜ (r ≡ handed trap (storeOf (now (words .entry))) o depth calls) × (r .depth ≤ depth) ⌝ }
-{
-    if depth == 0 {
-        return Handed {
-            object: o,
-            depth,
-            calls,
-        };
-    }
-    if calls == 0 {
-        return Handed {
-            object: o,
-            depth,
-            calls,
-        };
-    }
-    let found = store_read::object_at(words, o);
-    if hands_on(found, trap) {
-        return hand_on(words, target_of(found), trap, depth - 1, calls - 1);
-    }
-    Handed {
-        object: o,
-        depth,
-        calls,
-    }
-}
-
 // The same place on the sheet, with other calls left.
-pub fn with_calls(s: Progress, calls: usize) -> Progress
+fn with_calls(s: Progress, calls: usize) -> Progress
     ensures { λ r. ⌜ r ≡ progress (s .at) (s .left) calls ⌝ }
 {
     Progress {
@@ -94,38 +35,92 @@ pub fn with_calls(s: Progress, calls: usize) -> Progress
     }
 }
 
-fn object_entered(x: Object, s: Progress) -> Entered
-    ensures { λ r. ⌜ r ≡ begun x s ⌝ }
+fn is_ordinary(found: ObjectFound) -> bool
+    ensures { λ r. ⌜ r ≡ isOrdinary found ⌝ }
 {
-    match x {
-        Object::Ordinary(r) => Entered::Ordinary(r, s),
-        Object::Proxy(p) => {
-            if p.revoked {
-                return Entered::Failed(Failure::TypeError(1), s);
-            }
-            Entered::Proxy(p, s)
-        }
+    match found {
+        ObjectFound::Missing => false,
+        ObjectFound::Made(x) => match x {
+            Object::Ordinary(_) => true,
+            Object::Proxy(_) => false,
+        },
     }
 }
 
-// `depth` is how many calls deep methods may still go.
-pub fn enter(words: &[u64], o: u64, depth: usize, s: Progress) -> Entered
-    requires { ⌜ isStore (now words) ≡ true ⌝ }
-    ensures { λ r. ⌜ r ≡ entering depth (lookup (storeOf (now (words .entry))) o) s ⌝ }
+fn ordinary_in(found: ObjectFound) -> OrdinaryObject
+    ensures { λ r. ⌜ r ≡ ordinaryIn found ⌝ }
 {
-    if depth == 0 {
-        return Entered::Failed(Failure::Refused(10), s);
+    match found {
+        ObjectFound::Missing => OrdinaryObject {
+            prototype: Value::Undefined,
+            extensible: false,
+        },
+        ObjectFound::Made(x) => match x {
+            Object::Ordinary(r) => r,
+            Object::Proxy(_) => OrdinaryObject {
+                prototype: Value::Undefined,
+                extensible: false,
+            },
+        },
     }
-    if s.calls == 0 {
-        return Entered::Failed(Failure::Refused(10), s);
+}
+
+// The parts of the ordinary object where a call arrived.
+pub fn ordinary_at(words: &[u64], o: u64) -> OrdinaryObject
+    requires { ⌜ isStore (now words) ≡ true ⌝ }
+    ensures { λ r. ⌜ r ≡ ordinaryIn (objectFound (lookup (storeOf (now (words .entry))) o)) ⌝ }
+{
+    ordinary_in(store_read::object_at(words, o))
+}
+
+// Down the targets past each proxy without the trap, one call and one level less at each.
+fn go_down(words: &[u64], o: u64, trap: u64, depth: usize, s: Progress) -> Entered
+    requires { ⌜ (isStore (now words) ≡ true) × (trap < 64) ⌝ }
+    ensures { λ r. ⌜ r ≡ entering trap (storeOf (now (words .entry))) o depth s ⌝ }
+{
+    let mut object = o;
+    let mut left = depth;
+    let mut calls = s.calls;
+    while 0 < left {
+        if calls == 0 {
+            return Entered::Failed(Failure::Refused(10), with_calls(s, calls));
+        }
+        left -= 1;
+        calls -= 1;
+        match store_read::object_at(words, object) {
+            ObjectFound::Missing => {
+                return Entered::Failed(Failure::Refused(2), with_calls(s, calls));
+            }
+            ObjectFound::Made(x) => match x {
+                Object::Ordinary(_) => {
+                    return Entered::Ordinary(object, left, with_calls(s, calls));
+                }
+                Object::Proxy(p) => {
+                    if p.revoked {
+                        return Entered::Failed(Failure::TypeError(1), with_calls(s, calls));
+                    }
+                    if has_trap(p, trap) {
+                        return Entered::Proxy(p, left, with_calls(s, calls));
+                    }
+                    object = p.target;
+                }
+            },
+        }
     }
-    let begun = Progress {
-        at: s.at,
-        left: s.left,
-        calls: s.calls - 1,
-    };
-    match store_read::object_at(words, o) {
-        ObjectFound::Missing => Entered::Failed(Failure::Refused(2), begun),
-        ObjectFound::Made(x) => object_entered(x, begun),
+    Entered::Failed(Failure::Refused(10), with_calls(s, calls))
+}
+
+// `depth` is how many calls deep methods may still go. An ordinary object is there at once.
+pub fn enter(words: &[u64], o: u64, trap: u64, depth: usize, s: Progress) -> Entered
+    requires { ⌜ (isStore (now words) ≡ true) × (trap < 64) ⌝ }
+    ensures { λ r. ⌜ r ≡ entering trap (storeOf (now (words .entry))) o depth s ⌝ }
+{
+    if 0 < depth {
+        if 0 < s.calls {
+            if is_ordinary(store_read::object_at(words, o)) {
+                return Entered::Ordinary(o, depth - 1, with_calls(s, s.calls - 1));
+            }
+        }
     }
+    go_down(words, o, trap, depth, s)
 }

@@ -3,7 +3,6 @@
 use internal_methods::Failure;
 use property::DescriptorObject;
 use property::OwnProperty;
-use store::OrdinaryObject;
 use store::ProxyObject;
 use store_write::Write;
 use value::Value;
@@ -12,9 +11,8 @@ pub mod answers;
 mod entry;
 
 pub use entry::enter;
-pub use entry::hand_on;
 pub use entry::has_trap;
-pub use entry::with_calls;
+pub use entry::ordinary_at;
 
 // How far a step is: the place of the next answer, how many are to come, and how many calls may still begin.
 pub struct Progress {
@@ -23,18 +21,11 @@ pub struct Progress {
     pub calls: usize,
 }
 
-// The object of a call that has begun.
+// Where a call arrives: the ordinary object, or the proxy with the trap, and how many calls deep methods may still go from there.
 pub enum Entered {
     Failed(Failure, Progress),
-    Ordinary(OrdinaryObject, Progress),
-    Proxy(ProxyObject, Progress),
-}
-
-// Where a call arrives that each proxy without the trap hands to its target, and how deep and how often methods may still be called there.
-pub struct Handed {
-    pub object: u64,
-    pub depth: usize,
-    pub calls: usize,
+    Ordinary(u64, usize, Progress),
+    Proxy(ProxyObject, usize, Progress),
 }
 
 // How a method ends, for each type of result.

@@ -25,7 +25,7 @@ use Rattle.internal_methods.specs.Proxy.{proxyGetOwnProperty}
 use Rattle.internal_methods.specs.Internal.{methods}
 use Rattle.calls.specs.declared.Progress.{Progress}
 use Rattle.calls.specs.declared.Entered.{Entered}
-use Rattle.calls.specs.Entering.{entering, counting, found, progress}
+use Rattle.calls.specs.Entering.{progress, looked, goingDown}
 use Rattle.calls.specs.Outs.{stateOf}
 use Rattle.calls.proofs.EnterLaws.{after, get-own-property-goes-on}
 use Rattle.definition.specs.Define.{isOrdinary}
@@ -44,29 +44,26 @@ ordinary-below words o h e = go (ltb o (wordAt words 0)) refl
         absurd (false≢true (rw z at e))
 
 -- an ordinary object tells the property that the store has
-module _ (c : Context) (sheet : List ℕ) (o : ℕ) (k : PropertyKey) (g : ProxyObject → M OwnProperty) (p : OwnProperty) (t : State) where
+module _ (c : Context) (sheet : List ℕ) (o : ℕ) (k : PropertyKey) (g : ℕ → ProxyObject → M OwnProperty) (p : OwnProperty) (t : State) where
   abbrev onward : Entered → Out OwnProperty
-  onward e = after sheet (λ (r : OrdinaryObject). pure (ordinaryGetOwnProperty (c .store) o k)) g e
+  onward e = after (c .store) (λ (n q : ℕ) (r : OrdinaryObject). pure (ordinaryGetOwnProperty (c .store) q k)) g sheet e
 
-  told-found : (x : Option Object) (s : Progress) → isOrdinary x ≡ true → onward (found x s) ≡ done p t → p ≡ own (c .store) o k
+  told-looked : (x : Option Object) (n : ℕ) (s : Progress) (down : ℕ → Entered) → isOrdinary x ≡ true → onward (looked 4 x o n s down) ≡ done p t → p ≡ own (c .store) o k
   unfolding pure
-  told-found none s h e = absurd (false≢true h)
-  told-found (some (Ordinary r)) s h e = cc
-  told-found (some (Proxy q)) s h e = absurd (false≢true h)
+  told-looked none n s down h e = absurd (false≢true h)
+  told-looked (some (Ordinary r)) n s down h e = cc
+  told-looked (some (Proxy q)) n s down h e = absurd (false≢true h)
 
-  told-counted : (x : Option Object) (at left calls : ℕ) → isOrdinary x ≡ true → onward (counting x at left calls) ≡ done p t → p ≡ own (c .store) o k
-  told-counted x at left zero h e = let z : _≡_ {A = ℕ} 0 1 = cc in absurd (omega arith)
-  told-counted x at left (suc calls) h e = told-found x (progress at left calls) h e
-
-  told-entered : (x : Option Object) (s : Progress) (depth : ℕ) → isOrdinary x ≡ true → onward (entering depth x s) ≡ done p t → p ≡ own (c .store) o k
-  unfolding entering
-  told-entered x s zero h e = let z : _≡_ {A = ℕ} 0 1 = cc in absurd (omega arith)
-  told-entered x s (suc depth) h e = told-counted x (s .at) (s .left) (s .calls) h e
+  told : (at left depth calls : ℕ) → isOrdinary (lookup (c .store) o) ≡ true → onward (goingDown 4 (c .store) at left o depth calls) ≡ done p t → p ≡ own (c .store) o k
+  unfolding goingDown
+  told at left zero calls h e = let z : _≡_ {A = ℕ} 0 1 = cc in absurd (omega arith)
+  told at left (suc depth) zero h e = let z : _≡_ {A = ℕ} 0 1 = cc in absurd (omega arith)
+  told at left (suc depth) (suc calls) h e = told-looked (lookup (c .store) o) depth (progress at left calls) (λ q. goingDown 4 (c .store) at left q depth calls) h e
 
 pub ordinary-own : (c : Context) (sheet : List ℕ) (o : ℕ) (k : PropertyKey) (p : OwnProperty) (t : State) (s : Progress) (depth : ℕ)
     → isOrdinary (lookup (c .store) o) ≡ true → methods depth c .getOwnProperty o k .run (stateOf sheet s) ≡ done p t → p ≡ own (c .store) o k
 ordinary-own c sheet o k p t s depth h e =
-    told-entered c sheet o k (λ (q : ProxyObject). proxyGetOwnProperty (methods (depth - 1) c) q k) p t (lookup (c .store) o) s depth h (sym (get-own-property-goes-on c sheet o s k depth) ∙ e)
+    told c sheet o k (λ (n : ℕ) (q : ProxyObject). proxyGetOwnProperty (methods n c) q k) p t (s .at) (s .left) depth (s .calls) h (sym (get-own-property-goes-on c sheet o s k depth) ∙ e)
 
 -- what is written where the property and the validation are these
 pub same-write : (c : Context) (o : ℕ) (k : PropertyKey) (p q : OwnProperty) (v w : Validation) (s : State) → p ≡ q → v ≡ w

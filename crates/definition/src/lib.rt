@@ -68,23 +68,13 @@ pub fn define_own_property(
     ensures { λ r. ⌜ outWrite (now (sheet .entry)) (storeOf (now (words .entry))) r ≡ methods depth (context (now (words .entry)) (now (strings .entry)) allowance) .defineOwnProperty o key d .run (stateOf (now (sheet .entry)) s) ⌝ }
     ensures { λ r. ⌜ Fitting (now (words .entry)) r ⌝ }
 {
-    match calls::enter(words, o, depth, s) {
+    match calls::enter(words, o, 5, depth, s) {
         Entered::Failed(f, t) => WriteOut::Failed(f, t),
-        Entered::Ordinary(_, t) => {
-            ordinary_define_own_property(words, strings, allowance, sheet, o, key, d, depth - 1, t)
+        Entered::Ordinary(q, n, t) => {
+            ordinary_define_own_property(words, strings, allowance, sheet, q, key, d, n, t)
         }
-        Entered::Proxy(p, t) => {
-            proxy_exotic_define_own_property(
-                words,
-                strings,
-                allowance,
-                sheet,
-                p,
-                key,
-                d,
-                depth - 1,
-                t,
-            )
+        Entered::Proxy(p, n, t) => {
+            proxy_exotic_define_own_property(words, strings, allowance, sheet, p, key, d, n, t)
         }
     }
 }
@@ -109,18 +99,6 @@ fn proxy_exotic_define_own_property(
     if calls::has_trap(p, 5) {
         trap::define_own_property_trap(words, strings, allowance, sheet, target, key, d, depth, s) // 7 to 16
     } else {
-        let h = calls::hand_on(words, target, 5, depth, s.calls);
-        let t = calls::with_calls(s, h.calls);
-        define_own_property(
-            words,
-            strings,
-            allowance,
-            sheet,
-            h.object,
-            key,
-            d,
-            h.depth,
-            t,
-        ) // 6
+        define_own_property(words, strings, allowance, sheet, target, key, d, depth, s) // 6
     }
 }

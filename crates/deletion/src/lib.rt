@@ -67,13 +67,13 @@ pub fn delete(
     ensures { λ r. ⌜ outWrite (now (sheet .entry)) (storeOf (now (words .entry))) r ≡ methods depth (context (now (words .entry)) (now (strings .entry)) allowance) .delete o key .run (stateOf (now (sheet .entry)) s) ⌝ }
     ensures { λ r. ⌜ Fitting (now (words .entry)) r ⌝ }
 {
-    match calls::enter(words, o, depth, s) {
+    match calls::enter(words, o, 9, depth, s) {
         Entered::Failed(f, t) => WriteOut::Failed(f, t),
-        Entered::Ordinary(_, t) => {
-            ordinary_delete(words, strings, allowance, sheet, o, key, depth - 1, t)
+        Entered::Ordinary(q, n, t) => {
+            ordinary_delete(words, strings, allowance, sheet, q, key, n, t)
         }
-        Entered::Proxy(p, t) => {
-            proxy_exotic_delete(words, strings, allowance, sheet, p, key, depth - 1, t)
+        Entered::Proxy(p, n, t) => {
+            proxy_exotic_delete(words, strings, allowance, sheet, p, key, n, t)
         }
     }
 }
@@ -97,8 +97,6 @@ fn proxy_exotic_delete(
     if calls::has_trap(p, 9) {
         trap::delete_trap(words, strings, allowance, sheet, p, key, depth, s)
     } else {
-        let h = calls::hand_on(words, target, 9, depth, s.calls);
-        let t = calls::with_calls(s, h.calls);
-        delete(words, strings, allowance, sheet, h.object, key, h.depth, t) // 6
+        delete(words, strings, allowance, sheet, target, key, depth, s) // 6
     }
 }

@@ -42,11 +42,14 @@ pub fn is_extensible(
     requires { ⌜ Readable (now words) (now strings) ⌝ }
     ensures { λ r. ⌜ outBoolean (now (sheet .entry)) r ≡ methods depth (context (now (words .entry)) (now (strings .entry)) allowance) .isExtensible o .run (stateOf (now (sheet .entry)) s) ⌝ }
 {
-    match calls::enter(words, o, depth, s) {
+    match calls::enter(words, o, 2, depth, s) {
         Entered::Failed(f, t) => BooleanOut::Failed(f, t),
-        Entered::Ordinary(object, t) => BooleanOut::Done(ordinary_is_extensible(object), t),
-        Entered::Proxy(p, t) => {
-            proxy_exotic_is_extensible(words, strings, allowance, sheet, p, depth - 1, t)
+        Entered::Ordinary(q, _, t) => {
+            let object = calls::ordinary_at(words, q);
+            BooleanOut::Done(ordinary_is_extensible(object), t)
+        }
+        Entered::Proxy(p, n, t) => {
+            proxy_exotic_is_extensible(words, strings, allowance, sheet, p, n, t)
         }
     }
 }
@@ -82,8 +85,6 @@ fn proxy_exotic_is_extensible(
             }
         }
     } else {
-        let h = calls::hand_on(words, target, 2, depth, s.calls);
-        let t = calls::with_calls(s, h.calls);
-        is_extensible(words, strings, allowance, sheet, h.object, h.depth, t) // 6
+        is_extensible(words, strings, allowance, sheet, target, depth, s) // 6
     }
 }

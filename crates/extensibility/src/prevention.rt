@@ -80,13 +80,14 @@ pub fn prevent_extensions(
     ensures { λ r. ⌜ outWrite (now (sheet .entry)) (storeOf (now (words .entry))) r ≡ methods depth (context (now (words .entry)) (now (strings .entry)) allowance) .preventExtensions o .run (stateOf (now (sheet .entry)) s) ⌝ }
     ensures { λ r. ⌜ Fitting (now (words .entry)) r ⌝ }
 {
-    match calls::enter(words, o, depth, s) {
+    match calls::enter(words, o, 3, depth, s) {
         Entered::Failed(f, t) => WriteOut::Failed(f, t),
-        Entered::Ordinary(object, t) => {
-            WriteOut::Done(true, ordinary_prevent_extensions(o, object), t) // 10.1.4.1 step 2
+        Entered::Ordinary(q, _, t) => {
+            let object = calls::ordinary_at(words, q);
+            WriteOut::Done(true, ordinary_prevent_extensions(q, object), t) // 10.1.4.1 step 2
         }
-        Entered::Proxy(p, t) => {
-            proxy_exotic_prevent_extensions(words, strings, allowance, sheet, p, depth - 1, t)
+        Entered::Proxy(p, n, t) => {
+            proxy_exotic_prevent_extensions(words, strings, allowance, sheet, p, n, t)
         }
     }
 }
@@ -109,8 +110,6 @@ fn proxy_exotic_prevent_extensions(
     if calls::has_trap(p, 3) {
         prevent_extensions_trap(words, strings, allowance, sheet, p, depth, s)
     } else {
-        let h = calls::hand_on(words, target, 3, depth, s.calls);
-        let t = calls::with_calls(s, h.calls);
-        prevent_extensions(words, strings, allowance, sheet, h.object, h.depth, t) // 6
+        prevent_extensions(words, strings, allowance, sheet, target, depth, s) // 6
     }
 }

@@ -34,33 +34,13 @@ pub fn get(
     requires { ⌜ Readable (now words) (now strings) ⌝ }
     ensures { λ r. ⌜ outValue (now (sheet .entry)) r ≡ methods depth (context (now (words .entry)) (now (strings .entry)) allowance) .get o key receiver .run (stateOf (now (sheet .entry)) s) ⌝ }
 {
-    match calls::enter(words, o, depth, s) {
+    match calls::enter(words, o, 7, depth, s) {
         Entered::Failed(f, t) => ValueOut::Failed(f, t),
-        Entered::Ordinary(_, t) => {
-            ordinary_get(
-                words,
-                strings,
-                allowance,
-                sheet,
-                o,
-                key,
-                receiver,
-                depth - 1,
-                t,
-            )
+        Entered::Ordinary(q, n, t) => {
+            ordinary_get(words, strings, allowance, sheet, q, key, receiver, n, t)
         }
-        Entered::Proxy(p, t) => {
-            proxy_exotic_get(
-                words,
-                strings,
-                allowance,
-                sheet,
-                p,
-                key,
-                receiver,
-                depth - 1,
-                t,
-            )
+        Entered::Proxy(p, n, t) => {
+            proxy_exotic_get(words, strings, allowance, sheet, p, key, receiver, n, t)
         }
     }
 }
@@ -151,18 +131,16 @@ fn proxy_exotic_get(
     if calls::has_trap(p, 7) {
         trap::get_trap(words, strings, allowance, sheet, p, key, receiver, depth, s)
     } else {
-        let h = calls::hand_on(words, target, 7, depth, s.calls);
-        let t = calls::with_calls(s, h.calls);
         get(
             words,
             strings,
             allowance,
             sheet,
-            h.object,
+            target,
             key,
             receiver,
-            h.depth,
-            t,
+            depth,
+            s,
         ) // 6
     }
 }

@@ -32,13 +32,13 @@ pub fn has_property(
     requires { ⌜ Readable (now words) (now strings) ⌝ }
     ensures { λ r. ⌜ outBoolean (now (sheet .entry)) r ≡ methods depth (context (now (words .entry)) (now (strings .entry)) allowance) .hasProperty o key .run (stateOf (now (sheet .entry)) s) ⌝ }
 {
-    match calls::enter(words, o, depth, s) {
+    match calls::enter(words, o, 6, depth, s) {
         Entered::Failed(f, t) => BooleanOut::Failed(f, t),
-        Entered::Ordinary(_, t) => {
-            ordinary_has_property(words, strings, allowance, sheet, o, key, depth - 1, t)
+        Entered::Ordinary(q, n, t) => {
+            ordinary_has_property(words, strings, allowance, sheet, q, key, n, t)
         }
-        Entered::Proxy(p, t) => {
-            proxy_exotic_has_property(words, strings, allowance, sheet, p, key, depth - 1, t)
+        Entered::Proxy(p, n, t) => {
+            proxy_exotic_has_property(words, strings, allowance, sheet, p, key, n, t)
         }
     }
 }
@@ -106,8 +106,6 @@ fn proxy_exotic_has_property(
     if calls::has_trap(p, 6) {
         trap::has_property_trap(words, strings, allowance, sheet, p, key, depth, s)
     } else {
-        let h = calls::hand_on(words, target, 6, depth, s.calls);
-        let t = calls::with_calls(s, h.calls);
-        has_property(words, strings, allowance, sheet, h.object, key, h.depth, t) // 6
+        has_property(words, strings, allowance, sheet, target, key, depth, s) // 6
     }
 }

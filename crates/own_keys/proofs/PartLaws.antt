@@ -1,7 +1,6 @@
 -- 10.5.11 in parts, and the lists that stay fit. Assumes nothing.
-use Prim.Native.Nat.{ℕ, zero, suc}
-use native.Mathlib.Omega.{arith}
-use mathlib.Core.Path.{_≡_, refl, sym, subst}
+use Prim.Native.Nat.{ℕ}
+use mathlib.Core.Path.{_≡_, refl, sym}
 use mathlib.Core.Bool.{Bool, true, false}
 use mathlib.Core.Option.{Option, none, some}
 use mathlib.Core.List.{List, []}
@@ -14,12 +13,7 @@ use Rattle.internal_methods.specs.KeyList.{duplicate}
 use Rattle.internal_methods.specs.Proxy.{hasTrap, proxyOwnPropertyKeys}
 use Rattle.internal_methods.specs.Internal.{methods}
 use Rattle.internal_methods.proofs.Longer.{Longer, left, longer-bind, longer-pure, longer-throwAny, askKeys-longer, methods-longer}
-use Rattle.store.specs.declared.Object.{Object}
-use Rattle.store.specs.declared.Object.the-variants as object
 use Rattle.sheet.specs.Next.{answersFrom}
-use Rattle.calls.specs.declared.Progress.{Progress}
-use Rattle.calls.specs.declared.Entered.the-variants as entered
-use Rattle.calls.specs.Entering.{progress, unrevoked, found, counting, entering}
 use Rattle.own_keys.specs.Lists.{areListsFit}
 use Rattle.own_keys.proofs.ListLaws.{fit-suffix}
 use Rattle.own_keys.specs.Trap.{trapKeys}
@@ -55,6 +49,11 @@ pub in-parts : (call : Methods) (p : ProxyObject) → hasTrap p 10 ≡ true → 
 unfolding proxyOwnPropertyKeys trapKeys checkedKeys if_then_else_ _>>=_
 in-parts call p h s = rw h (asked call (p .target) (askKeys .run s))
 
+-- 10.5.11 without the trap, step 6
+pub trapless : (call : Methods) (p : ProxyObject) → hasTrap p 10 ≡ false → (s : State) → call .ownPropertyKeys (p .target) .run s ≡ proxyOwnPropertyKeys call p .run s
+unfolding proxyOwnPropertyKeys if_then_else_
+trapless call p h s = rw h
+
 -- The lists of the answers that are left
 
 trap-longer : (depth : ℕ) (c : Context) (o : ℕ) → Longer (trapKeys (methods depth c) o)
@@ -68,25 +67,7 @@ pub stays-fit : (depth : ℕ) (c : Context) (o : ℕ) (s t : State) (a : List Pr
     → done a t ≡ trapKeys (methods depth c) o .run s → areListsFit (s .answers) ≡ true → areListsFit (t .answers) ≡ true
 stays-fit depth c o s t a e h = fit-suffix (rw (sym e) at (trap-longer depth c o .shrinks s)) h
 
--- to begin a call takes no answer
-module _ (p : ProxyObject) (t : Progress) where
-  found-place : (x : Option Object) (u : Progress) → found x u ≡ entered.Proxy p t → u ≡ t
-  found-place none u e = let z : _≡_ {A = ℕ} 0 1 = cc in absurd (omega arith)
-  found-place (some (object.Ordinary r)) u e = let z : _≡_ {A = ℕ} 0 1 = cc in absurd (omega arith)
-  found-place (some (object.Proxy q)) u e = go (q .revoked) e
-    where
-      go : (b : Bool) → unrevoked b q u ≡ entered.Proxy p t → u ≡ t
-      go true f = let z : _≡_ {A = ℕ} 0 1 = cc in absurd (omega arith)
-      go false f = cc
-
-  counted-fit : (sheet : List ℕ) (x : Option Object) (at to-come calls : ℕ) → counting x at to-come calls ≡ entered.Proxy p t
-      → areListsFit (answersFrom sheet at to-come) ≡ true → areListsFit (answersFrom sheet (t .at) (t .left)) ≡ true
-  counted-fit sheet x at to-come zero e h = let z : _≡_ {A = ℕ} 0 1 = cc in absurd (omega arith)
-  counted-fit sheet x at to-come (suc calls) e h =
-      subst (λ (u : Progress). areListsFit (answersFrom sheet (u .at) (u .left)) ≡ true) (found-place x (progress at to-come calls) e) h
-
-  pub begun-fit : (sheet : List ℕ) (s : Progress) (x : Option Object) (depth : ℕ) → entering depth x s ≡ entered.Proxy p t
-      → areListsFit (answersFrom sheet (s .at) (s .left)) ≡ true → areListsFit (answersFrom sheet (t .at) (t .left)) ≡ true
-  unfolding entering
-  begun-fit sheet s x zero e h = let z : _≡_ {A = ℕ} 0 1 = cc in absurd (omega arith)
-  begun-fit sheet s x (suc depth) e h = counted-fit sheet x (s .at) (s .left) (s .calls) e h
+-- where no answer was taken
+pub begun-fit : (sheet : List ℕ) (at to-come at₁ to-come₁ : ℕ) → (at₁ ≡ at) × (to-come₁ ≡ to-come)
+    → areListsFit (answersFrom sheet at to-come) ≡ true → areListsFit (answersFrom sheet at₁ to-come₁) ≡ true
+begun-fit sheet at to-come at₁ to-come₁ e h = rw (e .0, e .1) h

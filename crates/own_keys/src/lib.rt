@@ -50,10 +50,10 @@ pub fn own_property_keys(
     ensures { λ r. ⌜ outKeys (now (sheet .entry)) (stringsOf (now (strings .entry))) (storeOf (now (words .entry))) r ≡ methods depth (context (now (words .entry)) (now (strings .entry)) allowance) .ownPropertyKeys o .run (stateOf (now (sheet .entry)) s) ⌝ }
     ensures { λ r. ⌜ LoadableKeys (now (sheet .entry)) r ⌝ }
 {
-    match calls::enter(words, o, depth, s) {
+    match calls::enter(words, o, 10, depth, s) {
         Entered::Failed(f, t) => KeysOut::Failed(f, t),
-        Entered::Ordinary(_, t) => KeysOut::Done(ordinary_own_property_keys(o), t),
-        Entered::Proxy(p, t) => {
+        Entered::Ordinary(q, _, t) => KeysOut::Done(ordinary_own_property_keys(q), t),
+        Entered::Proxy(p, n, t) => {
             proxy_exotic_own_property_keys(
                 words,
                 strings,
@@ -63,7 +63,7 @@ pub fn own_property_keys(
                 keys,
                 marks,
                 list,
-                depth - 1,
+                n,
                 t,
             )
         }
@@ -127,19 +127,17 @@ fn proxy_exotic_own_property_keys(
             }
         }
     } else {
-        let h = calls::hand_on(words, target, 10, depth, s.calls);
-        let t = calls::with_calls(s, h.calls);
         own_property_keys(
             words,
             strings,
             allowance,
             sheet,
-            h.object,
+            target,
             keys,
             marks,
             list,
-            h.depth,
-            t,
+            depth,
+            s,
         ) // 6
     }
 }

@@ -42,24 +42,15 @@ pub fn get_own_property(
     requires { ⌜ Readable (now words) (now strings) ⌝ }
     ensures { λ r. ⌜ outOwnProperty (now (sheet .entry)) r ≡ methods depth (context (now (words .entry)) (now (strings .entry)) allowance) .getOwnProperty o key .run (stateOf (now (sheet .entry)) s) ⌝ }
 {
-    match calls::enter(words, o, depth, s) {
+    match calls::enter(words, o, 4, depth, s) {
         Entered::Failed(f, t) => {
             return OwnPropertyOut::Failed(f, t);
         }
-        Entered::Ordinary(_, t) => {
-            return OwnPropertyOut::Done(ordinary_get_own_property(words, o, key), t);
+        Entered::Ordinary(q, _, t) => {
+            return OwnPropertyOut::Done(ordinary_get_own_property(words, q, key), t);
         }
-        Entered::Proxy(p, t) => {
-            return proxy_exotic_get_own_property(
-                words,
-                strings,
-                allowance,
-                sheet,
-                p,
-                key,
-                depth - 1,
-                t,
-            );
+        Entered::Proxy(p, n, t) => {
+            return proxy_exotic_get_own_property(words, strings, allowance, sheet, p, key, n, t);
         }
     }
 }
@@ -119,8 +110,6 @@ fn proxy_exotic_get_own_property(
             }
         }
     } else {
-        let h = calls::hand_on(words, target, 4, depth, s.calls);
-        let t = calls::with_calls(s, h.calls);
-        get_own_property(words, strings, allowance, sheet, h.object, key, h.depth, t) // 6
+        get_own_property(words, strings, allowance, sheet, target, key, depth, s) // 6
     }
 }

@@ -42,11 +42,14 @@ pub fn get_prototype_of(
     requires { ⌜ Readable (now words) (now strings) ⌝ }
     ensures { λ r. ⌜ outValue (now (sheet .entry)) r ≡ methods depth (context (now (words .entry)) (now (strings .entry)) allowance) .getPrototypeOf o .run (stateOf (now (sheet .entry)) s) ⌝ }
 {
-    match calls::enter(words, o, depth, s) {
+    match calls::enter(words, o, 0, depth, s) {
         Entered::Failed(f, t) => ValueOut::Failed(f, t),
-        Entered::Ordinary(object, t) => ValueOut::Done(ordinary_get_prototype_of(object), t),
-        Entered::Proxy(p, t) => {
-            proxy_exotic_get_prototype_of(words, strings, allowance, sheet, p, depth - 1, t)
+        Entered::Ordinary(q, _, t) => {
+            let object = calls::ordinary_at(words, q);
+            ValueOut::Done(ordinary_get_prototype_of(object), t)
+        }
+        Entered::Proxy(p, n, t) => {
+            proxy_exotic_get_prototype_of(words, strings, allowance, sheet, p, n, t)
         }
     }
 }
@@ -98,8 +101,6 @@ fn proxy_exotic_get_prototype_of(
             }
         }
     } else {
-        let h = calls::hand_on(words, target, 0, depth, s.calls);
-        let t = calls::with_calls(s, h.calls);
-        get_prototype_of(words, strings, allowance, sheet, h.object, h.depth, t) // 6
+        get_prototype_of(words, strings, allowance, sheet, target, depth, s) // 6
     }
 }

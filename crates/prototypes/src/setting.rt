@@ -72,15 +72,16 @@ pub fn set_prototype_of(
     ensures { λ r. ⌜ outWrite (now (sheet .entry)) (storeOf (now (words .entry))) r ≡ methods depth (context (now (words .entry)) (now (strings .entry)) allowance) .setPrototypeOf o v .run (stateOf (now (sheet .entry)) s) ⌝ }
     ensures { λ r. ⌜ Fitting (now (words .entry)) r ⌝ }
 {
-    match calls::enter(words, o, depth, s) {
+    match calls::enter(words, o, 1, depth, s) {
         Entered::Failed(f, t) => WriteOut::Failed(f, t),
-        Entered::Ordinary(object, t) => {
-            let written = ordinary_set_prototype_of(words, o, object, v);
+        Entered::Ordinary(q, _, t) => {
+            let object = calls::ordinary_at(words, q);
+            let written = ordinary_set_prototype_of(words, q, object, v);
             let write = written.write;
             WriteOut::Done(written.accepted, write, t)
         }
-        Entered::Proxy(p, t) => {
-            proxy_exotic_set_prototype_of(words, strings, allowance, sheet, p, v, depth - 1, t)
+        Entered::Proxy(p, n, t) => {
+            proxy_exotic_set_prototype_of(words, strings, allowance, sheet, p, v, n, t)
         }
     }
 }
@@ -104,8 +105,6 @@ fn proxy_exotic_set_prototype_of(
     if calls::has_trap(p, 1) {
         setting_trap::set_prototype_of_trap(words, strings, allowance, sheet, p, v, depth, s)
     } else {
-        let h = calls::hand_on(words, target, 1, depth, s.calls);
-        let t = calls::with_calls(s, h.calls);
-        set_prototype_of(words, strings, allowance, sheet, h.object, v, h.depth, t) // 6
+        set_prototype_of(words, strings, allowance, sheet, target, v, depth, s) // 6
     }
 }

@@ -90,35 +90,13 @@ pub fn set(
     ensures { λ r. ⌜ outWrite (now (sheet .entry)) (storeOf (now (words .entry))) r ≡ methods depth (context (now (words .entry)) (now (strings .entry)) allowance) .set o key v receiver .run (stateOf (now (sheet .entry)) s) ⌝ }
     ensures { λ r. ⌜ Fitting (now (words .entry)) r ⌝ }
 {
-    match calls::enter(words, o, depth, s) {
+    match calls::enter(words, o, 8, depth, s) {
         Entered::Failed(f, t) => WriteOut::Failed(f, t),
-        Entered::Ordinary(_, t) => {
-            ordinary_set(
-                words,
-                strings,
-                allowance,
-                sheet,
-                o,
-                key,
-                v,
-                receiver,
-                depth - 1,
-                t,
-            )
+        Entered::Ordinary(q, n, t) => {
+            ordinary_set(words, strings, allowance, sheet, q, key, v, receiver, n, t)
         }
-        Entered::Proxy(p, t) => {
-            proxy_exotic_set(
-                words,
-                strings,
-                allowance,
-                sheet,
-                p,
-                key,
-                v,
-                receiver,
-                depth - 1,
-                t,
-            )
+        Entered::Proxy(p, n, t) => {
+            proxy_exotic_set(words, strings, allowance, sheet, p, key, v, receiver, n, t)
         }
     }
 }
@@ -220,19 +198,17 @@ fn proxy_exotic_set(
     if calls::has_trap(p, 8) {
         trap::set_trap(words, strings, allowance, sheet, target, key, v, depth, s) // 7 to 11
     } else {
-        let h = calls::hand_on(words, target, 8, depth, s.calls);
-        let t = calls::with_calls(s, h.calls);
         set(
             words,
             strings,
             allowance,
             sheet,
-            h.object,
+            target,
             key,
             v,
             receiver,
-            h.depth,
-            t,
+            depth,
+            s,
         ) // 6
     }
 }

@@ -6,8 +6,7 @@ use Prim.Native.Nat.{_+_, _*_}
 use Rattle.internal_methods.specs.Monad.{pure, fails, next, _>>=_, throwIf, if_then_else_}
 use Rattle.internal_methods.specs.Proxy.{proxyDefineOwnProperty}
 use Rattle.calls.proofs.Cycle.{at, below}
-use Rattle.calls.proofs.HandedLaws.{define-own-property-handed}
-use Rattle.calls.proofs.EnterLaws.{define-own-property-goes-on, ordinary-deep, ordinary-found, proxy-deep}
+use Rattle.calls.proofs.EnterLaws.{define-own-property-goes-on, is-below}
 use Rattle.definition.specs.Define.{definedByTrap}
 use Rattle.definition.proofs.DefineLaws.{ordinary-known}
 use Prim.Native.Nat.{ℕ}
@@ -19,9 +18,7 @@ use Rattle.definition.proofs.proxy_exotic_define_own_property.Reads as 
 use Rattle.definition.proofs.proxy_exotic_define_own_property.Kinds as proxy-exotic-define-own-property-kinds
 use Rattle.definition.proofs.+define_own_property+proxy_exotic_define_own_property.Lts-proxy_exotic_define_own_property as proxy-exotic-define-own-property-lts
 use Rattle.calls.proofs.enter.Reads as enter-reads
-use Rattle.calls.proofs.hand_on.Reads as hand-on-reads
 use Rattle.calls.proofs.has_trap.Reads as has-trap-reads
-use Rattle.calls.proofs.with_calls.Reads as with-calls-reads
 use Rattle.definition.proofs.trap.define_own_property_trap.Reads as define-own-property-trap-reads
 use Rattle.definition.proofs.ordinary_define_own_property.Reads as ordinary-define-own-property-reads
 use Rattle.definition.proofs.+define_own_property+proxy_exotic_define_own_property.{
@@ -53,26 +50,20 @@ unfolding _>>=_ definedByTrap fails if_then_else_ next proxyDefineOwnProperty pu
     )
     (at 3 define-own-property-kinds.ps μ-define-own-property define-own-property.Pre t)
     define-own-property.Post
-    (λ c κs. c .before .before .before .pre .1 .readable .store)
+    (λ c κs. (c .before .before .before .pre .1 .readable .store, omega arith))
     (λ c. search needs)
     (λ c. search needs)
-    (λ c. omega (arith, ordinary-deep _ _ _ _ _ (sym (c .before .before .before .enter .ensures) ∙ c .before .t .given .1)))
-    (λ c κs. (c .before .before .before .before .before .before .before .pre .1, ordinary-known _ _ (ordinary-found _ _ _ _ _ (sym (c .before .before .before .enter .ensures) ∙ c .before .t .given .1))))
+    (λ c κs. (c .before .before .before .before .before .before .before .pre .1, ordinary-known _ _ (is-below _ _ _ _ _ _ (sym (c .before .before .before .enter .ensures) ∙ c .before .q .given .1) .1)))
     (λ c. search needs)
-    (λ c. omega (arith, proxy-deep _ _ _ _ _ (sym (c .before .before .before .enter .ensures) ∙ c .before .p .given .1)))
-    (λ c κs. (omega (arith, c .before .before .before .before .before .before .before .pre .0, proxy-deep _ _ _ _ _ (sym (c .before .before .before .enter .ensures) ∙ c .before .p .given .1)), c .before .before .before .before .before .before .before .pre .1))
+    (λ c κs. (omega (arith, c .before .before .before .before .before .before .before .pre .0, is-below _ _ _ _ _ _ (sym (c .before .before .before .enter .ensures) ∙ c .before .p .given .1) .0), c .before .before .before .before .before .before .before .pre .1))
     (λ c. (rw (define-own-property-goes-on _ _ _ _ _ _ _, sym (c .before .before .before .enter .ensures) ∙ c .before .f .given .1), tt))
-    (λ c. (rw (define-own-property-goes-on _ _ _ _ _ _ _, sym (c .before .before .before .before .enter .ensures) ∙ c .before .before .t .given .1) (c .ordinary-define-own-property .ensures .0), c .ordinary-define-own-property .ensures .1))
+    (λ c. (rw (define-own-property-goes-on _ _ _ _ _ _ _, sym (c .before .before .before .before .enter .ensures) ∙ c .before .before .q .given .1) (c .ordinary-define-own-property .ensures .0), c .ordinary-define-own-property .ensures .1))
     (λ c. (rw (define-own-property-goes-on _ _ _ _ _ _ _, sym (c .before .before .before .before .enter .ensures) ∙ c .before .before .p .given .1) (c .proxy-exotic-define-own-property .ensures .0), c .proxy-exotic-define-own-property .ensures .1)))
     λ t. proxy-exotic-define-own-property-lts.spec (
       has-trap-reads.Asked,
       has-trap-reads.Learnt,
       define-own-property-trap-reads.Asked,
       define-own-property-trap-reads.Learnt,
-      hand-on-reads.Asked,
-      hand-on-reads.Learnt,
-      with-calls-reads.Asked,
-      with-calls-reads.Learnt,
       below 3 define-own-property-kinds.ps μ-define-own-property define-own-property.Pre t,
       define-own-property.Post,
     )
@@ -80,8 +71,6 @@ unfolding _>>=_ definedByTrap fails if_then_else_ next proxyDefineOwnProperty pu
     proxy-exotic-define-own-property.Post
     (λ c κs. search needs)
     (λ c κs. c .before .before .before .before .before .pre .1)
-    (λ c κs. (c .before .before .before .before .before .pre .1 .readable .store, omega arith))
-    (λ c κs. tt)
-    (λ c κs. (omega (arith, c .before .before .before .before .before .before .before .pre .0, c .before .hand-on .ensures .1), c .before .before .before .before .before .before .before .pre .1))
+    (λ c κs. (omega (arith, c .before .before .before .before .before .pre .0), c .before .before .before .before .before .pre .1))
     (λ c. (rw (sym (c .before .before .has-trap .ensures) ∙ c .before .if1 .taken) (c .define-own-property-trap .ensures .0), c .define-own-property-trap .ensures .1))
-    (λ c. (c .define-own-property .ensures .0 ∙ define-own-property-handed _ _ _ _ _ _ _ _ _ (sym (c .before .before .before .before .has-trap .ensures) ∙ c .before .before .before .if1 .left, c .before .before .hand-on .ensures .0, c .before .with-calls .ensures), c .define-own-property .ensures .1))
+    (λ c. (rw (sym (c .before .before .has-trap .ensures) ∙ c .before .if1 .left) (c .define-own-property .ensures .0), c .define-own-property .ensures .1))

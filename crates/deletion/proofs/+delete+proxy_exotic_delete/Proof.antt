@@ -6,8 +6,7 @@ use borrow.Author.Needs.{needs}
 use Rattle.internal_methods.specs.Monad.{pure, fails, next, _>>=_, throwIf, if_then_else_}
 use Rattle.internal_methods.specs.Proxy.{proxyDelete}
 use Rattle.calls.proofs.Cycle.{at, below}
-use Rattle.calls.proofs.HandedLaws.{delete-handed}
-use Rattle.calls.proofs.EnterLaws.{delete-goes-on, proxy-deep, ordinary-deep, ordinary-found}
+use Rattle.calls.proofs.EnterLaws.{delete-goes-on, is-below}
 use Rattle.extensibility.proofs.WriteLaws.{found-joins}
 use Prim.Native.Nat.{ℕ}
 use borrow.Fn.PlainCycle.{Measures}
@@ -18,9 +17,7 @@ use Rattle.deletion.proofs.proxy_exotic_delete.Reads as proxy-exotic-de
 use Rattle.deletion.proofs.proxy_exotic_delete.Kinds as proxy-exotic-delete-kinds
 use Rattle.deletion.proofs.+delete+proxy_exotic_delete.Lts-proxy_exotic_delete as proxy-exotic-delete-lts
 use Rattle.calls.proofs.enter.Reads as enter-reads
-use Rattle.calls.proofs.hand_on.Reads as hand-on-reads
 use Rattle.calls.proofs.has_trap.Reads as has-trap-reads
-use Rattle.calls.proofs.with_calls.Reads as with-calls-reads
 use Rattle.deletion.proofs.trap.delete_trap.Reads as delete-trap-reads
 use Rattle.deletion.proofs.ordinary_delete.Reads as ordinary-delete-reads
 use Rattle.deletion.proofs.+delete+proxy_exotic_delete.{statement}
@@ -44,26 +41,20 @@ unfolding _>>=_ fails if_then_else_ next proxyDelete pure throwIf
 )
     (at 3 delete-kinds.ps μ-delete delete.Pre t)
     delete.Post
-    (λ c κs. c .before .before .before .pre .1 .0 .store)
+    (λ c κs. (c .before .before .before .pre .1 .0 .store, omega arith))
     (λ c. search needs)
     (λ c. search needs)
-    (λ c. omega (arith, ordinary-deep _ _ _ _ _ (sym (c .before .before .before .enter .ensures) ∙ c .before .t .given .1)))
-    (λ c κs. (c .before .before .before .before .before .before .before .pre .1 .0, found-joins _ _ _ (ordinary-found _ _ _ _ _ (sym (c .before .before .before .enter .ensures) ∙ c .before .t .given .1)) _ (c .before .before .before .before .before .before .before .pre .1 .0 .store) (c .before .before .before .before .before .before .before .pre .1 .1)))
+    (λ c κs. (c .before .before .before .before .before .before .before .pre .1 .0, found-joins _ _ _ (is-below _ _ _ _ _ _ (sym (c .before .before .before .enter .ensures) ∙ c .before .q .given .1) .1) _ (c .before .before .before .before .before .before .before .pre .1 .0 .store) (c .before .before .before .before .before .before .before .pre .1 .1)))
     (λ c. search needs)
-    (λ c. omega (arith, proxy-deep _ _ _ _ _ (sym (c .before .before .before .enter .ensures) ∙ c .before .p .given .1)))
-    (λ c κs. (omega (arith, c .before .before .before .before .before .before .before .pre .0, proxy-deep _ _ _ _ _ (sym (c .before .before .before .enter .ensures) ∙ c .before .p .given .1)), c .before .before .before .before .before .before .before .pre .1))
+    (λ c κs. (omega (arith, c .before .before .before .before .before .before .before .pre .0, is-below _ _ _ _ _ _ (sym (c .before .before .before .enter .ensures) ∙ c .before .p .given .1) .0), c .before .before .before .before .before .before .before .pre .1))
     (λ c. (rw (delete-goes-on _ _ _ _ _ _, sym (c .before .before .before .enter .ensures) ∙ c .before .f .given .1), tt))
-    (λ c. (rw (delete-goes-on _ _ _ _ _ _, sym (c .before .before .before .before .enter .ensures) ∙ c .before .before .t .given .1) (c .ordinary-delete .ensures .0), c .ordinary-delete .ensures .1))
+    (λ c. (rw (delete-goes-on _ _ _ _ _ _, sym (c .before .before .before .before .enter .ensures) ∙ c .before .before .q .given .1) (c .ordinary-delete .ensures .0), c .ordinary-delete .ensures .1))
     (λ c. (rw (delete-goes-on _ _ _ _ _ _, sym (c .before .before .before .before .enter .ensures) ∙ c .before .before .p .given .1) (c .proxy-exotic-delete .ensures .0), c .proxy-exotic-delete .ensures .1)))
     λ t. proxy-exotic-delete-lts.spec (
       has-trap-reads.Asked,
       has-trap-reads.Learnt,
       delete-trap-reads.Asked,
       delete-trap-reads.Learnt,
-      hand-on-reads.Asked,
-      hand-on-reads.Learnt,
-      with-calls-reads.Asked,
-      with-calls-reads.Learnt,
       below 3 delete-kinds.ps μ-delete delete.Pre t,
       delete.Post,
     )
@@ -71,8 +62,6 @@ unfolding _>>=_ fails if_then_else_ next proxyDelete pure throwIf
     proxy-exotic-delete.Post
     (λ c κs. search needs)
     (λ c κs. (c .before .before .before .before .before .pre .1 .0, sym (c .before .has-trap .ensures) ∙ c .if1 .taken))
-    (λ c κs. (c .before .before .before .before .before .pre .1 .0 .store, omega arith))
-    (λ c κs. tt)
-    (λ c κs. (omega (arith, c .before .before .before .before .before .before .before .pre .0, c .before .hand-on .ensures .1), c .before .before .before .before .before .before .before .pre .1))
+    (λ c κs. (omega (arith, c .before .before .before .before .before .pre .0), c .before .before .before .before .before .pre .1))
     (λ c. c .delete-trap .ensures)
-    (λ c. (c .delete .ensures .0 ∙ delete-handed _ _ _ _ _ _ _ _ (sym (c .before .before .before .before .has-trap .ensures) ∙ c .before .before .before .if1 .left, c .before .before .hand-on .ensures .0, c .before .with-calls .ensures), c .delete .ensures .1))
+    (λ c. (rw (sym (c .before .before .has-trap .ensures) ∙ c .before .if1 .left) (c .delete .ensures .0), c .delete .ensures .1))

@@ -5,8 +5,7 @@ use borrow.Author.Needs.{needs}
 use Rattle.internal_methods.specs.Monad.{pure, fails, next, _>>=_, throwIf, if_then_else_}
 use Rattle.internal_methods.specs.Proxy.{proxyIsExtensible}
 use Rattle.calls.proofs.Cycle.{at, below}
-use Rattle.calls.proofs.HandedLaws.{is-extensible-handed}
-use Rattle.calls.proofs.EnterLaws.{is-extensible-goes-on, proxy-deep}
+use Rattle.calls.proofs.EnterLaws.{is-extensible-goes-on, is-below}
 use Prim.Native.Nat.{ℕ}
 use borrow.Fn.PlainCycle.{Measures}
 use Rattle.extensibility.proofs.is_extensible.Reads as is-extensible
@@ -17,9 +16,8 @@ use Rattle.extensibility.proofs.proxy_exotic_is_extensible.Kinds as pro
 use Rattle.extensibility.proofs.+is_extensible+proxy_exotic_is_extensible.Lts-proxy_exotic_is_extensible as proxy-exotic-is-extensible-lts
 use Rattle.calls.proofs.answers.next_boolean.Reads as next-boolean-reads
 use Rattle.calls.proofs.enter.Reads as enter-reads
-use Rattle.calls.proofs.hand_on.Reads as hand-on-reads
+use Rattle.calls.proofs.ordinary_at.Reads as ordinary-at-reads
 use Rattle.calls.proofs.has_trap.Reads as has-trap-reads
-use Rattle.calls.proofs.with_calls.Reads as with-calls-reads
 use Rattle.extensibility.proofs.ordinary_is_extensible.Reads as ordinary-is-extensible-reads
 use Rattle.extensibility.proofs.same_boolean.Reads as same-boolean-reads
 use Rattle.extensibility.proofs.+is_extensible+proxy_exotic_is_extensible.{statement}
@@ -37,6 +35,8 @@ unfolding _>>=_ fails if_then_else_ next proxyIsExtensible pure throwIf
     close μ-is-extensible μ-proxy-exotic-is-extensible (λ t. is-extensible-lts.spec (
       enter-reads.Asked,
       enter-reads.Learnt,
+      ordinary-at-reads.Asked,
+      ordinary-at-reads.Learnt,
       ordinary-is-extensible-reads.Asked,
       ordinary-is-extensible-reads.Learnt,
       below 3 proxy-exotic-is-extensible-kinds.ps μ-proxy-exotic-is-extensible proxy-exotic-is-extensible.Pre t,
@@ -44,15 +44,15 @@ unfolding _>>=_ fails if_then_else_ next proxyIsExtensible pure throwIf
     )
     (at 3 is-extensible-kinds.ps μ-is-extensible is-extensible.Pre t)
     is-extensible.Post
-    (λ c κs. c .before .before .before .pre .1 .store)
+    (λ c κs. (c .before .before .before .pre .1 .store, omega arith))
     (λ c. search needs)
     (λ c. search needs)
+    (λ c κs. c .before .before .before .before .before .before .before .pre .1 .store)
     (λ c κs. search needs)
     (λ c. search needs)
-    (λ c. omega (arith, proxy-deep _ _ _ _ _ (sym (c .before .before .before .enter .ensures) ∙ c .before .p .given .1)))
-    (λ c κs. (omega (arith, c .before .before .before .before .before .before .before .pre .0, proxy-deep _ _ _ _ _ (sym (c .before .before .before .enter .ensures) ∙ c .before .p .given .1)), c .before .before .before .before .before .before .before .pre .1))
+    (λ c κs. (omega (arith, c .before .before .before .before .before .before .before .pre .0, is-below _ _ _ _ _ _ (sym (c .before .before .before .enter .ensures) ∙ c .before .p .given .1) .0), c .before .before .before .before .before .before .before .pre .1))
     (λ c. rw (is-extensible-goes-on _ _ _ _ _, sym (c .before .before .before .enter .ensures) ∙ c .before .f .given .1))
-    (λ c. rw (is-extensible-goes-on _ _ _ _ _, sym (c .before .before .before .before .enter .ensures) ∙ c .before .before .object .given .1, c .ordinary-is-extensible .ensures))
+    (λ c. rw (is-extensible-goes-on _ _ _ _ _, sym (c .before .before .before .before .before .enter .ensures) ∙ c .before .before .before .q .given .1, c .ordinary-is-extensible .ensures, c .before .ordinary-at .ensures))
     (λ c. rw (is-extensible-goes-on _ _ _ _ _, sym (c .before .before .before .before .enter .ensures) ∙ c .before .before .p .given .1) (c .proxy-exotic-is-extensible .ensures)))
     λ t. proxy-exotic-is-extensible-lts.spec (
       has-trap-reads.Asked,
@@ -63,10 +63,6 @@ unfolding _>>=_ fails if_then_else_ next proxyIsExtensible pure throwIf
       is-extensible.Post,
       same-boolean-reads.Asked,
       same-boolean-reads.Learnt,
-      hand-on-reads.Asked,
-      hand-on-reads.Learnt,
-      with-calls-reads.Asked,
-      with-calls-reads.Learnt,
     )
     (at 3 proxy-exotic-is-extensible-kinds.ps μ-proxy-exotic-is-extensible proxy-exotic-is-extensible.Pre t)
     proxy-exotic-is-extensible.Post
@@ -78,11 +74,9 @@ unfolding _>>=_ fails if_then_else_ next proxyIsExtensible pure throwIf
     (λ c. search needs)
     (λ c. search needs)
     (λ c κs. search needs)
-    (λ c κs. (c .before .before .before .before .before .pre .1 .store, omega arith))
-    (λ c κs. tt)
-    (λ c κs. (omega (arith, c .before .before .before .before .before .before .before .pre .0, c .before .hand-on .ensures .1), c .before .before .before .before .before .before .before .pre .1))
+    (λ c κs. (omega (arith, c .before .before .before .before .before .pre .0), c .before .before .before .before .before .pre .1))
     (λ c. rw (sym (c .before .before .before .before .before .has-trap .ensures) ∙ c .before .before .before .before .if1 .taken, sym (c .before .before .before .next-boolean .ensures), c .before .f .given .1))
     (λ c. rw (sym (c .before .before .before .before .before .before .before .before .before .has-trap .ensures) ∙ c .before .before .before .before .before .before .before .before .if1 .taken, sym (c .before .before .before .before .before .before .before .next-boolean .ensures), c .before .before .before .before .before .answer .given .1, sym (c .before .before .before .is-extensible .ensures), c .before .f2 .given .1))
     (λ c. rw (sym (c .before .before .before .before .before .before .before .before .before .before .before .has-trap .ensures) ∙ c .before .before .before .before .before .before .before .before .before .before .if1 .taken, sym (c .before .before .before .before .before .before .before .before .before .next-boolean .ensures), c .before .before .before .before .before .before .before .answer .given .1, sym (c .before .before .before .before .before .is-extensible .ensures), c .before .before .before .extensible .given .1, sym (c .before .same-boolean .ensures) ∙ c .if2 .taken))
     (λ c. rw (sym (c .before .before .before .before .before .before .before .before .before .before .before .has-trap .ensures) ∙ c .before .before .before .before .before .before .before .before .before .before .if1 .taken, sym (c .before .before .before .before .before .before .before .before .before .next-boolean .ensures), c .before .before .before .before .before .before .before .answer .given .1, sym (c .before .before .before .before .before .is-extensible .ensures), c .before .before .before .extensible .given .1, sym (c .before .same-boolean .ensures) ∙ c .if2 .left))
-    (λ c. c .is-extensible2 .ensures ∙ is-extensible-handed _ _ _ _ _ _ _ (sym (c .before .before .before .before .has-trap .ensures) ∙ c .before .before .before .if1 .left, c .before .before .hand-on .ensures .0, c .before .with-calls .ensures))
+    (λ c. rw (sym (c .before .before .has-trap .ensures) ∙ c .before .if1 .left) (c .is-extensible2 .ensures))

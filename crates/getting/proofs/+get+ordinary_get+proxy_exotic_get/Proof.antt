@@ -8,8 +8,7 @@ use Rattle.internal_methods.specs.Monad.{pure, fails, next, _>>=_, throwIf, if_
 use Rattle.internal_methods.specs.Ordinary.{ordinaryGet}
 use Rattle.internal_methods.specs.Proxy.{proxyGet}
 use Rattle.calls.proofs.Cycle.{at, below}
-use Rattle.calls.proofs.HandedLaws.{get-handed}
-use Rattle.calls.proofs.EnterLaws.{get-goes-on, ordinary-deep, proxy-deep}
+use Rattle.calls.proofs.EnterLaws.{get-goes-on, is-below}
 use Rattle.value.proofs.Objects.{is-object, is-no-object}
 use Prim.Native.Nat.{ℕ}
 use borrow.Fn.PlainCycle.{Measures}
@@ -24,9 +23,7 @@ use Rattle.getting.proofs.proxy_exotic_get.Kinds as proxy-exotic-get-ki
 use Rattle.getting.proofs.+get+ordinary_get+proxy_exotic_get.Lts-proxy_exotic_get as proxy-exotic-get-lts
 use Rattle.calls.proofs.answers.next_value.Reads as next-value-reads
 use Rattle.calls.proofs.enter.Reads as enter-reads
-use Rattle.calls.proofs.hand_on.Reads as hand-on-reads
 use Rattle.calls.proofs.has_trap.Reads as has-trap-reads
-use Rattle.calls.proofs.with_calls.Reads as with-calls-reads
 use Rattle.getting.proofs.trap.get_trap.Reads as get-trap-reads
 use Rattle.own_property.proofs.get_own_property.Reads as get-own-property-reads
 use Rattle.prototypes.proofs.get_prototype_of.Reads as get-prototype-of-reads
@@ -57,16 +54,14 @@ unfolding _>>=_ fails if_then_else_ next ordinaryGet proxyGet pure throwIf
     )
     (at 3 get-kinds.ps μ-get get.Pre t)
     get.Post
-    (λ c κs. c .before .before .before .pre .1 .store)
+    (λ c κs. (c .before .before .before .pre .1 .store, omega arith))
     (λ c. search needs)
     (λ c. search needs)
-    (λ c. omega (arith, ordinary-deep _ _ _ _ _ (sym (c .before .before .before .enter .ensures) ∙ c .before .t .given .1)))
-    (λ c κs. (omega (arith, c .before .before .before .before .before .before .before .pre .0, ordinary-deep _ _ _ _ _ (sym (c .before .before .before .enter .ensures) ∙ c .before .t .given .1)), c .before .before .before .before .before .before .before .pre .1))
+    (λ c κs. (omega (arith, c .before .before .before .before .before .before .before .pre .0, is-below _ _ _ _ _ _ (sym (c .before .before .before .enter .ensures) ∙ c .before .q .given .1) .0), c .before .before .before .before .before .before .before .pre .1))
     (λ c. search needs)
-    (λ c. omega (arith, proxy-deep _ _ _ _ _ (sym (c .before .before .before .enter .ensures) ∙ c .before .p .given .1)))
-    (λ c κs. (omega (arith, c .before .before .before .before .before .before .before .pre .0, proxy-deep _ _ _ _ _ (sym (c .before .before .before .enter .ensures) ∙ c .before .p .given .1)), c .before .before .before .before .before .before .before .pre .1))
+    (λ c κs. (omega (arith, c .before .before .before .before .before .before .before .pre .0, is-below _ _ _ _ _ _ (sym (c .before .before .before .enter .ensures) ∙ c .before .p .given .1) .0), c .before .before .before .before .before .before .before .pre .1))
     (λ c. rw (get-goes-on _ _ _ _ _ _ _, sym (c .before .before .before .enter .ensures) ∙ c .before .f .given .1))
-    (λ c. rw (get-goes-on _ _ _ _ _ _ _, sym (c .before .before .before .before .enter .ensures) ∙ c .before .before .t .given .1) (c .ordinary-get .ensures))
+    (λ c. rw (get-goes-on _ _ _ _ _ _ _, sym (c .before .before .before .before .enter .ensures) ∙ c .before .before .q .given .1) (c .ordinary-get .ensures))
     (λ c. rw (get-goes-on _ _ _ _ _ _ _, sym (c .before .before .before .before .enter .ensures) ∙ c .before .before .p .given .1) (c .proxy-exotic-get .ensures)))
     (λ t. ordinary-get-lts.spec (
       get-own-property-reads.Asked,
@@ -112,10 +107,6 @@ unfolding _>>=_ fails if_then_else_ next ordinaryGet proxyGet pure throwIf
       has-trap-reads.Learnt,
       get-trap-reads.Asked,
       get-trap-reads.Learnt,
-      hand-on-reads.Asked,
-      hand-on-reads.Learnt,
-      with-calls-reads.Asked,
-      with-calls-reads.Learnt,
       below 3 get-kinds.ps μ-get get.Pre t,
       get.Post,
     )
@@ -123,8 +114,6 @@ unfolding _>>=_ fails if_then_else_ next ordinaryGet proxyGet pure throwIf
     proxy-exotic-get.Post
     (λ c κs. search needs)
     (λ c κs. (c .before .before .before .before .before .pre .1, sym (c .before .has-trap .ensures) ∙ c .if1 .taken))
-    (λ c κs. (c .before .before .before .before .before .pre .1 .store, omega arith))
-    (λ c κs. tt)
-    (λ c κs. (omega (arith, c .before .before .before .before .before .before .before .pre .0, c .before .hand-on .ensures .1), c .before .before .before .before .before .before .before .pre .1))
+    (λ c κs. (omega (arith, c .before .before .before .before .before .pre .0), c .before .before .before .before .before .pre .1))
     (λ c. c .get-trap .ensures)
-    (λ c. c .get .ensures ∙ get-handed _ _ _ _ _ _ _ _ _ (sym (c .before .before .before .before .has-trap .ensures) ∙ c .before .before .before .if1 .left, c .before .before .hand-on .ensures .0, c .before .with-calls .ensures))
+    (λ c. rw (sym (c .before .before .has-trap .ensures) ∙ c .before .if1 .left) (c .get .ensures))

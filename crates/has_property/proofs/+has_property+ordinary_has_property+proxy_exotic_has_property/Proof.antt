@@ -8,8 +8,7 @@ use Rattle.internal_methods.specs.Monad.{pure, fails, next, _>>=_, throwIf, if_
 use Rattle.internal_methods.specs.Ordinary.{ordinaryHasProperty}
 use Rattle.internal_methods.specs.Proxy.{proxyHasProperty}
 use Rattle.calls.proofs.Cycle.{at, below}
-use Rattle.calls.proofs.HandedLaws.{has-property-handed}
-use Rattle.calls.proofs.EnterLaws.{has-property-goes-on, ordinary-deep, proxy-deep}
+use Rattle.calls.proofs.EnterLaws.{has-property-goes-on, is-below}
 use Rattle.value.proofs.Objects.{is-object, is-no-object}
 use Prim.Native.Nat.{ℕ}
 use borrow.Fn.PlainCycle.{Measures}
@@ -23,9 +22,7 @@ use Rattle.has_property.proofs.proxy_exotic_has_property.Reads as proxy
 use Rattle.has_property.proofs.proxy_exotic_has_property.Kinds as proxy-exotic-has-property-kinds
 use Rattle.has_property.proofs.+has_property+ordinary_has_property+proxy_exotic_has_property.Lts-proxy_exotic_has_property as proxy-exotic-has-property-lts
 use Rattle.calls.proofs.enter.Reads as enter-reads
-use Rattle.calls.proofs.hand_on.Reads as hand-on-reads
 use Rattle.calls.proofs.has_trap.Reads as has-trap-reads
-use Rattle.calls.proofs.with_calls.Reads as with-calls-reads
 use Rattle.has_property.proofs.trap.has_property_trap.Reads as has-property-trap-reads
 use Rattle.own_property.proofs.get_own_property.Reads as get-own-property-reads
 use Rattle.prototypes.proofs.get_prototype_of.Reads as get-prototype-of-reads
@@ -63,16 +60,14 @@ unfolding _>>=_ fails if_then_else_ next ordinaryHasProperty proxyHasProperty pu
     )
     (at 3 has-property-kinds.ps μ-has-property has-property.Pre t)
     has-property.Post
-    (λ c κs. c .before .before .before .pre .1 .store)
+    (λ c κs. (c .before .before .before .pre .1 .store, omega arith))
     (λ c. search needs)
     (λ c. search needs)
-    (λ c. omega (arith, ordinary-deep _ _ _ _ _ (sym (c .before .before .before .enter .ensures) ∙ c .before .t .given .1)))
-    (λ c κs. (omega (arith, c .before .before .before .before .before .before .before .pre .0, ordinary-deep _ _ _ _ _ (sym (c .before .before .before .enter .ensures) ∙ c .before .t .given .1)), c .before .before .before .before .before .before .before .pre .1))
+    (λ c κs. (omega (arith, c .before .before .before .before .before .before .before .pre .0, is-below _ _ _ _ _ _ (sym (c .before .before .before .enter .ensures) ∙ c .before .q .given .1) .0), c .before .before .before .before .before .before .before .pre .1))
     (λ c. search needs)
-    (λ c. omega (arith, proxy-deep _ _ _ _ _ (sym (c .before .before .before .enter .ensures) ∙ c .before .p .given .1)))
-    (λ c κs. (omega (arith, c .before .before .before .before .before .before .before .pre .0, proxy-deep _ _ _ _ _ (sym (c .before .before .before .enter .ensures) ∙ c .before .p .given .1)), c .before .before .before .before .before .before .before .pre .1))
+    (λ c κs. (omega (arith, c .before .before .before .before .before .before .before .pre .0, is-below _ _ _ _ _ _ (sym (c .before .before .before .enter .ensures) ∙ c .before .p .given .1) .0), c .before .before .before .before .before .before .before .pre .1))
     (λ c. rw (has-property-goes-on _ _ _ _ _ _, sym (c .before .before .before .enter .ensures) ∙ c .before .f .given .1))
-    (λ c. rw (has-property-goes-on _ _ _ _ _ _, sym (c .before .before .before .before .enter .ensures) ∙ c .before .before .t .given .1) (c .ordinary-has-property .ensures))
+    (λ c. rw (has-property-goes-on _ _ _ _ _ _, sym (c .before .before .before .before .enter .ensures) ∙ c .before .before .q .given .1) (c .ordinary-has-property .ensures))
     (λ c. rw (has-property-goes-on _ _ _ _ _ _, sym (c .before .before .before .before .enter .ensures) ∙ c .before .before .p .given .1) (c .proxy-exotic-has-property .ensures)))
     (λ t. ordinary-has-property-lts.spec (
       get-own-property-reads.Asked,
@@ -108,10 +103,6 @@ unfolding _>>=_ fails if_then_else_ next ordinaryHasProperty proxyHasProperty pu
       has-trap-reads.Learnt,
       has-property-trap-reads.Asked,
       has-property-trap-reads.Learnt,
-      hand-on-reads.Asked,
-      hand-on-reads.Learnt,
-      with-calls-reads.Asked,
-      with-calls-reads.Learnt,
       below 3 has-property-kinds.ps μ-has-property has-property.Pre t,
       has-property.Post,
     )
@@ -119,8 +110,6 @@ unfolding _>>=_ fails if_then_else_ next ordinaryHasProperty proxyHasProperty pu
     proxy-exotic-has-property.Post
     (λ c κs. search needs)
     (λ c κs. (c .before .before .before .before .before .pre .1, sym (c .before .has-trap .ensures) ∙ c .if1 .taken))
-    (λ c κs. (c .before .before .before .before .before .pre .1 .store, omega arith))
-    (λ c κs. tt)
-    (λ c κs. (omega (arith, c .before .before .before .before .before .before .before .pre .0, c .before .hand-on .ensures .1), c .before .before .before .before .before .before .before .pre .1))
+    (λ c κs. (omega (arith, c .before .before .before .before .before .pre .0), c .before .before .before .before .before .pre .1))
     (λ c. c .has-property-trap .ensures)
-    (λ c. c .has-property .ensures ∙ has-property-handed _ _ _ _ _ _ _ _ (sym (c .before .before .before .before .has-trap .ensures) ∙ c .before .before .before .if1 .left, c .before .before .hand-on .ensures .0, c .before .with-calls .ensures))
+    (λ c. rw (sym (c .before .before .has-trap .ensures) ∙ c .before .if1 .left) (c .has-property .ensures))

@@ -8,8 +8,7 @@ use Rattle.internal_methods.specs.Monad.{pure, fails, next, _>>=_, throwIf, if_
 use Rattle.internal_methods.specs.Ordinary.{ordinarySet}
 use Rattle.internal_methods.specs.Proxy.{proxySet}
 use Rattle.calls.proofs.Cycle.{at, below}
-use Rattle.calls.proofs.HandedLaws.{set-handed}
-use Rattle.calls.proofs.EnterLaws.{set-goes-on, ordinary-deep, proxy-deep}
+use Rattle.calls.proofs.EnterLaws.{set-goes-on, is-below}
 use Rattle.value.proofs.Objects.{is-object, is-no-object}
 use Rattle.setting.specs.Set.{setAccessor}
 use Rattle.setting.specs.SetByTrap.{setByTrap}
@@ -25,9 +24,7 @@ use Rattle.setting.proofs.set.Reads as set
 use Rattle.setting.proofs.set.Kinds as set-kinds
 use Rattle.setting.proofs.+ordinary_set+proxy_exotic_set+set.Lts-set as set-lts
 use Rattle.calls.proofs.enter.Reads as enter-reads
-use Rattle.calls.proofs.hand_on.Reads as hand-on-reads
 use Rattle.calls.proofs.has_trap.Reads as has-trap-reads
-use Rattle.calls.proofs.with_calls.Reads as with-calls-reads
 use Rattle.own_property.proofs.get_own_property.Reads as get-own-property-reads
 use Rattle.prototypes.proofs.get_prototype_of.Reads as get-prototype-of-reads
 use Rattle.setting.proofs.set_accessor.Reads as set-accessor-reads
@@ -93,10 +90,6 @@ unfolding _>>=_ fails if_then_else_ next ordinarySet proxySet pure setAccessor s
       has-trap-reads.Learnt,
       set-trap-reads.Asked,
       set-trap-reads.Learnt,
-      hand-on-reads.Asked,
-      hand-on-reads.Learnt,
-      with-calls-reads.Asked,
-      with-calls-reads.Learnt,
       below 3 set-kinds.ps μ-set set.Pre t,
       set.Post,
     )
@@ -104,11 +97,9 @@ unfolding _>>=_ fails if_then_else_ next ordinarySet proxySet pure setAccessor s
     proxy-exotic-set.Post
     (λ c κs. search needs)
     (λ c κs. c .before .before .before .before .before .pre .1)
-    (λ c κs. (c .before .before .before .before .before .pre .1 .readable .store, omega arith))
-    (λ c κs. tt)
-    (λ c κs. (omega (arith, c .before .before .before .before .before .before .before .pre .0, c .before .hand-on .ensures .1), c .before .before .before .before .before .before .before .pre .1))
+    (λ c κs. (omega (arith, c .before .before .before .before .before .pre .0), c .before .before .before .before .before .pre .1))
     (λ c. (rw (sym (c .before .before .has-trap .ensures) ∙ c .before .if1 .taken) (c .set-trap .ensures .0), c .set-trap .ensures .1))
-    (λ c. (c .set .ensures .0 ∙ set-handed _ _ _ _ _ _ _ _ _ _ (sym (c .before .before .before .before .has-trap .ensures) ∙ c .before .before .before .if1 .left, c .before .before .hand-on .ensures .0, c .before .with-calls .ensures), c .set .ensures .1)))
+    (λ c. (rw (sym (c .before .before .has-trap .ensures) ∙ c .before .if1 .left) (c .set .ensures .0), c .set .ensures .1)))
     λ t. set-lts.spec (
       enter-reads.Asked,
       enter-reads.Learnt,
@@ -119,14 +110,12 @@ unfolding _>>=_ fails if_then_else_ next ordinarySet proxySet pure setAccessor s
     )
     (at 3 set-kinds.ps μ-set set.Pre t)
     set.Post
-    (λ c κs. c .before .before .before .pre .1 .readable .store)
+    (λ c κs. (c .before .before .before .pre .1 .readable .store, omega arith))
     (λ c. search needs)
     (λ c. search needs)
-    (λ c. omega (arith, ordinary-deep _ _ _ _ _ (sym (c .before .before .before .enter .ensures) ∙ c .before .t .given .1)))
-    (λ c κs. (omega (arith, c .before .before .before .before .before .before .before .pre .0, ordinary-deep _ _ _ _ _ (sym (c .before .before .before .enter .ensures) ∙ c .before .t .given .1)), c .before .before .before .before .before .before .before .pre .1))
+    (λ c κs. (omega (arith, c .before .before .before .before .before .before .before .pre .0, is-below _ _ _ _ _ _ (sym (c .before .before .before .enter .ensures) ∙ c .before .q .given .1) .0), c .before .before .before .before .before .before .before .pre .1))
     (λ c. search needs)
-    (λ c. omega (arith, proxy-deep _ _ _ _ _ (sym (c .before .before .before .enter .ensures) ∙ c .before .p .given .1)))
-    (λ c κs. (omega (arith, c .before .before .before .before .before .before .before .pre .0, proxy-deep _ _ _ _ _ (sym (c .before .before .before .enter .ensures) ∙ c .before .p .given .1)), c .before .before .before .before .before .before .before .pre .1))
+    (λ c κs. (omega (arith, c .before .before .before .before .before .before .before .pre .0, is-below _ _ _ _ _ _ (sym (c .before .before .before .enter .ensures) ∙ c .before .p .given .1) .0), c .before .before .before .before .before .before .before .pre .1))
     (λ c. (rw (set-goes-on _ _ _ _ _ _ _ _, sym (c .before .before .before .enter .ensures) ∙ c .before .f .given .1), tt))
-    (λ c. (rw (set-goes-on _ _ _ _ _ _ _ _, sym (c .before .before .before .before .enter .ensures) ∙ c .before .before .t .given .1) (c .ordinary-set .ensures .0), c .ordinary-set .ensures .1))
+    (λ c. (rw (set-goes-on _ _ _ _ _ _ _ _, sym (c .before .before .before .before .enter .ensures) ∙ c .before .before .q .given .1) (c .ordinary-set .ensures .0), c .ordinary-set .ensures .1))
     (λ c. (rw (set-goes-on _ _ _ _ _ _ _ _, sym (c .before .before .before .before .enter .ensures) ∙ c .before .before .p .given .1) (c .proxy-exotic-set .ensures .0), c .proxy-exotic-set .ensures .1))

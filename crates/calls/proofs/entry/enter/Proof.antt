@@ -1,34 +1,22 @@
-use denote.Ref.{now}
-use Rattle.store.specs.Store.{lookup}
-use Rattle.store.specs.Words.{storeOf}
+use native.Mathlib.Omega.{arith}
 use mathlib.Core.Path.{sym, _∙_}
-use Rattle.calls.proofs.EnterLaws.{entering-flat, entering-spent, entering-more, objectless, objectful}
 use borrow.Author.Needs.{needs}
+use Rattle.calls.proofs.EnterLaws.{down-at-once}
 use Rattle.calls.proofs.entry.enter.Statement.{statement}
 use Rattle.calls.proofs.entry.enter.Tie as tie
 
 returns : tie.Need-returns
-returns c = entering-flat _ _ _ (c .if1 .taken)
-
-returns-2 : tie.Need-returns-2
-returns-2 c = entering-spent _ _ _ (c .if2 .taken)
-
-returns-3 : tie.Need-returns-3
-returns-3 c = rw (entering-more (lookup (storeOf (now (c .before .before .before .before .before .before .before .before .args .words))) (c .before .before .before .before .before .before .before .before .args .o)) (c .before .before .before .before .before .before .before .before .args .s) (c .before .before .before .before .before .before .before .before .args .depth) (c .before .before .before .before .before .before .if1 .left) (c .before .before .before .before .if2 .left), objectless (lookup (storeOf (now (c .before .before .before .before .before .before .before .before .args .words))) (c .before .before .before .before .before .before .before .before .args .o)) (sym (c .before .before .object-at .ensures) ∙ c .enum-told .given .1))
-
-returns-4 : tie.Need-returns-4
-returns-4 c = rw (entering-more (lookup (storeOf (now (c .before .before .before .before .before .before .before .before .before .before .args .words))) (c .before .before .before .before .before .before .before .before .before .before .args .o)) (c .before .before .before .before .before .before .before .before .before .before .args .s) (c .before .before .before .before .before .before .before .before .before .before .args .depth) (c .before .before .before .before .before .before .before .before .if1 .left) (c .before .before .before .before .before .before .if2 .left), objectful (lookup (storeOf (now (c .before .before .before .before .before .before .before .before .before .before .args .words))) (c .before .before .before .before .before .before .before .before .before .before .args .o)) _ (sym (c .before .before .before .before .object-at .ensures) ∙ c .before .before .x .given .1)) (c .object-entered .ensures)
+returns c = rw (c .with-calls .ensures) (down-at-once _ _ _ _ _ _ _ _ (c .before .before .before .before .before .before .before .if1 .taken) (λ z. omega (arith, c .before .before .before .before .before .if2 .taken, z)) (c .before .before .before .before .object-at .ensures) (sym (c .before .before .before .is-ordinary .ensures) ∙ c .before .before .if3 .taken))
 
 pub enter-spec : {M : Type 1} → statement M
 enter-spec =
     tie.close
     (tie.spec
+    (λ c κs. search needs)
+    (λ c κs. search needs)
+    (λ c. search needs)
+    (λ c. search needs)
+    (λ c κs. search needs)
     returns
-    returns-2
-    (λ c. search needs)
     (λ c κs. search needs)
-    (λ c. search needs)
-    (λ c. search needs)
-    (λ c κs. search needs)
-    returns-3
-    returns-4)
+    (λ c. search needs))
