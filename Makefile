@@ -1,14 +1,28 @@
 # rt is Rattle's command: it proves the crates of crates.txt and runs their programs.
-.PHONY: run test edits bench cost vectors messages engines engine-check engine-damage install-engines lib c-test bindings example fuzz
+.PHONY: run page test text-check day-check edits bench bench-text cost vectors messages engines engine-check engine-damage install-engines lib c-test bindings example fuzz
 
-# A day of steps and string entries over one store, a line for each.
+# A day of steps and string entries over one store, as a text of cells: a row for each.
 run:
-	rt check day
-	target/bin/day < crates/day/stdin
+	rt check text_steps
+	target/bin/text_steps < crates/text_steps/stdin
+
+# The same for reading: each step of bindings/rust/examples/day.steps and what came of it. It needs cargo.
+page: lib
+	rt check text_steps
+	target/bin/text_steps < crates/text_steps/stdin | (cd bindings/rust && cargo run --quiet --offline --bin steps -- --rows examples/day.steps)
 
 # The gate. It starts from nothing and ends in 'N passed, 0 failed'.
 test:
 	tests/gate.sh
+
+# The program on texts of valid and broken lines, against rows that share no code with it. It needs node.
+text-check:
+	rt check text_steps
+	node tests/text.mjs check target/bin/text_steps
+
+# The stored rows of the day against node's own objects: all but the calls.
+day-check:
+	node tests/rows.mjs crates/text_steps/stdin crates/text_steps/stdout
 
 # The must-fail edits that the gate leaves out, of all crates or of CRATES="NAME NAME".
 edits:
@@ -24,14 +38,22 @@ bench:
 	rustc --edition 2021 -O -C target-cpu=x86-64 -L target/staticlib -o target/steps bench/steps.rs
 	node bench/compare.mjs
 
+# 100,000 lines of steps through the program, beside node programs that only split the lines and decode their cells: lines a second.
+bench-text:
+	rt check text_steps
+	node bench/text.mjs make > target/text-lines
+	node bench/text.mjs compare target/bin/text_steps target/text-lines
+
 # The instructions of a step, counted, beside those of bench/cost.txt; it fails where one is a tenth worse. It needs gcc and valgrind.
 cost: lib
 	tests/cost.sh
 
-# The outside vectors, the day's calls and the fixed list of node's answers, made anew: the same bytes, unless the scripts or node's texts changed.
-vectors:
+# The outside vectors, the day's lines with the plain implementation's rows, and the fixed list of node's answers, made anew: the same bytes, unless
+# the scripts or node's texts changed. It needs node and cargo.
+vectors: lib
 	node tests/vectors.mjs > crates/vectors/stdin
-	node tests/day.mjs > crates/day/stdin
+	cd bindings/rust && cargo run --quiet --offline --bin steps -- --cells examples/day.steps > ../../crates/text_steps/stdin
+	cd bindings/rust && cargo run --quiet --offline --example plain_text < ../../crates/text_steps/stdin > ../../crates/text_steps/stdout
 	mkdir -p target
 	cat tests/engines/*.js > target/engines.js
 	node target/engines.js 1 400 fixed > crates/replay/stdin
@@ -67,10 +89,11 @@ lib:
 	mkdir -p target/lib
 	cp target/staticlib/libdemnyaluz.a target/lib/libdemnyaluz.a
 
-# The library through its header, by a C program. It needs gcc.
+# The library through its header, by two C programs. It needs gcc.
 c-test: lib
-	gcc -Wall -Wextra -Werror -std=c11 -O1 -Iinclude -o target/lib/sealed tests/c/sealed.c target/lib/libdemnyaluz.a
-	target/lib/sealed
+	for program in sealed text; do \
+		gcc -Wall -Wextra -Werror -std=c11 -O1 -Iinclude -o target/lib/$$program tests/c/$$program.c target/lib/libdemnyaluz.a && target/lib/$$program || exit 1; \
+	done
 
 # The Rust crate's tests, against a plain implementation. It needs cargo, and no network.
 bindings: lib

@@ -50,6 +50,9 @@ enum {
     DEMNYALUZ_STEP_BYTES = 58,
     DEMNYALUZ_OUTPUT_BYTES = 2304,
     DEMNYALUZ_LONGEST_MESSAGE = 90, /* the longest text */
+    DEMNYALUZ_TEXT_STATE = 10,      /* words */
+    DEMNYALUZ_TEXT_LINE = 16384,    /* the longest line, its line feed not counted */
+    DEMNYALUZ_TEXT_ROW = 4800,      /* holds every row, and the heading with row 0 */
 
     DEMNYALUZ_MAXIMUM_OBJECTS = 32,
     DEMNYALUZ_MAXIMUM_PROPERTIES = 256,
@@ -161,7 +164,8 @@ enum demnyaluz_refusal {
     DEMNYALUZ_REFUSAL_SHEET_SPENT = 8,
     DEMNYALUZ_REFUSAL_UNREADABLE_ANSWER = 9,
     DEMNYALUZ_REFUSAL_TOO_MANY_CALLS = 10,     /* a 2,049th */
-    DEMNYALUZ_REFUSAL_OUTPUT_TOO_SMALL = 11
+    DEMNYALUZ_REFUSAL_OUTPUT_TOO_SMALL = 11,
+    DEMNYALUZ_REFUSAL_BROKEN_LINE = 12         /* of a text, tested before 1 */
 };
 
 enum demnyaluz_message_number {
@@ -230,6 +234,50 @@ uint64_t demnyaluz_message(uint64_t number, uint8_t *text, size_t text_length);
 /* The store holds nothing, the table holds no string: true. Memory of another length is left: false. */
 bool demnyaluz_empty_store(uint64_t *words, size_t words_length);
 bool demnyaluz_empty_strings(uint16_t *strings, size_t strings_length);
+
+/*
+ * Steps from a text, a row for each.
+ *
+ * A text is bytes. Its lines end in a line feed, which the last one may lack: what follows the last line feed is a line unless it is empty.
+ *   first line   the seven names step object key value receiver descriptor sheet, in an order of the writer's choice, one space between
+ *   every other  seven cells in the order of the names, one space between. A cell has the bytes of its part of the record, each as two digits,
+ *                0 to 9 and a to f: step and object 1, key, value and receiver 9, descriptor 29, the sheet one or more. A dash is a part of
+ *                zeros, as the sheet the byte 0. In a line of step 0f, which enters a string, the sheet's cell has the code units instead, each
+ *                as four digits, high byte first, or is a dash for none; the other parts are zero (refused as 1), and there are at
+ *                most 32 units (refused as 3).
+ * A line of another form, an empty one and one of more than DEMNYALUZ_TEXT_LINE bytes too, is refused as 12, and the next line is read. A first
+ * line that is broken or missing is refused as 12 in a row numbered 0, and nothing after it is read.
+ *
+ * The rows stand under the heading `line outcome number answers calls value`, each ended by a line feed, their cells separated by one space.
+ * line is 1 for the first line after the names; it and the next four are decimal. value is hexadecimal: the 9 bytes of a result, of a thrown value
+ * or of the string that was entered; the 29 bytes of the whole descriptor that [[GetOwnProperty]] answers (its mask 0f for data, 33 for an
+ * accessor); the 9 bytes of each key, one after another. It is a dash for absence, no keys, a TypeError and a refusal.
+ *
+ * A text comes in pieces of any lengths, and its rows do not depend on where it is cut. The caller lends the same memory to each call of one
+ * text and leaves it alone between them: words, strings, a state of DEMNYALUZ_TEXT_STATE words, and a line of DEMNYALUZ_TEXT_LINE bytes, which
+ * keeps the beginning of a line. rows has at least DEMNYALUZ_TEXT_ROW bytes, and what a call writes there begins at its start.
+ */
+
+/* Before a text: store and table hold nothing, and no line was read: true. Where one of them has another length all are left: false. */
+bool demnyaluz_text_start(uint64_t *words, size_t words_length, uint16_t *strings, size_t strings_length, uint64_t *state, size_t state_length);
+
+/*
+ * The next piece of the text. It is taken up to its first line feed and with it, or whole where it has none; where a line ended, its row is written, and
+ * the heading for the first line. result: how many bytes of the piece were taken, how many bytes of rows were written. The caller
+ * hands in the rest of the piece until all is taken. Once reading has ended, by a broken first line or by demnyaluz_text_end, nothing is
+ * taken any more. Lengths other than those above, counts of store or table that exceed what it can hold, or a state that no call leaves: false,
+ * the result is 0 and 0, and nothing else changes.
+ */
+bool demnyaluz_text_feed(uint64_t *words, size_t words_length, uint16_t *strings, size_t strings_length, uint64_t *state, size_t state_length,
+                         uint8_t *line, size_t line_length, const uint8_t *piece, size_t piece_length, uint8_t *rows, size_t rows_length,
+                         uint64_t result[2]);
+
+/*
+ * After the last piece: the row of a last line that lacks its line feed, or the heading and row 0 where there was no first line. Reading has then
+ * ended. result: 0, and how many bytes of rows were written. What is refused is as above.
+ */
+bool demnyaluz_text_end(uint64_t *words, size_t words_length, uint16_t *strings, size_t strings_length, uint64_t *state, size_t state_length,
+                        uint8_t *line, size_t line_length, uint8_t *rows, size_t rows_length, uint64_t result[2]);
 
 #ifdef __cplusplus
 }

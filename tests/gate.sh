@@ -1,7 +1,7 @@
 #!/bin/sh
 # The gate: formatting; that what the documents name is there; `rt ci`, which proves everything from nothing and tries the must-fail edits; then, over
-# what was just proved, calls against node's own objects, the C program, the Rust crate's tests and the instructions of a step. It fails at the
-# first that fails. The tally of `rt ci` is printed last.
+# what was just proved, calls and texts against node's own objects, the C programs, the Rust crate's tests and the instructions of a step. It fails at
+# the first that fails. The tally of `rt ci` is printed last.
 set -eu
 cd "$(dirname "$0")/.."
 log=$(mktemp)
@@ -14,5 +14,5 @@ rt fmt --check
 node tests/paths.mjs
 { rt ci || echo 'rt ci failed'; } | tee "$log"
 grep -q ' passed, 0 failed$' "$log"
-make engine-check c-test bindings cost
+make engine-check text-check day-check c-test bindings cost
 grep ' passed, 0 failed$' "$log"

@@ -25,7 +25,7 @@ function found(path, document) {
 for (const document of documents) {
     const text = readFileSync(join(root, document), "utf8");
     const flat = text.replace(/```[^]*?```/g, "").replace(/\s+/g, " ");
-    const ending = "(?:antt|rt|rs|mjs|js|py|sh|c|h|md|txt|toml|svg|edit)";
+    const ending = "(?:antt|rt|rs|mjs|js|py|sh|c|h|md|txt|toml|svg|steps|edit)";
     const file = new RegExp(`(?<![\\w/.-])((?:[\\w.+-]+/)+[\\w.+-]+\\.${ending})\\b(?:: ((?:\`[^\`]+\`(?:, | and )?)+))?`, "g");
     for (const [, path, names] of flat.matchAll(file)) {
         if (path.startsWith("target/")) continue;

@@ -1,7 +1,7 @@
-//! Random and mutated records and sheets through the C interface, each held against the plain implementation.
+//! Random and mutated records, sheets and lines of text through the C interface, each held against the plain implementation.
 //!
-//! `fuzz COUNT SEED`: at least COUNT calls in lists of 200 from an empty store. Every list is made from the seed and its own number, so a
-//! difference can be shown again by itself: `fuzz 1 SEED` with the seed that it names.
+//! `fuzz COUNT SEED`: at least COUNT calls in lists of 200 from an empty store, and a text of 40 lines or random bytes after each. Every list is made
+//! from the seed and its own number, so a difference can be shown again by itself: `fuzz 1 SEED` with the seed that it names.
 #[path = "../tests/harness/mod.rs"]
 mod harness;
 #[path = "../tests/plain/mod.rs"]
@@ -9,9 +9,11 @@ mod plain;
 
 use harness::generator::Generator;
 use harness::pair::{Pair, Tally};
+use harness::text::{in_pieces, Damage, Reader};
 use std::time::Instant;
 
 const LIST: u64 = 200;
+const LINES: usize = 40;
 
 fn list_of_calls(seed: u64) -> Tally {
     let mut generator = Generator::new(seed);
@@ -19,7 +21,7 @@ fn list_of_calls(seed: u64) -> Tally {
     generator.habits.damage = generator.random.pick(&[1, 2, 2, 3]);
     let mut pair = Pair::new();
     generator.begin(&mut pair);
-    if seed % 50 == 0 {
+    if seed % 50 == 1 {
         generator.fill(&mut pair);
     }
     for i in 0..LIST {
@@ -82,6 +84,29 @@ fn damaged_memory(generator: &mut Generator, pair: &mut Pair) {
     }
 }
 
+/// A text with damaged lines, or of random bytes, in pieces, and once more with a damaged state: how many bytes it had.
+fn text(seed: u64) -> u64 {
+    let mut generator = Generator::new(seed);
+    let damage = Damage { lines: generator.random.pick(&[1, 2, 8]), long: 20 };
+    let size = generator.random.below(5_000);
+    let input = if generator.random.once_in(4) { generator.noise(size) } else { generator.text(LINES, damage) };
+    let expected = plain::text::run_text(&input);
+    let rows = in_pieces(&input, &mut generator.random);
+    assert!(rows == expected, "rows of {:?}", String::from_utf8_lossy(&input));
+    let mut reader = Reader::new();
+    for piece in input.chunks(1 + generator.random.below(3_000)) {
+        if generator.random.once_in(10) {
+            let at = generator.random.below(10);
+            reader.state[at] = generator.random.next() >> generator.random.below(64);
+        }
+        let (fed, [taken, written]) = reader.feed_once(piece);
+        assert!(taken as usize <= piece.len() && written <= 4_800 && (fed || taken + written == 0));
+    }
+    let (_, [taken, written]) = reader.end_once();
+    assert!(taken == 0 && written <= 4_800);
+    input.len() as u64
+}
+
 fn main() {
     let mut arguments = std::env::args().skip(1).map(|a| a.parse::<u64>().expect("a number"));
     let count = arguments.next().unwrap_or(1_000_000);
@@ -90,23 +115,27 @@ fn main() {
     let start = Instant::now();
     let work = std::thread::Builder::new().stack_size(64 << 20).spawn(move || {
         let mut tally = Tally::default();
+        let mut bytes = 0;
         for list in seed.. {
             if tally.calls >= count {
                 break;
             }
-            let told = std::panic::catch_unwind(|| list_of_calls(list));
+            let told = std::panic::catch_unwind(|| (list_of_calls(list), text(list)));
             match told {
-                Ok(t) => tally.add(&t),
+                Ok((t, size)) => {
+                    tally.add(&t);
+                    bytes += size;
+                }
                 Err(_) => {
                     println!("a difference in the list of seed {list}");
                     std::process::exit(1);
                 }
             }
         }
-        tally
+        (tally, bytes)
     });
-    let tally = work.unwrap().join().unwrap();
-    println!("{} calls in {:.1} s, no difference", tally.calls, start.elapsed().as_secs_f64());
+    let (tally, bytes) = work.unwrap().join().unwrap();
+    println!("{} calls and {bytes} bytes of text in {:.1} s, no difference", tally.calls, start.elapsed().as_secs_f64());
     println!("results {}, thrown {}", tally.results, tally.thrown);
     println!("refusals 1 to 11: {:?}", &tally.refusals[1..]);
     println!("messages 1 to 31: {:?}", &tally.messages[1..]);

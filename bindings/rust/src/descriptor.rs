@@ -78,6 +78,22 @@ impl PropertyDescriptor {
     }
 }
 
+impl Property {
+    /// The property of a descriptor's 29 bytes, if they are complete and nothing is mixed.
+    pub fn from_bytes(bytes: &[u8; PropertyDescriptor::SIZE]) -> Option<Property> {
+        let flag = |bit: u8| bytes[1] & bit != 0;
+        let value = |at: usize| Value::from_bytes(bytes[at..at + 9].try_into().ok()?);
+        let (enumerable, configurable) = (flag(1), flag(2));
+        let property = match bytes[0] {
+            0x0f => Property::Data { value: value(2)?, writable: flag(4), enumerable, configurable },
+            0x33 => Property::Accessor { get: value(11)?, set: value(20)?, enumerable, configurable },
+            _ => return None,
+        };
+        // absent parts and unused booleans are zero
+        (PropertyDescriptor::from(property).to_bytes() == *bytes).then_some(property)
+    }
+}
+
 impl From<Property> for PropertyDescriptor {
     fn from(p: Property) -> Self {
         match p {

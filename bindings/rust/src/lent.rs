@@ -83,3 +83,60 @@ pub fn empty_store(words: &mut [u64]) -> bool {
 pub fn empty_strings(strings: &mut [u16]) -> bool {
     unsafe { raw::demnyaluz_empty_strings(strings.as_mut_ptr(), strings.len()) }
 }
+
+/// Store, table and state of the right lengths become those of a text that is not read yet.
+pub fn text_start(words: &mut [u64], strings: &mut [u16], state: &mut [u64]) -> bool {
+    unsafe { raw::demnyaluz_text_start(words.as_mut_ptr(), words.len(), strings.as_mut_ptr(), strings.len(), state.as_mut_ptr(), state.len()) }
+}
+
+/// Bytes of the piece are taken up to and with its next line feed, or all of them, and at most one row is written. The result is how many bytes
+/// were taken and how many were written; once reading has ended both are 0.
+///
+/// False, with both 0 and nothing else touched, where a length is wrong or the memory is not what [`text_start`] and the calls after it left.
+pub fn text_feed(
+    words: &mut [u64],
+    strings: &mut [u16],
+    state: &mut [u64],
+    line: &mut [u8],
+    piece: &[u8],
+    rows: &mut [u8],
+    result: &mut [u64; 2],
+) -> bool {
+    unsafe {
+        raw::demnyaluz_text_feed(
+            words.as_mut_ptr(),
+            words.len(),
+            strings.as_mut_ptr(),
+            strings.len(),
+            state.as_mut_ptr(),
+            state.len(),
+            line.as_mut_ptr(),
+            line.len(),
+            piece.as_ptr(),
+            piece.len(),
+            rows.as_mut_ptr(),
+            rows.len(),
+            result,
+        )
+    }
+}
+
+/// The text ends: the row of a last line without its line feed is written, or, where there was no first line, the heading and its refusal. The
+/// result is 0 and how many bytes were written. False as by [`text_feed`].
+pub fn text_end(words: &mut [u64], strings: &mut [u16], state: &mut [u64], line: &mut [u8], rows: &mut [u8], result: &mut [u64; 2]) -> bool {
+    unsafe {
+        raw::demnyaluz_text_end(
+            words.as_mut_ptr(),
+            words.len(),
+            strings.as_mut_ptr(),
+            strings.len(),
+            state.as_mut_ptr(),
+            state.len(),
+            line.as_mut_ptr(),
+            line.len(),
+            rows.as_mut_ptr(),
+            rows.len(),
+            result,
+        )
+    }
+}

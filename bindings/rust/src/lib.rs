@@ -5,7 +5,7 @@
 //!
 //! A [`Store`] holds objects, properties and strings. A [`Step`] calls one of the eleven internal methods of an object, or makes an object or a
 //! proxy. A proxy's handler is a set of [`Traps`] and, for each step, a list of [`Answer`]s: each call of a trap, a getter or a setter takes the
-//! next one. What comes back is a [`Report`].
+//! next one. What comes back is a [`Report`]. A [`TextReader`] takes steps as lines of text and gives a row for each.
 //!
 //! ```
 //! use demnyaluz::{Answer, Failure, Message, PropertyDescriptor, Store, Traps};
@@ -27,13 +27,17 @@ mod descriptor;
 pub mod lent;
 pub mod notation;
 pub mod raw;
+pub mod readable;
 mod report;
+pub mod rows;
 mod step;
 mod store;
+mod text;
 mod value;
 
 pub use descriptor::{Property, PropertyDescriptor};
 pub use report::{Completion, Failure, Message, Refusal, Report};
 pub use step::{sheet_bytes, Answer, Step, Traps};
 pub use store::{Store, OUTPUT_BYTES, STORE_WORDS, STRING_CELLS};
+pub use text::{run_text, TextReader, TEXT_LINE_BYTES, TEXT_ROW_BYTES, TEXT_STATE_WORDS};
 pub use value::{FunctionId, ObjectId, PropertyKey, StringId, SymbolId, Value};

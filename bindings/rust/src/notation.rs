@@ -75,10 +75,43 @@ impl fmt::Display for Error {
 
 impl std::error::Error for Error {}
 
+/// The strings that calls have entered, by their numbers.
+#[derive(Clone, PartialEq, Eq, Debug, Default)]
+pub struct Strings(Vec<Vec<u16>>);
+
+impl Strings {
+    /// No string.
+    pub fn new() -> Self {
+        Strings::default()
+    }
+
+    /// A string is entered: its number, which an equal one has already, or none where entering it is refused.
+    pub fn enter(&mut self, units: &[u16]) -> Option<StringId> {
+        if let Some(n) = self.number(units) {
+            return Some(n);
+        }
+        if units.len() > 32 || self.0.len() == 256 {
+            return None;
+        }
+        self.0.push(units.to_vec());
+        self.number(units)
+    }
+
+    /// The number of a string that was entered.
+    pub fn number(&self, units: &[u16]) -> Option<StringId> {
+        self.0.iter().position(|s| s == units).map(|n| StringId(n as u8))
+    }
+
+    /// The code units of a string that was entered.
+    pub fn units(&self, s: StringId) -> Option<&[u16]> {
+        self.0.get(usize::from(s.0)).map(Vec::as_slice)
+    }
+}
+
 /// The calls of a text, in their order.
 pub fn parse(text: &str) -> Result<Vec<Line>, Error> {
     let mut calls = Vec::new();
-    let mut strings: Vec<Vec<u16>> = Vec::new();
+    let mut strings = Strings::new();
     for (i, line) in text.lines().enumerate() {
         let number = i + 1;
         let tokens = tokens(line, number)?;
@@ -110,8 +143,8 @@ pub fn parse(text: &str) -> Result<Vec<Line>, Error> {
 /// The names of the cells of [`cells`], as the first line has them.
 pub const HEADING: &str = "step object key value receiver descriptor sheet";
 
-/// A call as seven cells of lowercase hexadecimal digits: a dash is all zeros, or an empty sheet. Entering a string is step 0f, with its code units in
-/// the last cell, high byte first; a dash there is the empty string.
+/// A call as seven cells of lowercase hexadecimal digits, a line that [`TextReader`](crate::TextReader) reads: a dash is all zeros, or an empty
+/// sheet. Entering a string is step 0f, with its code units in the last cell, high byte first; a dash there is the empty string.
 pub fn cells(call: &Call) -> String {
     match call {
         Call::Enter(units) => {
@@ -208,7 +241,8 @@ fn tokens(line: &str, number: usize) -> Result<Vec<(Token, usize)>, Error> {
     Ok(tokens)
 }
 
-const TRAPS: [(&str, Traps); 11] = [
+/// The traps by their names.
+pub(crate) const TRAPS: [(&str, Traps); 11] = [
     ("getPrototypeOf", Traps::GET_PROTOTYPE_OF),
     ("setPrototypeOf", Traps::SET_PROTOTYPE_OF),
     ("isExtensible", Traps::IS_EXTENSIBLE),
@@ -228,7 +262,7 @@ struct Parser<'a> {
     line: usize,
     /// The column after the line's last character.
     end: usize,
-    strings: &'a mut Vec<Vec<u16>>,
+    strings: &'a mut Strings,
     /// Texts of this line that were not entered before it.
     entered: Vec<Vec<u16>>,
 }
@@ -298,9 +332,7 @@ impl Parser<'_> {
                 return self.wanted("a text");
             };
             self.at += 1;
-            if units.len() <= 32 && !self.strings.contains(&units) && self.strings.len() < 256 {
-                self.strings.push(units.clone());
-            }
+            self.strings.enter(&units);
             return Ok(Call::Enter(units));
         }
         let step = match name.as_str() {
@@ -430,22 +462,15 @@ impl Parser<'_> {
     }
 
     fn text(&mut self, units: &[u16]) -> Result<StringId, Error> {
-        let number = match self.strings.iter().position(|s| s == units) {
-            Some(n) => n,
-            None => {
-                if units.len() > 32 {
-                    return self.error("a text of more than 32 code units");
-                }
-                if self.strings.len() == 256 {
-                    return self.error("a 257th string");
-                }
-                self.strings.push(units.to_vec());
-                self.entered.push(units.to_vec());
-                self.strings.len() - 1
-            }
+        let known = self.strings.number(units).is_some();
+        let Some(number) = self.strings.enter(units) else {
+            return self.error(if units.len() > 32 { "a text of more than 32 code units" } else { "a 257th string" });
         };
+        if !known {
+            self.entered.push(units.to_vec());
+        }
         self.at += 1;
-        Ok(StringId(number as u8))
+        Ok(number)
     }
 
     fn key(&mut self) -> Result<PropertyKey, Error> {

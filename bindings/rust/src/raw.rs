@@ -68,4 +68,46 @@ extern "C" {
 
     /// Cells of the right length become an empty table of strings.
     pub fn demnyaluz_empty_strings(strings: *mut u16, strings_length: usize) -> bool;
+
+    /// Store, table and state of the right lengths become those of a text that is not read yet.
+    pub fn demnyaluz_text_start(
+        words: *mut u64,
+        words_length: usize,
+        strings: *mut u16,
+        strings_length: usize,
+        state: *mut u64,
+        state_length: usize,
+    ) -> bool;
+
+    /// Bytes of a text are taken up to the next line feed, and a line's row is written.
+    pub fn demnyaluz_text_feed(
+        words: *mut u64,
+        words_length: usize,
+        strings: *mut u16,
+        strings_length: usize,
+        state: *mut u64,
+        state_length: usize,
+        line: *mut u8,
+        line_length: usize,
+        piece: *const u8,
+        piece_length: usize,
+        rows: *mut u8,
+        rows_length: usize,
+        result: *mut [u64; 2],
+    ) -> bool;
+
+    /// A text ends, and the row of a last line without its line feed is written.
+    pub fn demnyaluz_text_end(
+        words: *mut u64,
+        words_length: usize,
+        strings: *mut u16,
+        strings_length: usize,
+        state: *mut u64,
+        state_length: usize,
+        line: *mut u8,
+        line_length: usize,
+        rows: *mut u8,
+        rows_length: usize,
+        result: *mut [u64; 2],
+    ) -> bool;
 }

@@ -30,11 +30,13 @@ pub enum Refusal {
     TooManyCalls = 10,
     /// 11: the output cannot hold 9 bytes for each key.
     OutputTooSmall = 11,
+    /// 12: a line of text breaks its form or has more than 16,384 characters.
+    BrokenLine = 12,
 }
 
 impl Refusal {
     /// All refusals, in the order of their numbers.
-    pub const ALL: [Refusal; 11] = [
+    pub const ALL: [Refusal; 12] = [
         Refusal::MalformedRecord,
         Refusal::ObjectNeverMade,
         Refusal::UnusablePart,
@@ -46,9 +48,10 @@ impl Refusal {
         Refusal::UnreadableAnswer,
         Refusal::TooManyCalls,
         Refusal::OutputTooSmall,
+        Refusal::BrokenLine,
     ];
 
-    /// The number, 1 to 11.
+    /// The number, 1 to 12.
     pub fn number(self) -> u8 {
         self as u8
     }
@@ -73,6 +76,7 @@ impl fmt::Display for Refusal {
             Refusal::UnreadableAnswer => "the next answer cannot be read",
             Refusal::TooManyCalls => "more than 2048 calls",
             Refusal::OutputTooSmall => "the output is too small",
+            Refusal::BrokenLine => "the line breaks its form or is too long",
         })
     }
 }
@@ -181,8 +185,8 @@ pub enum Failure {
 impl fmt::Display for Failure {
     fn fmt(&self, f: &mut fmt::Formatter<'_>) -> fmt::Result {
         match self {
-            Failure::Refused(r) => write!(f, "refused ({}): {r}", r.number()),
-            Failure::TypeError(m) => write!(f, "TypeError ({}): {m}", m.number()),
+            Failure::Refused(r) => write!(f, "refused {}: {r}", r.number()),
+            Failure::TypeError(m) => write!(f, "TypeError {}: {m}", m.number()),
             Failure::Thrown(v) => write!(f, "thrown {v}"),
         }
     }

@@ -173,6 +173,7 @@ impl fmt::Display for Value {
             Value::Null => write!(f, "null"),
             Value::Boolean(b) => write!(f, "{b}"),
             Value::Integer32(i) => write!(f, "{i}"),
+            Value::Float64(x) if x.is_infinite() => f.write_str(if *x > 0.0 { "Infinity" } else { "-Infinity" }),
             Value::Float64(x) => write!(f, "{x:?}"),
             Value::String(n) => write!(f, "s{}", n.0),
             Value::Symbol(n) => write!(f, "y{}", n.0),

@@ -50,6 +50,32 @@ fn descriptors_are_twenty_nine_bytes() {
 }
 
 #[test]
+fn properties_are_complete_descriptors() {
+    let nine = "00".repeat(9);
+    for (property, bytes) in [
+        (Property::Data { value: 1.into(), writable: true, enumerable: false, configurable: true }, format!("0f06030100000000000000{nine}{nine}")),
+        (
+            Property::Accessor { get: FunctionId(1).into(), set: Value::Undefined, enumerable: true, configurable: false },
+            format!("3301{nine}080100000000000000{nine}"),
+        ),
+    ] {
+        let written = PropertyDescriptor::from(property).to_bytes();
+        assert_eq!(hex(&written), bytes);
+        assert_eq!(Property::from_bytes(&written), Some(property));
+        // every other mask, and whatever else differs in a byte, is no property or another one
+        for at in 0..29 {
+            for byte in 0..=255 {
+                let mut changed = written;
+                changed[at] = byte;
+                let told = Property::from_bytes(&changed);
+                assert!(told.is_none() || PropertyDescriptor::from(told.unwrap()).to_bytes() == changed);
+                assert!(at != 0 || byte == written[0] || told.is_none());
+            }
+        }
+    }
+}
+
+#[test]
 fn steps_are_fifty_eight_bytes() {
     let key = PropertyKey::Symbol(SymbolId(3));
     let (zero, none) = ("00".repeat(9), "00".repeat(29));
@@ -140,8 +166,8 @@ fn refusals_have_numbers_and_texts() {
         assert_eq!(Refusal::from_number(i as u64 + 1), Some(r));
         assert!(!r.to_string().is_empty());
     }
-    assert_eq!((Refusal::from_number(0), Refusal::from_number(12)), (None, None));
-    assert_eq!(Failure::Refused(Refusal::SheetSpent).to_string(), "refused (8): the sheet has no next answer");
+    assert_eq!((Refusal::from_number(0), Refusal::from_number(13)), (None, None));
+    assert_eq!(Failure::Refused(Refusal::SheetSpent).to_string(), "refused 8: the sheet has no next answer");
 }
 
 #[test]

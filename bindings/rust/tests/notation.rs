@@ -1,5 +1,6 @@
 //! Readable lines: what they mean, where they are wrong, and their cells.
-use demnyaluz::notation::{cells, parse, Call, Error, HEADING};
+use demnyaluz::notation::{cells, parse, Call, Error, Strings, HEADING};
+use demnyaluz::readable;
 use demnyaluz::{Answer, FunctionId, ObjectId, PropertyDescriptor, PropertyKey, Step, StringId, SymbolId, Traps, Value};
 
 fn calls(text: &str) -> Vec<Call> {
@@ -196,4 +197,70 @@ fn cells_are_hexadecimal() {
             "0e 00 - - - - -",
         ]
     );
+}
+
+/// Calls that are written as readable lines are the same calls when they are read again.
+#[test]
+fn readable_calls_are_read_again() {
+    let mut texts = vec![
+        "string \"\\ud800\\udc00 \\udc00\\ud800 \\u0000\\u007f\\u0085 \\\\ \\\" \\n\\t é ☃ 😀\"".to_string(),
+        "string \"a\"\nhas o0 s0\nhas o0 s1\nstring \"late\"\nhas o0 s1".to_string(),
+        format!("string \"{}\"\nhas o0 s0", "x".repeat(33)),
+    ];
+    for name in ["sealed.steps", "day.steps"] {
+        texts.push(std::fs::read_to_string(format!("{}/examples/{name}", env!("CARGO_MANIFEST_DIR"))).unwrap());
+    }
+    let values =
+        "[undefined, null, true, false, 0, -1, 2147483647, -2147483648, 0.5, -0, 1e300, -5e-324, Infinity, -Infinity, NaN, y255, o255, f255]";
+    for step in [
+        "object",
+        "object o1",
+        "proxy o0",
+        "proxy o0 traps all",
+        "proxy o0 traps 1365",
+        "proxy o0 traps 682",
+        "revoke o1",
+        "getPrototypeOf o1",
+        "setPrototypeOf o1 null",
+        "setPrototypeOf o1 o2",
+        "isExtensible o1",
+        "preventExtensions o1",
+        "getOwnPropertyDescriptor o1 \"a\"",
+        "defineProperty o1 y7 {value: 1, writable: true, get: undefined, set: f1, enumerable: false, configurable: true}",
+        "has o1 \"a\"",
+        "get o1 \"a\" receiver null",
+        "set o1 \"a\" -0 receiver \"b\"",
+        "deleteProperty o1 s200",
+        "ownKeys o1",
+    ] {
+        texts.push(format!("{step} answers: {values}, throw 1, {{}}, {{get: \"c\"}}, [], \"a\""));
+    }
+    for text in texts {
+        let calls = calls(&text);
+        let mut strings = Strings::new();
+        let mut again = String::new();
+        for call in &calls {
+            if let Call::Enter(units) = call {
+                strings.enter(units);
+            }
+            again += &format!("{}\n", readable::call(call, &strings));
+        }
+        assert_eq!(parse(&again).unwrap().into_iter().map(|l| l.call).collect::<Vec<_>>(), calls, "{again}");
+    }
+}
+
+#[test]
+fn strings_have_their_numbers() {
+    let mut strings = Strings::new();
+    assert_eq!(strings.enter(&units("visits")), Some(StringId(0)));
+    assert_eq!(strings.enter(&[65; 33]), None);
+    assert_eq!(strings.enter(&[65; 32]), Some(StringId(1)));
+    assert_eq!(strings.enter(&units("visits")), Some(StringId(0)));
+    for n in 2..256 {
+        assert_eq!(strings.enter(&[n]), Some(StringId(n as u8)));
+    }
+    assert_eq!((strings.enter(&[1]), strings.enter(&[2])), (None, Some(StringId(2))));
+    assert_eq!((strings.number(&[1]), strings.number(&[255])), (None, Some(StringId(255))));
+    assert_eq!(strings.units(StringId(0)), Some(&units("visits")[..]));
+    assert_eq!(Strings::new().units(StringId(0)), None);
 }

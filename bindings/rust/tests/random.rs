@@ -10,7 +10,7 @@ fn list_of_calls(seed: u64, size: usize) -> Tally {
     let mut generator = Generator::new(seed);
     let mut pair = Pair::new();
     generator.begin(&mut pair);
-    if seed % 40 == 0 {
+    if seed % 40 == 1 {
         generator.fill(&mut pair);
     }
     for _ in 0..size {

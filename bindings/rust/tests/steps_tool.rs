@@ -15,7 +15,7 @@ fn steps(arguments: &[&str], input: &str) -> Output {
     child.wait_with_output().unwrap()
 }
 
-fn text(bytes: Vec<u8>) -> String {
+fn text_of(bytes: Vec<u8>) -> String {
     String::from_utf8(bytes).unwrap()
 }
 
@@ -44,17 +44,17 @@ fn lines_bytes_and_reports_are_printed() {
         "    answers: 4464".to_string(),
         format!("   step  0b0105{}0701{}", zeros(17), zeros(36)),
         "   sheet 0101037011000000000000".to_string(),
-        "   TypeError (17): Proxy trap returned unexpected data descriptor (1 answer, 2 calls)".to_string(),
+        "   TypeError 17: Proxy trap returned unexpected data descriptor (1 answer, 2 calls)".to_string(),
         "6: get o1 \"visits\"".to_string(),
         format!("   step  0b0105{}0701{}", zeros(17), zeros(36)),
         "   sheet 00".to_string(),
-        "   refused (8): the sheet has no next answer".to_string(),
+        "   refused 8: the sheet has no next answer".to_string(),
         "7: get o1 \"visits\" answers: throw \"visits\"".to_string(),
         format!("   step  0b0105{}0701{}", zeros(17), zeros(36)),
         format!("   sheet 010405{}", zeros(8)),
         "   thrown \"visits\" (1 answer, 1 call)".to_string(),
     ];
-    assert_eq!(text(ran.stdout).lines().collect::<Vec<_>>(), expected);
+    assert_eq!(text_of(ran.stdout).lines().collect::<Vec<_>>(), expected);
 }
 
 #[test]
@@ -63,14 +63,166 @@ fn cells_are_printed_and_nothing_runs() {
     assert!(ran.status.success());
     let expected =
         "step object key value receiver descriptor sheet\n01 00 - 010000000000000000 - - -\n0f 00 - - - - 0061\n0a 00 050000000000000000 - - - -\n";
-    assert_eq!(text(ran.stdout), expected);
+    assert_eq!(text_of(ran.stdout), expected);
+}
+
+/// A file of steps that is removed when the test ends.
+struct Steps(std::path::PathBuf);
+
+impl Steps {
+    fn new(name: &str, text: &str) -> Steps {
+        let path = std::env::temp_dir().join(format!("demnyaluz-{}-{name}.steps", std::process::id()));
+        std::fs::write(&path, text).unwrap();
+        Steps(path)
+    }
+
+    fn rows(&self, rows: &str) -> Output {
+        steps(&["--rows", self.0.to_str().unwrap()], rows)
+    }
+}
+
+impl Drop for Steps {
+    fn drop(&mut self) {
+        let _ = std::fs::remove_file(&self.0);
+    }
+}
+
+const ROWS: &str = "line outcome number answers calls value\n";
+
+#[test]
+fn rows_are_shown_beside_their_calls() {
+    let text = [
+        "object   # o0",
+        "has o0 \"a\"",
+        "string \"\\u0007\\\"\"",
+        "string \"a\"",
+        "get o0 s7",
+        "proxy o0 traps has, get",
+        "get o1 \"a\"",
+        "   1, throw y3",
+        "   [\"a\", -0]",
+        "getOwnPropertyDescriptor o0 \"a\"",
+        "getOwnPropertyDescriptor o0 \"b\"",
+        "ownKeys o0",
+        "ownKeys o1",
+        "set o0 y1 Infinity",
+    ]
+    .join("\n");
+    let zero = "00".repeat(9);
+    let rows = [
+        "1 1 0 0 0 070000000000000000".to_string(),
+        "2 1 0 0 0 050000000000000000".to_string(),
+        "3 1 0 0 2 020000000000000000".to_string(),
+        "4 1 0 0 0 050100000000000000".to_string(),
+        "5 1 0 0 0 050000000000000000".to_string(),
+        "6 0 3 0 0 -".to_string(),
+        "7 1 0 0 0 070100000000000000".to_string(),
+        "8 3 0 2 3 050000000000000000".to_string(),
+        format!("9 1 0 0 1 0f05050100000000000000{zero}{zero}"),
+        "10 1 0 0 0 050200000000000000".to_string(),
+        "11 1 0 0 1 -".to_string(),
+        "12 1 0 0 1 050000000000000000060300000000000000".to_string(),
+        "13 1 0 64 2048 -".to_string(),
+        "14 0 12 0 0 -".to_string(),
+    ];
+    let shown = [
+        "1: object -> o0 (0 answers, 0 calls)",
+        "2: string \"a\" -> s0",
+        "3: has o0 \"a\" -> false (0 answers, 2 calls)",
+        "4: string \"\\u0007\\\"\" -> s1",
+        "5: string \"a\" -> s0",
+        "6: get o0 s7 receiver o0 -> refused 3: a string was not entered or is too long, or a part has a kind that cannot be used",
+        "7: proxy o0 traps has, get -> o1 (0 answers, 0 calls)",
+        "8: get o1 \"a\" receiver o1 answers: 1, throw y3, [\"a\", -0.0] -> thrown \"a\" (2 answers, 3 calls)",
+        "9: getOwnPropertyDescriptor o0 \"a\" -> {value: \"\\u0007\\\"\", writable: true, enumerable: true, configurable: false} (0 answers, 1 call)",
+        "10: string \"b\" -> s2",
+        "11: getOwnPropertyDescriptor o0 \"b\" -> absent (0 answers, 1 call)",
+        "12: ownKeys o0 -> [\"a\", y3] (0 answers, 1 call)",
+        "13: ownKeys o1 -> [] (64 answers, 2048 calls)",
+        "14: set o0 y1 Infinity receiver o0 -> refused 12: the line breaks its form or is too long",
+    ];
+    let file = Steps::new("shown", &text);
+    let ran = file.rows(&format!("{ROWS}{}\n", rows.join("\n")));
+    assert_eq!(text_of(ran.stderr), "");
+    assert!(ran.status.success());
+    assert_eq!(text_of(ran.stdout).lines().collect::<Vec<_>>(), shown);
+    // the last line feed may be missing
+    assert!(file.rows(&format!("{ROWS}{}", rows.join("\n"))).status.success());
+}
+
+#[test]
+fn rows_that_do_not_belong_to_the_calls_are_errors() {
+    let file = Steps::new("errors", "object\nownKeys o0\ngetOwnPropertyDescriptor o0 y1\n");
+    let made = "1 1 0 0 0 070000000000000000\n";
+    let malformed = |line: u64, call: &str, row: &str, why: &str| format!("the row of line {line} ({call}) is malformed, '{row}': {why}");
+    for (rows, shown, message) in [
+        (String::new(), 0, "there are no rows: the heading 'line outcome number answers calls value' is missing".to_string()),
+        (made.to_string(), 0, "the heading 'line outcome number answers calls value' is expected, not '1 1 0 0 0 070000000000000000'".to_string()),
+        (format!("{ROWS}0 0 12 0 0 -\n"), 0, "the first line was refused as 12: it is not the seven names".to_string()),
+        (ROWS.to_string(), 0, "the row of line 1 is missing (object): there are rows for 0 of 3 calls".to_string()),
+        (format!("{ROWS}{made}"), 1, "the row of line 2 is missing (ownKeys o0): there are rows for 1 of 3 calls".to_string()),
+        (format!("{ROWS}{made}2 1 0 0 1 -\n3 1 0 0 1 -\n4 1 0 0 1 -\n"), 3, "there are more rows than the 3 calls: '4 1 0 0 1 -'".to_string()),
+        (format!("{ROWS}{made}3 1 0 0 1 -\n"), 1, "the row of line 2 is expected (ownKeys o0), not one of line 3: '3 1 0 0 1 -'".to_string()),
+        (format!("{ROWS}\n"), 0, malformed(1, "object", "", "six parts are wanted, with one space between them, not 1")),
+        (
+            format!("{ROWS}1 1 0 0 0 070000000000000000 -\n"),
+            0,
+            malformed(1, "object", "1 1 0 0 0 070000000000000000 -", "six parts are wanted, with one space between them, not 7"),
+        ),
+        (format!("{ROWS}01 0 1 0 0 -\n"), 0, malformed(1, "object", "01 0 1 0 0 -", "line is '01', which is no decimal number")),
+        (format!("{ROWS}1 +1 0 0 0 -\n"), 0, malformed(1, "object", "1 +1 0 0 0 -", "outcome is '+1', which is no decimal number")),
+        (format!("{ROWS}1 4 0 0 0 -\n"), 0, malformed(1, "object", "1 4 0 0 0 -", "outcome is 4, not 0 to 3")),
+        (format!("{ROWS}1 0 13 0 0 -\n"), 0, malformed(1, "object", "1 0 13 0 0 -", "there is no refusal 13")),
+        (format!("{ROWS}1 2 32 0 0 -\n"), 0, malformed(1, "object", "1 2 32 0 0 -", "there is no message 32")),
+        (format!("{ROWS}1 0 7 0 1 -\n"), 0, malformed(1, "object", "1 0 7 0 1 -", "a refusal has no answers and no calls")),
+        (format!("{ROWS}1 0 7 65 1 -\n"), 0, malformed(1, "object", "1 0 7 65 1 -", "answers is 65, which is more than 64")),
+        (format!("{ROWS}1 2 1 0 2049 -\n"), 0, malformed(1, "object", "1 2 1 0 2049 -", "calls is 2049, which is more than 2048")),
+        (format!("{ROWS}1 2 1 0 1 00\n"), 0, malformed(1, "object", "1 2 1 0 1 00", "value is '00', but with a refusal or a TypeError it is '-'")),
+        (format!("{ROWS}1 1 0 0 1 -\n"), 0, malformed(1, "object", "1 1 0 0 1 -", "value is '-', which is no bytes in lowercase hexadecimal")),
+        (format!("{ROWS}1 1 0 0 1 0A\n"), 0, malformed(1, "object", "1 1 0 0 1 0A", "value is '0A', which is no bytes in lowercase hexadecimal")),
+        (format!("{ROWS}1 1 0 0 1 00\n"), 0, malformed(1, "object", "1 1 0 0 1 00", "value is '00', which is not the 9 bytes of a value")),
+        (
+            format!("{ROWS}1 1 5 0 0 070000000000000000\n"),
+            0,
+            malformed(1, "object", "1 1 5 0 0 070000000000000000", "number is 5, but with a result or a thrown value it is 0"),
+        ),
+        (
+            format!("{ROWS}{made}2 1 0 0 1 070000000000000000\n"),
+            1,
+            malformed(2, "ownKeys o0", "2 1 0 0 1 070000000000000000", "value is '070000000000000000', which is not 9 bytes for each key"),
+        ),
+        (
+            format!("{ROWS}{made}2 1 0 0 1 -\n3 1 0 0 1 0f\n"),
+            2,
+            malformed(3, "getOwnPropertyDescriptor o0 y1", "3 1 0 0 1 0f", "value is '0f', which is not the 29 bytes of a complete descriptor"),
+        ),
+    ] {
+        let ran = file.rows(&rows);
+        assert_eq!(text_of(ran.stderr), format!("{}: {message}\n", file.0.display()), "{rows}");
+        assert_eq!(ran.status.code(), Some(1), "{rows}");
+        assert_eq!(text_of(ran.stdout).lines().count(), shown, "{rows}");
+    }
+}
+
+#[test]
+fn help_is_printed() {
+    let ran = steps(&["--help"], "");
+    assert!(ran.status.success());
+    let help = text_of(ran.stdout);
+    for part in ["steps FILE", "--cells FILE", "--rows FILE"] {
+        assert!(help.contains(part));
+    }
+    for wrong in [&[][..], &["--rows"], &["--rows", "-"], &["--cells"], &["--read", "x"], &["--rows", "x", "y"]] {
+        let ran = steps(wrong, "");
+        assert_eq!((ran.status.code(), text_of(ran.stderr)), (Some(2), help.clone()), "{wrong:?}");
+    }
 }
 
 #[test]
 fn an_error_names_line_and_column() {
     let ran = steps(&["-"], "object\nget o0 visits\n");
     assert_eq!(ran.status.code(), Some(1));
-    assert_eq!(text(ran.stderr), "-: line 2, column 8: a key: a text, or as s0 or y0, is wanted, not 'visits'\n");
+    assert_eq!(text_of(ran.stderr), "-: line 2, column 8: a key: a text, or as s0 or y0, is wanted, not 'visits'\n");
     assert!(ran.stdout.is_empty());
     assert_eq!(steps(&[], "").status.code(), Some(2));
     assert_eq!(steps(&["no such file"], "").status.code(), Some(1));
@@ -80,12 +232,12 @@ fn an_error_names_line_and_column() {
 fn the_example_runs() {
     let ran = steps(&[concat!(env!("CARGO_MANIFEST_DIR"), "/examples/sealed.steps")], "");
     assert!(ran.status.success());
-    let told = text(ran.stdout);
+    let told = text_of(ran.stdout);
     for line in [
-        "   TypeError (17): Proxy trap returned unexpected data descriptor (1 answer, 2 calls)",
-        "   TypeError (24): Proxy trap failed to return all non-configurable property keys (1 answer, 5 calls)",
+        "   TypeError 17: Proxy trap returned unexpected data descriptor (1 answer, 2 calls)",
+        "   TypeError 24: Proxy trap failed to return all non-configurable property keys (1 answer, 5 calls)",
         "   [\"visits\", y3] (1 answer, 5 calls)",
-        "   TypeError (1): Proxy object has empty handler and target (0 answers, 2 calls)",
+        "   TypeError 1: Proxy object has empty handler and target (0 answers, 2 calls)",
     ] {
         assert!(told.lines().any(|l| l == line), "{line}");
     }

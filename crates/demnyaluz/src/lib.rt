@@ -17,6 +17,7 @@ ghost use Rattle.reporting.specs.Memory.{StepExported, StringExported};
 ghost use Rattle.descriptor_entries.specs.Entries.{completeOver, validateOver, mergeOver, verdictReport, isAccepted};
 ghost use Rattle.internal_methods.specs.Messages.{messageText};
 ghost use Rattle.message.specs.Written.{written};
+ghost use Rattle.text_reader.specs.Memory.{Started, Fed, Ended, progressOf};
 
 // One step.
 #[no_mangle]
@@ -114,4 +115,51 @@ pub extern "C" fn demnyaluz_empty_strings(strings: &mut [u16]) -> bool
     ensures table { λ r. ⌜ (r ≡ true → isTable (now (strings .exit)) ≡ true) ⌝ }
 {
     text::make_empty(strings)
+}
+
+// Memory of the right lengths becomes a reader of a text that has read nothing; other memory is left.
+#[no_mangle]
+pub extern "C" fn demnyaluz_text_start(
+    words: &mut [u64],
+    strings: &mut [u16],
+    state: &mut [u64],
+) -> bool
+    ensures { λ r. ⌜ Started (now (words .entry)) (now (strings .entry)) (now (state .entry)) r (now (words .exit)) (now (strings .exit)) (now (state .exit)) ⌝ }
+{
+    text_reader::start(words, strings, state)
+}
+
+// A piece of a text, up to and with its first line feed: at most one row. The result is how many bytes were taken and written.
+#[no_mangle]
+pub extern "C" fn demnyaluz_text_feed(
+    words: &mut [u64],
+    strings: &mut [u16],
+    state: &mut [u64],
+    line: &mut [u8],
+    piece: &[u8],
+    rows: &mut [u8],
+    result: &mut [u64; 2],
+) -> bool
+    ensures { λ r. ⌜ Fed (now (words .entry)) (now (strings .entry)) (now (state .entry)) (now (line .entry)) (now (piece .entry)) (now (rows .entry)) (progressOf r (now (result .exit))) (now (words .exit)) (now (strings .exit)) (now (state .exit)) (now (line .exit)) (now (rows .exit)) ⌝ }
+{
+    let p = text_reader::feed(words, strings, state, line, piece, rows);
+    *result = [p.taken as u64, p.written as u64];
+    p.accepted
+}
+
+// The end of a text: the row of a line that has begun, or the heading with row 0 where there was no first line.
+#[no_mangle]
+pub extern "C" fn demnyaluz_text_end(
+    words: &mut [u64],
+    strings: &mut [u16],
+    state: &mut [u64],
+    line: &[u8],
+    rows: &mut [u8],
+    result: &mut [u64; 2],
+) -> bool
+    ensures { λ r. ⌜ Ended (now (words .entry)) (now (strings .entry)) (now (state .entry)) (now (line .entry)) (now (rows .entry)) (progressOf r (now (result .exit))) (now (words .exit)) (now (strings .exit)) (now (state .exit)) (now (rows .exit)) ⌝ }
+{
+    let p = text_reader::end(words, strings, state, line, rows);
+    *result = [p.taken as u64, p.written as u64];
+    p.accepted
 }

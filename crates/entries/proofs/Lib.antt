@@ -1,2 +1,3 @@
 pub mod EntriesHold
 pub mod ExportsHold
+pub mod TextsHold

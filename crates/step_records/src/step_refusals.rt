@@ -15,7 +15,7 @@ ghost use Rattle.record.specs.Bytes.{byteAt, numberAt, areZero};
 ghost use Rattle.step_records.specs.Refusals.{earlier, valueRefusal, objectRefusal, keyRefusal, prototypeRefusal, maskRefusal, receiverRefusal, descriptorRefusal, stepRefusal};
 
 // Whether the bytes from `at` on are zero, a word at a time; the last word may overlap the one before it.
-fn are_zero_from(bytes: &[u8], at: usize) -> bool
+pub fn are_zero_from(bytes: &[u8], at: usize) -> bool
     requires { ⌜ (at ≤ 50) × (58 ≤ length (now bytes)) ⌝ }
     ensures { λ r. ⌜ r ≡ areZero (now (bytes .entry)) at (58 - at) ⌝ }
 {

@@ -102,7 +102,7 @@ impl Generator {
             Value::Integer32(0) => self.random.pick(&[Value::Integer32(0), Value::Float64(0.0), Value::Float64(-0.0)]),
             Value::Integer32(i) => self.random.pick(&[v, Value::Float64(f64::from(i)), Value::Float64(-f64::from(i))]),
             Value::Float64(f) if f.is_nan() => Value::Float64(f64::from_bits(self.random.pick(&[0x7ff8_0000_0000_0001, 0xfff8_0000_0000_0000]))),
-            Value::Float64(f) if f == 0.0 => self.random.pick(&[Value::Integer32(0), Value::Float64(0.0), Value::Float64(-0.0)]),
+            Value::Float64(0.0) => self.random.pick(&[Value::Integer32(0), Value::Float64(0.0), Value::Float64(-0.0)]),
             Value::Float64(f) if f64::from(f as i32) == f => self.random.pick(&[v, Value::Integer32(f as i32)]),
             _ => v,
         }
@@ -392,32 +392,43 @@ impl Generator {
         }
     }
 
-    /// One step on both, damaged or not.
-    pub fn run_step(&mut self, pair: &mut Pair) {
-        let mut step = step_bytes(&self.step(&pair.world));
+    /// A step and its sheet, damaged or not.
+    pub fn step_and_sheet(&mut self, world: &World) -> (Vec<u8>, Vec<u8>) {
+        let mut step = step_bytes(&self.step(world));
         if self.random.once_in(2 * self.habits.damage) {
-            self.change_kind(&mut step, &pair.world);
+            self.change_kind(&mut step, world);
         }
-        let mut sheet = sheet_bytes(&self.sheet(&pair.world, &step));
+        let mut sheet = sheet_bytes(&self.sheet(world, &step));
         if self.random.once_in(self.habits.damage) {
             self.damage(&mut step);
         }
         if self.random.once_in(self.habits.damage) {
             self.damage(&mut sheet);
         }
+        (step, sheet)
+    }
+
+    /// One step on both.
+    pub fn run_step(&mut self, pair: &mut Pair) {
+        let (step, sheet) = self.step_and_sheet(&pair.world);
         let room = self.room();
         pair.step(&step, &sheet, room);
     }
 
-    pub fn run_string(&mut self, pair: &mut Pair) {
-        let units: Vec<u16> = match self.random.below(4) {
+    /// The code units of a string, seldom too many.
+    pub fn units(&mut self) -> Vec<u16> {
+        match self.random.below(4) {
             0 => {
                 let size = self.random.below(35);
                 (0..size).map(|_| self.random.next() as u16).collect()
             }
             1 => self.random.below(300).to_string().encode_utf16().collect(),
             _ => self.random.pick(&TEXTS).encode_utf16().collect(),
-        };
+        }
+    }
+
+    pub fn run_string(&mut self, pair: &mut Pair) {
+        let units = self.units();
         pair.enter_string(&units);
     }
 

@@ -5,3 +5,4 @@ pub mod generator;
 pub mod layout;
 pub mod pair;
 pub mod random;
+pub mod text;

@@ -67,7 +67,7 @@ impl Descriptor {
 
     /// Usable as a handed-in descriptor: not mixed, and what it gets and sets by can be called or is undefined.
     pub fn is_usable(&self) -> bool {
-        let callable = |v: Option<Value>| v.map_or(true, |v| v.is_undefined() || v.is_function());
+        let callable = |v: Option<Value>| v.into_iter().all(|v| v.is_undefined() || v.is_function());
         !(self.is_accessor() && self.is_data()) && callable(self.get) && callable(self.set)
     }
 

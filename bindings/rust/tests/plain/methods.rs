@@ -316,7 +316,8 @@ impl Run {
         Ok(told)
     }
 
-    /// 10.1.8, 10.5.8
+    /// 10.1.8, 10.5.8. A getter is called on the receiver, which its answer does not show.
+    #[allow(clippy::only_used_in_recursion)]
     pub fn get(&mut self, o: usize, key: Key, receiver: Value) -> Ends<Value> {
         let target = match self.call(o, 11)? {
             Kind::Ordinary => {

@@ -8,5 +8,6 @@ pub mod descriptor;
 pub mod methods;
 pub mod record;
 pub mod step;
+pub mod text;
 pub mod value;
 pub mod world;

@@ -1,0 +1,5 @@
+pub mod CellLaws
+pub mod HexadecimalLaws
+pub mod JoinLaws
+pub mod NameLaws
+pub mod RecordLaws

@@ -1,0 +1,1 @@
+// Steps from a text: definitions and theorems alone.

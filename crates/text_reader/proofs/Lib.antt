@@ -1,0 +1,3 @@
+pub mod ReadLaws
+pub mod StateLaws
+pub mod LineLaws

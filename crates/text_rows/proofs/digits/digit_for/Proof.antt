@@ -1,0 +1,13 @@
+use borrow.Author.Needs.{needs}
+use borrow.Author.Tests.{lt-ltb, le-ltb}
+use Rattle.text_rows.proofs.digits.digit_for.Statement.{statement}
+use Rattle.text_rows.proofs.digits.digit_for.Tie as tie
+
+returns : tie.Need-returns
+returns c = rw (lt-ltb _ 10 (c .if1 .taken))
+
+returns-2 : tie.Need-returns-2
+returns-2 c = rw (le-ltb _ 10 (c .if1 .left))
+
+pub digit-for-spec : {M : Type 1} → statement M
+digit-for-spec = tie.close (tie.spec (λ c. search needs) (λ c. search needs) returns returns-2)

@@ -1,0 +1,690 @@
+// Texts of steps with the rows that they must give. Nothing of the project is used: valid lines are performed by node on its own objects, and the
+// other rows follow from the text form.
+//
+//     node tests/text.mjs lines            the large text
+//     node tests/text.mjs rows             its rows
+//     node tests/text.mjs check PROGRAM    the program on every text: ends in 'N texts, M rows, 0 differences', or fails
+import { spawnSync } from 'node:child_process';
+
+const NAMES = ['step', 'object', 'key', 'value', 'receiver', 'descriptor', 'sheet'];
+const BYTES = { step: 1, object: 1, key: 9, value: 9, receiver: 9, descriptor: 29 };
+const HEADING = 'line outcome number answers calls value\n';
+const LONGEST = 16384;
+const zeros = (bytes) => '00'.repeat(bytes);
+const byte = (n) => n.toString(16).padStart(2, '0');
+
+// The store on node ----------------------------------------------------------------------
+//
+// An ordinary object is a proxy of node's over a plain object, with the standard's 10.1 as its handler, so that every call of an internal method is
+// seen and counted. A proxy of the store is a proxy of node's over its target: node itself performs 10.5, and asks the handler for the trap once
+// in each call.
+
+class Refusal { constructor(number) { this.number = number; } }
+
+let objects, plain, strings, live, calls, answers, used, grow;
+const SYMBOLS = Array.from({ length: 256 }, (_, n) => Symbol(n));
+const FUNCTIONS = Array.from({ length: 256 }, () => () => taken('function'));
+
+function empty() {
+  objects = []; plain = new Map(); strings = []; live = 0;
+}
+
+function begin() {
+  if (calls === 2048) throw new Refusal(10);
+  calls++;
+}
+
+// The next answer; `grow`, where it is there, makes one for whoever asks.
+function next(trap, target, key) {
+  if (used === answers.length && grow) grow(trap, target, key);
+  if (used === answers.length) throw new Refusal(8);
+  return answers[used++];
+}
+
+function taken(trap, target, key) {
+  const a = next(trap, target, key);
+  if ('thrown' in a) throw a.thrown;
+  if (!('value' in a) || (trap === 'getPrototypeOf' && typeof a.value === 'function')) throw new Refusal(9);
+  return a.value;
+}
+
+// A descriptor or a list; another primitive value is left to node.
+function takenAs(form, trap, target, key) {
+  const a = next(trap, target, key);
+  if ('thrown' in a) throw a.thrown;
+  if (form in a) return a[form];
+  if (!('value' in a) || typeof a.value === 'function' || (typeof a.value === 'object' && a.value !== null)) throw new Refusal(9);
+  return a.value;
+}
+
+const R = Reflect;
+
+function ordinary(prototype) {
+  const it = Object.create(prototype);
+  const self = new Proxy(it, {
+    getPrototypeOf() { begin(); return R.getPrototypeOf(it); },
+    setPrototypeOf(_, v) {
+      begin();
+      for (let p = v; plain.has(p) && v !== R.getPrototypeOf(it); p = R.getPrototypeOf(plain.get(p))) if (p === self) return false;
+      return R.setPrototypeOf(it, v);
+    },
+    isExtensible() { begin(); return R.isExtensible(it); },
+    preventExtensions() { begin(); return R.preventExtensions(it); },
+    getOwnPropertyDescriptor(_, key) { begin(); return R.getOwnPropertyDescriptor(it, key); },
+    defineProperty(_, key, d) {
+      begin();
+      const current = R.getOwnPropertyDescriptor(self, key), extensible = R.isExtensible(self);
+      if (current === undefined && extensible) {
+        if (live === 256) throw new Refusal(7);
+        live++;
+      }
+      return R.defineProperty(it, key, d);
+    },
+    has(_, key) {
+      begin();
+      if (R.getOwnPropertyDescriptor(self, key) !== undefined) return true;
+      const parent = R.getPrototypeOf(self);
+      return parent !== null && R.has(parent, key);
+    },
+    get(_, key, receiver) {
+      begin();
+      const own = R.getOwnPropertyDescriptor(self, key);
+      if (own === undefined) {
+        const parent = R.getPrototypeOf(self);
+        return parent === null ? undefined : R.get(parent, key, receiver);
+      }
+      return 'value' in own ? own.value : own.get === undefined ? undefined : R.apply(own.get, receiver, []);
+    },
+    set(_, key, v, receiver) {
+      begin();
+      let own = R.getOwnPropertyDescriptor(self, key);
+      if (own === undefined) {
+        const parent = R.getPrototypeOf(self);
+        if (parent !== null) return R.set(parent, key, v, receiver);
+        own = { value: undefined, writable: true };
+      }
+      if (!('value' in own)) {
+        if (own.set === undefined) return false;
+        R.apply(own.set, receiver, [v]);
+        return true;
+      }
+      if (!own.writable || !objects.includes(receiver)) return false;
+      const there = R.getOwnPropertyDescriptor(receiver, key);
+      if (there === undefined) return R.defineProperty(receiver, key, { value: v, writable: true, enumerable: true, configurable: true });
+      return 'value' in there && there.writable && R.defineProperty(receiver, key, { value: v });
+    },
+    deleteProperty(_, key) {
+      begin();
+      const own = R.getOwnPropertyDescriptor(self, key), gone = R.deleteProperty(it, key);
+      if (own !== undefined && gone) live--;
+      return gone;
+    },
+    ownKeys() { begin(); return R.ownKeys(it); },
+  });
+  plain.set(self, it);
+  return self;
+}
+
+const TRAPS = ['getPrototypeOf', 'setPrototypeOf', 'isExtensible', 'preventExtensions', 'getOwnPropertyDescriptor', 'defineProperty', 'has', 'get', 'set',
+  'deleteProperty', 'ownKeys'];
+const revokers = new Map(), targets = new Map();
+
+function proxy(target, mask) {
+  const handler = Object.create(null);
+  TRAPS.forEach((trap, i) => {
+    const form = { getOwnPropertyDescriptor: 'descriptor', ownKeys: 'list' }[trap];
+    const asked = (_, key) => (form ? takenAs(form, trap, target, key) : taken(trap, target, key));
+    Object.defineProperty(handler, trap, { get() { begin(); return mask >> i & 1 ? asked : undefined; } });
+  });
+  const made = Proxy.revocable(target, handler);
+  revokers.set(made.proxy, made.revoke);
+  targets.set(made.proxy, target);
+  return made.proxy;
+}
+
+function made(it) {
+  objects.push(it);
+  return it;
+}
+
+function performed(code, it, { key, value, receiver, descriptor }) {
+  if (code <= 2 && objects.length === 32) throw new Refusal(7);
+  switch (code) {
+    case 1: return made(ordinary(value));
+    case 2: return made(proxy(it, value));
+    case 3: revokers.get(it)(); return true;
+    case 4: return R.getPrototypeOf(it);
+    case 5: return R.setPrototypeOf(it, value);
+    case 6: return R.isExtensible(it);
+    case 7: return R.preventExtensions(it);
+    case 8: return R.getOwnPropertyDescriptor(it, key);
+    case 9: return R.defineProperty(it, key, descriptor);
+    case 10: return R.has(it, key);
+    case 11: return R.get(it, key, receiver);
+    case 12: return R.set(it, key, value, receiver);
+    case 13: return R.deleteProperty(it, key);
+    default: return R.ownKeys(it);
+  }
+}
+
+// Bytes ----------------------------------------------------------------------------------
+
+const little = (n, bytes) => { let text = ''; for (let i = 0; i < bytes; i++) { text += byte(n % 256); n = Math.floor(n / 256); } return text; };
+const float = (x) => Buffer.from(new Float64Array([x]).buffer).toString('hex');
+
+// A whole number is written as Integer32 throughout, another as Float64.
+function valueHex(x) {
+  switch (typeof x) {
+    case 'undefined': return zeros(9);
+    case 'boolean': return '02' + little(x ? 1 : 0, 8);
+    case 'number': return Object.is(x | 0, x) ? '03' + little(x >>> 0, 8) : '04' + float(x);
+    case 'string': return '05' + little(strings.indexOf(x), 8);
+    case 'symbol': return '06' + little(SYMBOLS.indexOf(x), 8);
+    case 'function': return '08' + little(FUNCTIONS.indexOf(x), 8);
+    default: return x === null ? '01' + zeros(8) : '07' + little(objects.indexOf(x), 8);
+  }
+}
+
+function descriptorHex(d) {
+  const fields = ['enumerable', 'configurable', 'writable', 'value', 'get', 'set'];
+  let mask = 0, booleans = 0;
+  fields.forEach((name, i) => { if (name in d) { mask |= 1 << i; if (i < 3 && d[name]) booleans |= 1 << i; } });
+  return byte(mask) + byte(booleans) + fields.slice(3).map((name) => (name in d ? valueHex(d[name]) : zeros(9))).join('');
+}
+
+function answerHex(a) {
+  if ('descriptor' in a) return '02' + descriptorHex(a.descriptor);
+  if ('list' in a) return '03' + little(a.list.length, 2) + a.list.map(valueHex).join('');
+  return 'thrown' in a ? '04' + valueHex(a.thrown) : '01' + valueHex(a.value);
+}
+
+const sheetHex = (list) => byte(list.length) + list.map(answerHex).join('');
+const unitsHex = (text) => Array.from({ length: text.length }, (_, i) => text.charCodeAt(i).toString(16).padStart(4, '0')).join('');
+
+// Texts ----------------------------------------------------------------------------------
+
+// A text in an order of the names. Lines are strings of one character a byte, without line feeds.
+let order, lines, rows, shortened;
+
+function start(names) {
+  empty();
+  order = names; lines = []; rows = []; shortened = false;
+}
+
+const put = (line, row) => { lines.push(line); rows.push(`${lines.length} ${row}`); };
+const cellsLine = (cells) => order.map((name) => cells[name] ?? '-').join(' ');
+const text = (input) => ({ input: Buffer.from(input, 'latin1'), output: Buffer.from(HEADING + rows.map((row) => row + '\n').join('')) });
+const joined = () => [order.join(' '), ...lines].join('\n');
+
+// A cell of zeros is written as a dash in every other line.
+function shorten(cells) {
+  shortened = !shortened;
+  const short = { ...cells };
+  for (const name of Object.keys(BYTES)) if (/^0*$/.test(short[name] ?? zeros(BYTES[name]))) short[name] = shortened ? '-' : zeros(BYTES[name]);
+  if (short.sheet === '00' && shortened) short.sheet = '-';
+  return short;
+}
+
+const broken = (line) => put(line, '0 12 0 0 -');
+const refused = (number, cells) => put(cellsLine(cells), `0 ${number} 0 0 -`);
+
+// A step, performed by node. `number` is the message that a TypeError has; false, and no line, where it is a TypeError and no number is given.
+function step(code, o, parts = {}, sheet = [], number = 0) {
+  const it = objects[o];
+  [calls, used, answers] = [0, 0, sheet];
+  const cell = (name) => (name in parts ? valueHex(parts[name]) : zeros(9));
+  const cells = { step: byte(code), object: byte(o), key: cell('key'), value: cell('value'), receiver: cell('receiver') };
+  cells.descriptor = 'descriptor' in parts ? descriptorHex(parts.descriptor) : zeros(29);
+  let row;
+  try {
+    const x = performed(code, it, parts);
+    const value = code === 14 ? x.map(valueHex).join('') || '-' : code !== 8 ? valueHex(x) : x === undefined ? '-' : descriptorHex(x);
+    row = `1 0 ${used} ${calls} ${value}`;
+  } catch (e) {
+    const isThrown = objects.includes(e) || typeof e !== 'object' || e === null;
+    if (isThrown) row = `3 0 ${used} ${calls} ${valueHex(e)}`;
+    else if (e instanceof Refusal) row = `0 ${e.number} 0 0 -`;
+    else if (e instanceof RangeError && /call stack/.test(e.message)) row = '0 10 0 0 -';
+    else if (!(e instanceof TypeError)) throw e;
+    else if (number === 0) return false;
+    else row = `2 ${number} ${used} ${calls + (/revoked/.test(e.message) ? 1 : 0)} -`;
+  }
+  if (number !== 0 && row[0] !== '2') throw new Error(`line ${lines.length + 1}: message ${number} was meant, not ${row}`);
+  put(cellsLine(shorten({ ...cells, sheet: sheetHex(answers) })), row);
+  return true;
+}
+
+const must = (...words) => { if (!step(...words)) throw new Error(`line ${lines.length + 1}: a TypeError that was not meant`); };
+
+function enter(string) {
+  if (string.length <= 32 && !strings.includes(string) && strings.length < 256) strings.push(string);
+  const value = strings.includes(string) ? `1 0 0 0 ${valueHex(string)}` : `0 ${string.length > 32 ? 3 : 7} 0 0 -`;
+  put(cellsLine({ ...shorten({ step: '0f' }), sheet: unitsHex(string) || '-' }), value);
+}
+
+const value = (v) => ({ value: v }), described = (d) => ({ descriptor: d }), list = (...keys) => ({ list: keys }), thrown = (v) => ({ thrown: v });
+
+// The kinds of broken lines, each made from the cells of a line that is valid --------------
+
+function brokenLines() {
+  const whole = { step: '01', object: '00', value: '01' + zeros(8) };                 // makes an object, if it is read
+  const entry = { step: '0f', sheet: '00620062' };
+  const line = cellsLine(whole);
+  const changed = (name, cell, from = whole) => broken(cellsLine({ ...from, [name]: cell }));
+
+  broken('');                                                // an empty line
+  broken(' ');                                               // a space alone
+  broken('      ');                                          // seven empty cells
+  broken('-');                                               // one cell
+  broken('- - - - - -');                                     // six cells
+  broken(line.split(' ').slice(1).join(' '));                // the first cell is missing
+  broken(line.split(' ').slice(0, 6).join(' '));             // the last cell is missing
+  broken('- ' + line);                                       // eight cells
+  broken(line + ' -');
+  broken(' ' + line);                                        // a space before the first cell
+  broken(line + ' ');                                        // a space behind the last cell
+  broken(line.replace(' ', '  '));                           // two spaces
+  broken(line.replace(' ', '\t'));                           // a tab in place of a space
+  broken(line + '\t');                                       // a tab at the end
+  broken(line + '\r');                                       // a carriage return
+  broken(line + '\0');                                       // a zero byte
+  broken(line.replace(' ', '\xa0'));                         // a space that is none
+  broken(line.replace(' ', '\x0b'));
+  broken(line.replace(' ', ','));                            // another separator
+  broken('\xef\xbb\xbf' + line);                             // a byte order mark
+  broken('# ' + line);                                       // a comment
+  broken(order.join(' '));                                   // the names again
+  broken(HEADING.trim());
+  broken('\xff'.repeat(100));                                // bytes above 127
+
+  // A cell of a wrong length
+  for (const name of Object.keys(BYTES)) {
+    const good = whole[name] ?? zeros(BYTES[name]);
+    changed(name, '');                                       // empty
+    changed(name, good.slice(1));                            // a digit less
+    changed(name, good + '0');                               // a digit more
+    if (good.length > 2) changed(name, good.slice(2));       // a byte less
+    changed(name, good + '00');                              // a byte more
+    changed(name, '--');                                     // two dashes
+    changed(name, '-' + good.slice(1));                      // a dash in place of a digit
+    changed(name, good.slice(1) + '-');
+    changed(name, good.slice(2) + '- ');                     // a dash, and a space more
+  }
+  changed('sheet', '');                                      // an empty sheet
+  changed('sheet', '0');                                     // half a byte
+  changed('sheet', '000');
+  changed('sheet', '01' + '01' + '0300000000000000000');     // an answer short of a digit
+  changed('sheet', '--');
+  changed('sheet', '-00');
+  changed('sheet', '00-');
+
+  // What is no lowercase digit, in each cell
+  for (const name of NAMES) {
+    const good = whole[name] ?? (name === 'sheet' ? '00' : zeros(BYTES[name]));
+    for (const wrong of ['A', 'F', 'g', 'G', 'x', '/', ':', '@', '`', '+', '.', '\xe9', '\x80', '\0', '\r', '\t']) {
+      changed(name, good.slice(0, -1) + wrong);
+      changed(name, wrong + good.slice(1));
+    }
+    changed(name, '\xe2\x80\x93');                           // an en dash in place of the dash
+    changed(name, '\xe2\x88\x92');                           // a minus sign
+    changed(name, '0x' + good.slice(2));                     // as some languages write it
+  }
+
+  // A string entry: code units that are not whole, and the other cells
+  for (const digits of ['0', '00', '006', '00620', '006200', '0062006']) changed('sheet', digits, entry);
+  changed('sheet', '', entry);
+  changed('sheet', '0062 0062', entry);                      // code units apart
+  changed('sheet', '006G', entry);
+  changed('sheet', '006A', entry);
+  changed('sheet', '0062-', entry);
+  changed('sheet', '00'.repeat(65), entry);                  // 32 and a half: before 3
+  changed('step', '0F', entry);
+  for (const [name, bytes] of Object.entries(BYTES)) if (name !== 'step') changed(name, zeros(bytes) + '00', entry);
+
+  // 12 stands before 1 to 4: what else is wrong with the line does not show
+  changed('receiver', '00', { step: '10' });
+  changed('receiver', '00', { step: '04', object: 'ff' });
+  changed('receiver', '00', { step: '08', key: '05' + 'ff'.repeat(8) });
+  changed('sheet', '000', { step: '3c' });
+  changed('sheet', '000', { step: '0f', object: '01' });
+  changed('sheet', '00', { step: '0f', object: '01' });
+  changed('sheet', '006200', { step: '0f', descriptor: zeros(28) + '01' });
+}
+
+// Lines at the greatest length. The sheets are valid: lists and values that nothing takes.
+function longLines() {
+  const lists = (keys) => [0, 1, 2, 3].map((i) => keys + i >> 2).map((n) => '03' + little(n, 2) + zeros(9 * n)).join('');
+  const sheet = (keys, values) => byte(4 + values) + lists(keys) + ('01' + zeros(9)).repeat(values);
+  const padded = (cells, length) => {
+    for (let keys = 880; keys <= 920; keys++) {
+      for (let values = 0; values < 40; values++) {
+        const line = cellsLine({ ...cells, sheet: sheet(keys, values) });
+        if (line.length === length) return line;
+      }
+    }
+    throw new Error(`no line of ${length} characters`);
+  };
+  const asks = { step: '06', object: '00' };
+  const answered = '1 0 0 1 02' + little(1, 8);
+  put(padded(asks, LONGEST - 2), answered);
+  put(padded(asks, LONGEST), answered);                                               // the longest line
+  broken(padded({ ...asks, key: zeros(9) }, LONGEST + 1));                            // one character more
+  broken(padded(asks, LONGEST + 2));
+  put(padded({ ...asks, key: zeros(9) }, LONGEST - 1), answered);
+  const making = cellsLine({ step: '01', value: '01' + zeros(8) });
+  for (const before of [LONGEST - 1, LONGEST, LONGEST + 1, 2 * LONGEST, 5 * LONGEST + 1]) broken('-'.repeat(before) + making);   // a valid line as its rest
+  broken(making.padEnd(LONGEST, ' '));
+  broken(making + ' '.repeat(LONGEST));
+  broken('0'.repeat(LONGEST));
+  broken('0'.repeat(LONGEST + 1));
+  put(cellsLine({ step: '0f', sheet: '0061'.repeat(4092) }), '0 3 0 0 -');            // a string that is too long in a line that is not
+  broken(cellsLine({ step: '0f', sheet: '0061'.repeat(4096) }));
+  put(cellsLine({ step: '04', sheet: '00'.repeat(8185) }), '0 1 0 0 -');              // bytes that are no sheet
+}
+
+// Refusals that follow from the bytes of a line alone; object 0 is ordinary, object 1 a proxy over it, and 9 and later were not made.
+function refusals() {
+  const nil = '01' + zeros(8), visits = '05' + zeros(8), byteOf = (n, v) => v.slice(0, 2 * n) + 'ff' + v.slice(2 * n + 2);
+  refused(1, {});                                                                     // dashes: step 0
+  refused(1, { step: '00', object: '00', sheet: '00' });
+  for (const code of ['10', '12', '3c', '7f', '80', 'f0', 'ff']) refused(1, { step: code });
+  refused(1, { step: '01', object: '01', value: nil });                               // a part that is not used
+  refused(1, { step: '04', key: visits });
+  refused(1, { step: '04', value: nil });
+  refused(1, { step: '04', receiver: nil });
+  refused(1, { step: '04', descriptor: '01' + zeros(28) });
+  refused(1, { step: '08', key: '09' + zeros(8) });                                   // a kind
+  refused(1, { step: '08', key: '02' + '02' + zeros(7) });                            // a boolean
+  refused(1, { step: '01', value: byteOf(8, nil) });                                  // a payload's last byte
+  refused(1, { step: '02', value: '03' + '0008' + zeros(6) });                        // a mask of 2048
+  refused(1, { step: '09', key: visits, descriptor: '40' + zeros(28) });
+  refused(1, { step: '09', key: visits, descriptor: zeros(28) + '01' });
+  const noSheets = ['01', '41', '0000', '0105', '0101', '01' + '05' + zeros(9), '01' + '03' + '0101' + zeros(9 * 257), 'ff'.repeat(8)];
+  for (const sheet of noSheets) refused(1, { step: '04', sheet });
+  // a string entry with another part
+  refused(1, { step: '0f', object: '01', sheet: '0061' });
+  for (const name of ['key', 'value', 'receiver']) refused(1, { step: '0f', [name]: nil });
+  refused(1, { step: '0f', descriptor: zeros(28) + '01' });
+  refused(1, { step: '0f', object: '01', sheet: '0061'.repeat(33) });                 // before 3
+  refused(3, { step: '0f', sheet: '0061'.repeat(33) });
+  refused(3, { step: '0f', key: zeros(9), sheet: 'ffff'.repeat(33) });
+  refused(2, { step: '04', object: '09' });
+  refused(2, { step: '04', object: 'ff' });
+  refused(2, { step: '05', value: '07' + '09' + zeros(7) });
+  refused(2, { step: '05', value: '07' + zeros(7) + '01' });
+  refused(2, { step: '0b', object: '09', key: '05' + 'ff' + zeros(7) });              // before 3
+  refused(2, { step: '04', sheet: '01' + '01' + '07' + '09' + zeros(7) });            // over the sheet
+  refused(3, { step: '0a', key: '05' + 'ff' + zeros(7) });
+  refused(3, { step: '0a', key: '06' + '0001' + zeros(6) });
+  refused(3, { step: '0a', key: nil });
+  refused(3, { step: '0a' });
+  refused(3, { step: '03' });                                                         // an ordinary object to revoke
+  refused(3, { step: '02', value: nil });
+  refused(3, { step: '01', value: '08' + zeros(8) });
+  refused(3, { step: '0b', key: visits, receiver: '08' + zeros(8) });
+  refused(3, { step: '04', sheet: '01' + '04' + '05' + 'ff' + zeros(7) });            // over the sheet
+  refused(4, { step: '09', key: visits, descriptor: '18' + '00' + zeros(27) });
+  refused(4, { step: '09', key: visits, descriptor: '10' + '00' + zeros(9) + nil + zeros(9) });
+  refused(4, { step: '09', key: visits, descriptor: '24' + '04' + zeros(27), sheet: '41' });   // before 1 over the sheet
+  refused(8, { step: '0b', object: '01', key: visits });
+  refused(8, { step: '0b', object: '01', key: visits, sheet: '00' });
+}
+
+// Generated steps: a random number from a seed, and answers that are mostly true of the ordinary object at the end of the targets.
+let seed = 1;
+const random = (n) => { seed ^= seed << 13; seed ^= seed >>> 17; seed ^= seed << 5; return (seed >>> 0) % n; };
+const pick = (from) => from[random(from.length)];
+const someValue = () => pick([undefined, null, true, false, 0, 1, -1, 70000, 4464, -0, 0.5, NaN, Infinity, 2147483648, pick(strings), SYMBOLS[random(256)],
+  pick(objects), FUNCTIONS[random(3)]]);
+
+function someAnswer(trap, target, key) {
+  if (random(12) === 0) return;                                                       // refusal 8
+  let it = target;
+  while (targets.has(it)) it = targets.get(it);
+  const base = plain.get(it), own = base === undefined ? undefined : R.getOwnPropertyDescriptor(base, key ?? '');
+  const truth = {
+    getPrototypeOf: () => value(R.getPrototypeOf(base)), isExtensible: () => value(R.isExtensible(base)), has: () => value(own !== undefined),
+    getOwnPropertyDescriptor: () => (own === undefined ? value(undefined) : described(own)), get: () => value(own?.value),
+    ownKeys: () => list(...R.ownKeys(base)),
+  }[trap];
+  answers.push(random(20) === 0 ? thrown(someValue()) : random(30) === 0 ? list() : truth && random(8) > 0 ? truth() : value(someValue()));
+}
+
+function someDescriptor() {
+  const d = Object.fromEntries(['enumerable', 'configurable'].filter(() => random(2)).map((name) => [name, random(4) > 0]));
+  if (random(3)) return { ...d, value: someValue(), writable: random(4) > 0 };
+  return { ...d, get: pick([undefined, FUNCTIONS[1]]), set: pick([undefined, FUNCTIONS[2]]) };
+}
+
+function someStep() {
+  const code = pick([4, 5, 6, 7, 8, 8, 9, 9, 9, 10, 11, 11, 12, 12, 13, 13, 14]), o = random(objects.length);
+  const parts = code >= 8 && code <= 13 ? { key: random(4) ? pick(strings) : SYMBOLS[random(3)] } : {};
+  if (code === 5) parts.value = pick([null, objects[0]]);
+  if (code === 9) parts.descriptor = someDescriptor();
+  if (code === 12) parts.value = someValue();
+  if (code === 11 || code === 12) parts.receiver = random(3) ? objects[o] : pick([undefined, pick(objects), pick(strings)]);
+  if (code === 5 && parts.value !== null && o === 0) parts.value = null;
+  if (code === 7 && random(4)) return;
+  grow = someAnswer;
+  step(code, o, parts);
+  grow = null;
+}
+
+// The large text --------------------------------------------------------------------------
+
+function large() {
+  seed = 1;
+  start(['sheet', 'value', 'descriptor', 'step', 'receiver', 'object', 'key']);
+  // Strings: the empty one, indices (which show the order of the bytes in the keys' order), one of 32, any code units
+  const first = ['visits', 'name', '7', '10', '', 'visits', '\u3700', '\ud800', '\ud83d\ude00', '\uffff', '\0', 'x'.repeat(32), 'x'.repeat(33), '01', ''];
+  for (const string of first) enter(string);
+  must(1, 0, { value: null });
+  must(2, 0, { value: 2047 });
+  refusals();
+  brokenLines();
+  // Nothing of all this was made or entered
+  must(14, 0);
+  must(1, 0, { value: objects[0] });                                                  // object 2
+  enter('next');
+  longLines();
+
+  const [exhibit, all] = objects, sealed = { value: 70000, writable: false, enumerable: true, configurable: false };
+  must(9, 0, { key: 'visits', descriptor: sealed });
+  must(9, 0, { key: '10', descriptor: { value: 10, configurable: true } });
+  must(9, 0, { key: '7', descriptor: { value: -7.5, configurable: true, writable: true } });
+  must(9, 0, { key: SYMBOLS[3], descriptor: { get: FUNCTIONS[1], set: undefined, configurable: true } });
+  must(9, 0, { key: '\u3700', descriptor: { value: '\ud800', configurable: true } });
+  must(14, 0);                                                                        // 7, 10, visits, \u3700, symbol 3
+  for (const key of ['visits', '10', '7', SYMBOLS[3], 'name']) must(8, 0, { key });
+  must(11, 0, { key: 'visits', receiver: exhibit });
+  must(11, 0, { key: 'name', receiver: undefined });
+  must(11, 2, { key: 'visits', receiver: 'name' });
+  must(11, 0, { key: SYMBOLS[3], receiver: null }, [value(0.5)]);
+  must(11, 0, { key: SYMBOLS[3], receiver: null }, [thrown(all)]);
+  must(11, 0, { key: SYMBOLS[3], receiver: null });                                   // 8
+  must(9, 0, { key: 'visits', descriptor: { value: 4464 } });
+  must(9, 0, { key: 'visits', descriptor: { value: 70000 } });
+  must(10, 2, { key: 'visits' });
+  must(10, 2, { key: 'name' });
+  must(12, 2, { key: 'visits', value: 1, receiver: objects[2] });
+  must(12, 2, { key: 'name', value: 'visits', receiver: objects[2] });
+  must(12, 0, { key: '7', value: -0, receiver: exhibit });
+  must(12, 0, { key: SYMBOLS[3], value: 1, receiver: exhibit });
+  must(13, 0, { key: 'visits' });
+  must(13, 0, { key: '\u3700' });
+  must(5, 0, { value: objects[2] });                                                  // false: a cycle
+  must(4, 2);
+  must(6, 0);
+  must(14, 2);
+
+  // The proxy with every trap
+  const get = { key: 'visits', receiver: all };
+  must(11, 1, get, [value(70000)]);
+  must(11, 1, get, [value(4464)], 17);
+  must(11, 1, get, [value(4464), thrown(1)], 17);
+  must(11, 1, get, [thrown('name')]);
+  must(11, 1, get, [list('visits')]);                                                 // 9
+  must(8, 1, { key: 'visits' }, [described(sealed)]);
+  must(8, 1, { key: 'visits' }, [value(undefined)], 8);
+  must(8, 1, { key: 'visits' }, [value(1)], 7);
+  must(8, 1, { key: 'name' }, [value(undefined)]);
+  must(8, 1, { key: 'name' }, [described({ get: FUNCTIONS[2], configurable: true })]);
+  must(8, 1, { key: 'name' }, [described({ get: 1 })], 27);
+  must(8, 1, { key: 'name' }, [described({ value: 1, get: undefined })], 29);
+  must(8, 1, { key: 'name' }, [value(all)]);                                          // 9
+  must(10, 1, { key: 'visits' }, [value(false)], 10);
+  must(10, 1, { key: 'name' }, [value('')]);
+  must(12, 1, { key: 'visits', value: 1, receiver: all }, [value(true)], 19);
+  must(12, 1, { key: 'visits', value: 1, receiver: all }, [value(false)]);
+  must(13, 1, { key: 'visits' }, [value(true)], 21);
+  must(14, 1, {}, [list('name', 'name')], 22);
+  must(14, 1, {}, [list('name')], 24);
+  must(14, 1, {}, [list('name', 'visits', SYMBOLS[255])]);
+  must(14, 1, {}, [value(1)], 31);
+  must(14, 1, {}, [list(1)], 30);
+  must(6, 1, {}, [value(false)], 5);
+  must(7, 1, {}, [value(true)], 6);
+  must(7, 1, {}, [value(null)]);
+  must(4, 1, {}, [value(1)], 2);
+  must(4, 1, {}, [value(FUNCTIONS[0])]);                                              // 9
+  must(4, 1, {}, [value(objects[2])]);
+  must(5, 1, { value: null }, [thrown(SYMBOLS[9])]);
+  must(9, 1, { key: 'name', descriptor: { value: NaN, configurable: true } }, [value(true)]);
+
+  // Proxies that forward, and one that is revoked
+  must(2, 1, { value: 0 });                                                           // 3
+  must(2, 3, { value: 128 });                                                         // 4
+  must(11, 3, { key: 'visits', receiver: objects[3] }, [value(70000)]);
+  must(11, 4, { key: 'visits', receiver: objects[4] }, [value(4464), described(sealed)], 17);
+  must(2, 0, { value: 0 });                                                           // 5
+  must(12, 5, { key: 'name', value: 3, receiver: objects[5] });
+  must(14, 5);
+  must(2, 5, { value: 1 });                                                           // 6
+  must(3, 6);
+  must(3, 6);
+  must(4, 6, {}, [], 1);
+  must(11, 6, { key: 'visits', receiver: undefined }, [value(1)], 1);
+  // A chain of prototypes without an end
+  must(1, 0, { value: null });                                                        // 7
+  must(2, 7, { value: 0 });                                                           // 8
+  must(5, 7, { value: objects[8] });
+  must(11, 7, { key: 'name', receiver: exhibit });                                    // 10
+  must(10, 8, { key: 'name' });
+  must(5, 7, { value: null });
+
+  for (let i = 0; i < 400; i++) someStep();
+
+  // Everything full: objects, strings, properties
+  while (objects.length < 31) must(1, 0, { value: null });
+  const last = objects.length;
+  must(1, 0, { value: null });
+  must(1, 0, { value: null });
+  must(2, 0, { value: 0 });
+  for (let i = 0; strings.length < 256; i++) enter(`key ${i}`);
+  enter('one more');
+  enter('visits');
+  enter('x'.repeat(33));
+  for (let i = 0; live < 256; i++) must(9, last, { key: strings[255 - i], descriptor: { value: i, configurable: true } });
+  must(9, last, { key: SYMBOLS[0], descriptor: { configurable: true } });
+  must(12, last, { key: SYMBOLS[0], value: 1, receiver: objects[last] });
+  must(14, last);
+  must(2, last, { value: 0 });
+  must(14, last - 1);
+  must(13, last, { key: strings[200] });
+  must(9, last, { key: SYMBOLS[0], descriptor: { configurable: true } });
+  must(14, last);
+  return joined();
+}
+
+// All texts -------------------------------------------------------------------------------
+
+function allTexts() {
+  const texts = [], add = (name, made) => texts.push({ name, ...made });
+  const whole = large();
+  add('the large text', text(whole + '\n'));
+  add('the large text, its last line feed missing', text(whole));
+  broken('');
+  add('the large text, an empty line behind it', text(whole + '\n\n'));
+  broken('');
+  add('the large text, two empty lines behind it', text(whole + '\n\n\n'));
+
+  start(NAMES);
+  put('01 00 - 010000000000000000 - - -', '1 0 0 0 070000000000000000');
+  add("the form's example", text(joined() + '\n'));
+  add("the form's example, its last line feed missing", text(joined()));
+
+  // Every name at every place
+  for (let turn = 0; turn < 14; turn++) {
+    const turned = NAMES.map((_, i) => NAMES[(i + turn) % 7]);
+    start(turn < 7 ? turned : turned.reverse());
+    enter('visits');
+    must(1, 0, { value: null });
+    must(9, 0, { key: 'visits', descriptor: { value: 70000, enumerable: true } });
+    must(2, 0, { value: 128 });
+    must(11, 1, { key: 'visits', receiver: objects[1] }, [value(4464)], 17);
+    must(12, 0, { key: SYMBOLS[1], value: 'visits', receiver: objects[0] });
+    must(8, 0, { key: 'visits' });
+    broken(cellsLine({ step: '01', value: '01' + zeros(8) }) + ' -');
+    add(`the names from ${order[0]} on`, text(joined()));
+  }
+
+  start(NAMES);
+  add('the names alone', text(NAMES.join(' ')));
+  add('the names alone, with a line feed', text(NAMES.join(' ') + '\n'));
+  for (let i = 0; i < 100100; i++) broken('');
+  add('100,100 empty lines', text(joined() + '\n'));
+  start(NAMES);
+  broken('0'.repeat(3000000));
+  must(1, 0, { value: null });
+  add('a line of 3,000,000 characters', text(joined()));
+  start(NAMES);
+  broken('0'.repeat(LONGEST + 1));
+  add('a last line that is too long', text(joined()));
+
+  // First lines that are broken or missing: nothing after them is read
+  const names = NAMES.join(' '), after = '\n01 00 - 010000000000000000 - - -\n' + names + '\n01 00 - 010000000000000000 - - -\n';
+  const heads = {
+    'no input': '', 'a line feed alone': '\n', 'an empty first line': '\n' + names + after, 'a line of cells first': after.slice(1),
+    'six names': names.replace(' sheet', '') + after, 'a name twice': names.replace('sheet', 'step') + after, 'eight names': names + ' sheet' + after,
+    'a name of its own': names.replace('sheet', 'sheets') + after, 'a shorter name': names.replace('sheet', 'shee') + after,
+    'an uppercase letter': names.replace('step', 'Step') + after, 'two spaces': names.replace(' ', '  ') + after, 'a space first': ' ' + names + after,
+    'a space last': names + ' ' + after, 'a tab': names.replace(' ', '\t') + after, 'commas': names.replace(/ /g, ',') + after,
+    'a carriage return': names + '\r' + after, 'a byte order mark': '\xef\xbb\xbf' + names + after, 'a comment': '# ' + names + after,
+    'a zero byte': names + '\0' + after, 'names that are not ended': 'step object key', 'a name after the line feed': names.replace(' sheet', '\nsheet') + after,
+    'a first line that is too long': names + ' '.repeat(LONGEST) + after, 'nothing but spaces': ' '.repeat(100), 'the heading of the rows': HEADING + names + after,
+    'a first line of 3,000,000 characters': 'step '.repeat(600000) + after, 'bytes above 127': '\xff'.repeat(20000),
+  };
+  for (const [name, input] of Object.entries(heads)) {
+    rows = ['0 0 12 0 0 -'];
+    add(`first line: ${name}`, text(input));
+  }
+  return texts;
+}
+
+// The command ------------------------------------------------------------------------------
+
+function check(program) {
+  const texts = allTexts();
+  let compared = 0, differences = 0;
+  for (const { name, input, output } of texts) {
+    const { status, signal, stdout, error } = spawnSync(program, [], { input, maxBuffer: 1 << 28 });
+    // a program that has read enough may close its input
+    if (error && error.code !== 'EPIPE') throw error;
+    const [meant, given] = [output, stdout].map((bytes) => bytes.toString('latin1').split('\n'));
+    compared += meant.length - 2;
+    if (status === 0 && output.equals(stdout)) continue;
+    differences++;
+    const at = meant.findIndex((row, i) => row !== given[i]);
+    const rest = given.length > meant.length ? 'there are more rows' : `ended by ${signal ?? status}`;
+    const what = at < 0 ? rest : `'${meant[at].slice(0, 200)}' is meant, not '${given[at]?.slice(0, 200)}'`;
+    console.log(`${name}: ${what}`);
+  }
+  console.log(`${texts.length} texts, ${compared} rows, ${differences} differences`);
+  process.exitCode = differences === 0 ? 0 : 1;
+}
+
+const [mode, program] = process.argv.slice(2);
+if (mode === 'lines') process.stdout.write(Buffer.from(large() + '\n', 'latin1'));
+else if (mode === 'rows') { large(); process.stdout.write(text('').output); }
+else if (mode === 'check' && program) check(program);
+else { console.error('usage: node tests/text.mjs lines | rows | check PROGRAM'); process.exitCode = 2; }
