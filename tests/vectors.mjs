@@ -5,7 +5,7 @@
 // Each record is 192 bytes: an operation, its inputs, and what JavaScript answers. The engine answers SameValue (Object.is), ToBoolean
 // (Boolean), array indices (does an Array's length follow the key?), and descriptors completed, validated and merged
 // (Reflect.defineProperty on an object made for it, then Object.getOwnPropertyDescriptor). The tests of steps and sheets, operations 6
-// and 7, are refusals 1 to 4 of docs/REFERENCE.md, written here a second time, since no engine has them. The generator is
+// and 7, are document 01's refusals 1 to 4, written here a second time, since no engine has them. The generator is
 // seeded: a second run gives the same bytes.
 
 const size = 192;

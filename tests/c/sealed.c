@@ -1,4 +1,4 @@
-/* The sealed 70,000 through include/demnyaluz.h: each report is held against what docs/REFERENCE.md says of it. */
+/* The sealed 70,000 through include/demnyaluz.h: each report is held against what document 01 says of it. */
 #include "demnyaluz.h"
 #include <stdio.h>
 #include <stdlib.h>
