@@ -82,6 +82,9 @@ impl std::fmt::Debug for Store {
 
 impl Store {
     /// A store with no object and no string.
+    ///
+    /// # Panics
+    /// Where the archive that is linked has another [`STORE_WORDS`] or [`STRING_CELLS`].
     #[must_use]
     pub fn new() -> Self {
         let mut store = Store { words: vec![0; STORE_WORDS].into(), strings: vec![0; STRING_CELLS].into() };

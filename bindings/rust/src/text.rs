@@ -57,6 +57,9 @@ impl std::fmt::Debug for TextReader {
 
 impl TextReader {
     /// A reader at the start of a text.
+    ///
+    /// # Panics
+    /// Where the archive that is linked has another length of a store, a table or a state.
     #[must_use]
     pub fn new() -> Self {
         let mut reader = TextReader {

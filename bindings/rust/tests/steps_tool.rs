@@ -214,7 +214,7 @@ fn help_has_each_option_and_an_example_that_runs() {
     assert!(ran.status.success() && ran.stderr.is_empty());
     let help = text_of(ran.stdout);
     assert!(help.starts_with("usage: steps [--cells | --rows] [--] FILE\n"));
-    for option in ["--cells", "--rows", "--help, -h"] {
+    for option in ["--cells", "--rows", "--help, -h", "--"] {
         assert!(help.lines().any(|l| l.starts_with(&format!("  {option} "))), "{option}");
     }
     assert!(help.lines().all(|l| l.chars().count() <= 110), "{help}");

@@ -19,6 +19,7 @@ FILE may be -, the standard input, but not with --rows.
   --cells      prints each step as a line of hexadecimal cells, under their names, and runs nothing
   --rows       reads the rows of such lines from the standard input and prints each beside its step
   --help, -h   prints this
+  --           ends the options, for a FILE whose name begins with a dash
 
 The exit status is 1 where FILE or the rows cannot be read, and 2 where the arguments are wrong.
 
