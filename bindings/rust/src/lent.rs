@@ -82,6 +82,15 @@ pub fn step(words: &mut [u64], strings: &[u16], step: &[u8], sheet: &[u8], outpu
 }
 
 /// A string's code units are entered.
+///
+/// ```
+/// use demnyaluz::{lent, Completion, Report, StringId, STRING_CELLS};
+///
+/// let mut strings = vec![0; STRING_CELLS];
+/// let words = lent::enter_string(&mut strings, &[0x76]);
+/// let report = Report::from_words(words.as_slice(), &[]).expect("a report of the library");
+/// assert_eq!(report.outcome, Ok(Completion::Value(StringId(0).into())));
+/// ```
 #[must_use]
 pub fn enter_string(strings: &mut [u16], units: &[u16]) -> ReportWords {
     let mut report = ReportWords::ZERO;
@@ -110,6 +119,15 @@ pub fn complete(words: &[u64], strings: &[u16], descriptor: &[u8]) -> ReportWord
 }
 
 /// A descriptor is validated by itself over a current one, or, with none, over an absent property.
+///
+/// ```
+/// use demnyaluz::{lent, PropertyDescriptor, STORE_WORDS, STRING_CELLS};
+///
+/// let (words, strings) = (vec![0; STORE_WORDS], vec![0; STRING_CELLS]);
+/// let [fixed, told] = [70_000, 4_464].map(|n| PropertyDescriptor::fixed(n).to_bytes());
+/// assert!(lent::validate(&words, &strings, true, &told, &[]).accepted);
+/// assert!(!lent::validate(&words, &strings, true, &told, &fixed).accepted);
+/// ```
 #[must_use]
 pub fn validate(words: &[u64], strings: &[u16], extensible: bool, descriptor: &[u8], current: &[u8]) -> Validated {
     let mut report = ReportWords::ZERO;

@@ -39,6 +39,17 @@ pub fn text(units: &[u16]) -> String {
 }
 
 /// A value: `70000`, `o1`, `"visits"`, `y3`; a string that was not entered is `s5`.
+///
+/// ```
+/// use demnyaluz::notation::Strings;
+/// use demnyaluz::{readable, StringId};
+///
+/// let mut strings = Strings::new();
+/// strings.enter(&[0x76]);
+/// assert_eq!(readable::value(70_000.into(), &strings), "70000");
+/// assert_eq!(readable::value(StringId(0).into(), &strings), "\"v\"");
+/// assert_eq!(readable::value(StringId(5).into(), &strings), "s5");
+/// ```
 #[must_use]
 pub fn value(v: Value, strings: &Strings) -> String {
     match v {
@@ -65,6 +76,13 @@ pub fn descriptor(d: &PropertyDescriptor, strings: &Strings) -> String {
 }
 
 /// A list of values: `["visits", y3]`.
+///
+/// ```
+/// use demnyaluz::notation::Strings;
+/// use demnyaluz::{readable, SymbolId, Value};
+///
+/// assert_eq!(readable::list([Value::Null, SymbolId(3).into()], &Strings::new()), "[null, y3]");
+/// ```
 #[must_use]
 pub fn list(values: impl IntoIterator<Item = Value>, strings: &Strings) -> String {
     let values: Vec<String> = values.into_iter().map(|v| value(v, strings)).collect();
@@ -83,6 +101,14 @@ pub fn answer(a: &Answer, strings: &Strings) -> String {
 }
 
 /// A step on one line, without answers: `get o1 "visits" receiver o1`.
+///
+/// ```
+/// use demnyaluz::notation::Strings;
+/// use demnyaluz::{readable, ObjectId, Step, Traps};
+///
+/// let step = Step::MakeProxy { target: ObjectId(0), traps: Traps::GET | Traps::OWN_KEYS };
+/// assert_eq!(readable::step(&step, &Strings::new()), "proxy o0 traps get, ownKeys");
+/// ```
 #[must_use]
 pub fn step(step: &Step, strings: &Strings) -> String {
     let of = |v: Value| value(v, strings);
@@ -132,6 +158,17 @@ pub fn completion(c: &Completion, strings: &Strings) -> String {
 }
 
 /// A report: `70000 (1 answer, 2 calls)`; a refusal has no answers and no calls.
+///
+/// ```
+/// use demnyaluz::notation::Strings;
+/// use demnyaluz::{readable, ObjectId, Step, Store};
+///
+/// let (mut store, strings) = (Store::new(), Strings::new());
+/// let report = store.step(&Step::IsExtensible { object: ObjectId(0) }, &[]);
+/// assert_eq!(readable::report(&report, &strings), "refused 2: an object was never made");
+/// let report = store.step(&Step::MakeObject { prototype: None }, &[]);
+/// assert_eq!(readable::report(&report, &strings), "o0 (0 answers, 0 calls)");
+/// ```
 #[must_use]
 pub fn report(r: &Report, strings: &Strings) -> String {
     let outcome = match &r.outcome {

@@ -160,6 +160,18 @@ fn completion(text: &str, call: &Call) -> Result<Completion, ParseRowError> {
 }
 
 /// Why rows cannot be shown beside their calls.
+///
+/// ```
+/// use demnyaluz::{notation, rows};
+/// use std::error::Error;
+///
+/// let calls = notation::parse("object")?;
+/// let text = format!("{}\n1 4 0 0 0 -\n", rows::HEADING);
+/// let error = rows::show(&calls, text.as_bytes(), &mut Vec::new()).unwrap_err();
+/// assert_eq!(error.to_string(), "the row of line 1 (object) is malformed, '1 4 0 0 0 -'");
+/// assert_eq!(error.source().unwrap().to_string(), "expected outcome 0 to 3, found 4");
+/// # Ok::<(), notation::Error>(())
+/// ```
 #[derive(Debug)]
 #[non_exhaustive]
 pub enum Error {

@@ -265,6 +265,17 @@ impl Store {
     ///
     /// # Errors
     /// A refusal, a TypeError or a thrown value.
+    ///
+    /// ```
+    /// use demnyaluz::{Answer, Store, Traps};
+    ///
+    /// let mut store = Store::new();
+    /// let object = store.make_object(None)?;
+    /// assert_eq!(store.get_prototype_of(object, &[])?, None);
+    /// let proxy = store.make_proxy(object, Traps::GET_PROTOTYPE_OF)?;
+    /// assert_eq!(store.get_prototype_of(proxy, &[Answer::Value(object.into())])?, Some(object));
+    /// # Ok::<(), demnyaluz::Failure>(())
+    /// ```
     pub fn get_prototype_of(&mut self, object: ObjectId, answers: &[Answer]) -> Result<Option<ObjectId>, Failure> {
         self.step(&Step::GetPrototypeOf { object }, answers).into_prototype()
     }
@@ -292,6 +303,18 @@ impl Store {
     ///
     /// # Errors
     /// A refusal, a TypeError or a thrown value.
+    ///
+    /// ```
+    /// use demnyaluz::{Answer, Failure, Message, Store, Traps};
+    ///
+    /// let mut store = Store::new();
+    /// let object = store.make_object(None)?;
+    /// let proxy = store.make_proxy(object, Traps::IS_EXTENSIBLE)?;
+    /// // the trap may not deny it
+    /// let told = store.is_extensible(proxy, &[Answer::Value(false.into())]);
+    /// assert_eq!(told, Err(Failure::TypeError(Message::UnexpectedExtensible)));
+    /// # Ok::<(), demnyaluz::Failure>(())
+    /// ```
     pub fn is_extensible(&mut self, object: ObjectId, answers: &[Answer]) -> Result<bool, Failure> {
         self.step(&Step::IsExtensible { object }, answers).into_boolean()
     }
@@ -363,6 +386,17 @@ impl Store {
     ///
     /// # Errors
     /// A refusal, a TypeError or a thrown value.
+    ///
+    /// ```
+    /// use demnyaluz::{Store, SymbolId};
+    ///
+    /// let mut store = Store::new();
+    /// let parent = store.make_object(None)?;
+    /// let child = store.make_object(Some(parent))?;
+    /// assert!(store.set(parent, SymbolId(0), 5, parent, &[])?);
+    /// assert!(store.has_property(child, SymbolId(0), &[])?);
+    /// # Ok::<(), demnyaluz::Failure>(())
+    /// ```
     pub fn has_property(&mut self, object: ObjectId, key: impl Into<PropertyKey>, answers: &[Answer]) -> Result<bool, Failure> {
         self.step(&Step::HasProperty { object, key: key.into() }, answers).into_boolean()
     }
@@ -418,6 +452,17 @@ impl Store {
     ///
     /// # Errors
     /// A refusal, a TypeError or a thrown value.
+    ///
+    /// ```
+    /// use demnyaluz::{PropertyDescriptor, Store, SymbolId};
+    ///
+    /// let mut store = Store::new();
+    /// let object = store.make_object(None)?;
+    /// assert!(store.define_own_property(object, SymbolId(0), PropertyDescriptor::fixed(70_000), &[])?);
+    /// assert!(!store.delete(object, SymbolId(0), &[])?);
+    /// assert!(store.delete(object, SymbolId(1), &[])?);
+    /// # Ok::<(), demnyaluz::Failure>(())
+    /// ```
     pub fn delete(&mut self, object: ObjectId, key: impl Into<PropertyKey>, answers: &[Answer]) -> Result<bool, Failure> {
         self.step(&Step::Delete { object, key: key.into() }, answers).into_boolean()
     }
