@@ -95,9 +95,13 @@ c-test: lib
 		gcc -Wall -Wextra -Werror -std=c11 -O1 -Iinclude -o target/lib/$$program tests/c/$$program.c target/lib/libdemnyaluz.a && target/lib/$$program || exit 1; \
 	done
 
-# The Rust crate's tests, against a plain implementation. It needs cargo, and no network.
+# The Rust crate's tests, against a plain implementation, and its documentation; then its formatting and clippy, where they are installed. It needs
+# cargo, and no network.
 bindings: lib
 	cd bindings/rust && cargo test --offline
+	cd bindings/rust && RUSTDOCFLAGS='-D warnings' cargo doc --quiet --offline --no-deps
+	cd bindings/rust && if cargo fmt --version > /dev/null 2>&1; then cargo fmt --check; fi
+	cd bindings/rust && if cargo clippy --version > /dev/null 2>&1; then cargo clippy --offline --all-targets -- -D warnings; fi
 
 # The sealed 70,000 through the Rust crate.
 example: lib

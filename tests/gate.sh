@@ -1,7 +1,7 @@
 #!/bin/sh
 # The gate: formatting; that what the documents name is there; `rt ci`, which proves everything from nothing and tries the must-fail edits; then, over
-# what was just proved, calls and texts against node's own objects, the C programs, the Rust crate's tests and the instructions of a step. It fails at
-# the first that fails. The tally of `rt ci` is printed last.
+# what was just proved, calls and texts against node's own objects, the C programs, the Rust crate's tests, with clippy where it is installed, and the
+# instructions of a step. It fails at the first that fails. The tally of `rt ci` is printed last.
 set -eu
 cd "$(dirname "$0")/.."
 log=$(mktemp)

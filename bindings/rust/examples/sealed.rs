@@ -1,5 +1,5 @@
 //! The sealed 70,000, and a handler that answers 4,464: proxies over proxies, and what each step reports.
-use demnyaluz::{Answer, Completion, Failure, ObjectId, PropertyDescriptor, PropertyKey, Report, Step, Store, Traps, Value};
+use demnyaluz::{Answer, Completion, Failure, ObjectId, PropertyDescriptor, PropertyKey, Step, Store, Traps, Value};
 
 struct Day {
     store: Store,
@@ -7,17 +7,15 @@ struct Day {
 
 impl Day {
     /// Runs a step and prints what it reports.
-    fn run(&mut self, what: &str, step: Step, answers: &[Answer]) -> Report {
+    fn run(&mut self, what: &str, step: Step, answers: &[Answer]) {
         let report = self.store.step(&step, answers);
         let told = match &report.outcome {
             Ok(Completion::Value(v)) => self.value(*v),
-            Ok(Completion::Property(p)) => p.to_string(),
-            Ok(Completion::Absent) => "absent".to_string(),
             Ok(Completion::Keys(keys)) => format!("{:?}", keys.iter().map(|k| self.value((*k).into())).collect::<Vec<_>>()),
+            Ok(other) => other.to_string(),
             Err(failure) => failure.to_string(),
         };
         println!("{what:<52} {told}  ({} answers, {} calls)", report.answers, report.calls);
-        report
     }
 
     fn value(&self, v: Value) -> String {
@@ -27,8 +25,8 @@ impl Day {
         }
     }
 
-    fn get(&mut self, what: &str, object: ObjectId, key: PropertyKey, answers: &[Answer]) -> Report {
-        self.run(what, Step::Get { object, key, receiver: object.into() }, answers)
+    fn get(&mut self, what: &str, object: ObjectId, key: PropertyKey, answers: &[Answer]) {
+        self.run(what, Step::Get { object, key, receiver: object.into() }, answers);
     }
 }
 

@@ -1,12 +1,68 @@
 //! The C interface over lent slices. Every function takes memory of any content and length, so none has a condition for its caller.
+//!
+//! [`Store`](crate::Store) and [`TextReader`](crate::TextReader) own such memory and are the simpler way.
+#![allow(unsafe_code)]
 
 use crate::raw;
+use crate::report::REPORT_WORDS;
 
-/// The words of a report; `include/demnyaluz.h` in the repository says what they are.
-pub type ReportWords = [u64; 10];
+/// The words of a report; `include/demnyaluz.h` says what they are, and [`Report::from_words`](crate::Report::from_words) reads them.
+#[derive(Clone, Copy, PartialEq, Eq, Hash, Debug)]
+pub struct ReportWords([u64; REPORT_WORDS]);
 
-/// One step.
-pub fn step(words: &mut [u64], strings: &[u16], step: &[u8], sheet: &[u8], output: &mut [u8], report: &mut ReportWords) {
+impl ReportWords {
+    const ZERO: ReportWords = ReportWords([0; REPORT_WORDS]);
+
+    /// The words.
+    #[must_use]
+    pub fn as_slice(&self) -> &[u64] {
+        &self.0
+    }
+}
+
+impl AsRef<[u64]> for ReportWords {
+    fn as_ref(&self) -> &[u64] {
+        &self.0
+    }
+}
+
+/// What [`validate`] answers.
+#[derive(Clone, Copy, PartialEq, Eq, Hash, Debug)]
+#[non_exhaustive]
+pub struct Validated {
+    /// Whether the descriptor is accepted.
+    pub accepted: bool,
+    /// The property after it, or the refusal.
+    pub report: ReportWords,
+}
+
+/// What [`text_feed`] took and wrote.
+#[derive(Clone, Copy, PartialEq, Eq, Hash, Debug)]
+#[non_exhaustive]
+pub struct Fed {
+    /// How many bytes of the piece were taken.
+    pub taken: usize,
+    /// How many bytes of rows were written.
+    pub written: usize,
+}
+
+/// One step. Keys are written to the output, [`Value::SIZE`](crate::Value::SIZE) bytes each.
+///
+/// ```
+/// use demnyaluz::{lent, sheet_bytes, Completion, ObjectId, Report, Step, OUTPUT_BYTES, STORE_WORDS, STRING_CELLS};
+///
+/// // memory that is all zeros is an empty store and an empty table
+/// let (mut words, strings) = (vec![0; STORE_WORDS], vec![0; STRING_CELLS]);
+/// let mut output = [0; OUTPUT_BYTES];
+/// let step = Step::MakeObject { prototype: None }.to_bytes();
+/// let words = lent::step(&mut words, &strings, &step, &sheet_bytes(&[]), &mut output);
+/// let report = Report::from_words(words.as_slice(), &output).expect("a report of the library");
+/// assert_eq!(report.outcome, Ok(Completion::Value(ObjectId(0).into())));
+/// ```
+#[must_use]
+pub fn step(words: &mut [u64], strings: &[u16], step: &[u8], sheet: &[u8], output: &mut [u8]) -> ReportWords {
+    let mut report = ReportWords::ZERO;
+    // SAFETY: each pointer is a slice's, with its length, and the report has its words. What is written is borrowed mutably: it overlaps nothing.
     unsafe {
         raw::demnyaluz_step(
             words.as_mut_ptr(),
@@ -19,24 +75,64 @@ pub fn step(words: &mut [u64], strings: &[u16], step: &[u8], sheet: &[u8], outpu
             sheet.len(),
             output.as_mut_ptr(),
             output.len(),
-            report,
+            report.0.as_mut_ptr(),
         );
     }
+    report
 }
 
 /// A string's code units are entered.
-pub fn enter_string(strings: &mut [u16], units: &[u16], report: &mut ReportWords) {
-    unsafe { raw::demnyaluz_enter_string(strings.as_mut_ptr(), strings.len(), units.as_ptr(), units.len(), report) }
+///
+/// ```
+/// use demnyaluz::{lent, Completion, Report, StringId, STRING_CELLS};
+///
+/// let mut strings = vec![0; STRING_CELLS];
+/// let words = lent::enter_string(&mut strings, &[0x76]);
+/// let report = Report::from_words(words.as_slice(), &[]).expect("a report of the library");
+/// assert_eq!(report.outcome, Ok(Completion::Value(StringId(0).into())));
+/// ```
+#[must_use]
+pub fn enter_string(strings: &mut [u16], units: &[u16]) -> ReportWords {
+    let mut report = ReportWords::ZERO;
+    // SAFETY: each pointer is a slice's, with its length, and the report has its words. What is written is borrowed mutably: it overlaps nothing.
+    unsafe { raw::demnyaluz_enter_string(strings.as_mut_ptr(), strings.len(), units.as_ptr(), units.len(), report.0.as_mut_ptr()) }
+    report
 }
 
 /// A descriptor is completed by itself.
-pub fn complete(words: &[u64], strings: &[u16], descriptor: &[u8], report: &mut ReportWords) {
-    unsafe { raw::demnyaluz_complete(words.as_ptr(), words.len(), strings.as_ptr(), strings.len(), descriptor.as_ptr(), descriptor.len(), report) }
+#[must_use]
+pub fn complete(words: &[u64], strings: &[u16], descriptor: &[u8]) -> ReportWords {
+    let mut report = ReportWords::ZERO;
+    // SAFETY: each pointer is a slice's, with its length, and the report has its words. Only the report is written: it overlaps nothing.
+    unsafe {
+        raw::demnyaluz_complete(
+            words.as_ptr(),
+            words.len(),
+            strings.as_ptr(),
+            strings.len(),
+            descriptor.as_ptr(),
+            descriptor.len(),
+            report.0.as_mut_ptr(),
+        );
+    }
+    report
 }
 
 /// A descriptor is validated by itself over a current one, or, with none, over an absent property.
-pub fn validate(words: &[u64], strings: &[u16], extensible: bool, descriptor: &[u8], current: &[u8], report: &mut ReportWords) -> bool {
-    unsafe {
+///
+/// ```
+/// use demnyaluz::{lent, PropertyDescriptor, STORE_WORDS, STRING_CELLS};
+///
+/// let (words, strings) = (vec![0; STORE_WORDS], vec![0; STRING_CELLS]);
+/// let [fixed, told] = [70_000, 4_464].map(|n| PropertyDescriptor::fixed(n).to_bytes());
+/// assert!(lent::validate(&words, &strings, true, &told, &[]).accepted);
+/// assert!(!lent::validate(&words, &strings, true, &told, &fixed).accepted);
+/// ```
+#[must_use]
+pub fn validate(words: &[u64], strings: &[u16], extensible: bool, descriptor: &[u8], current: &[u8]) -> Validated {
+    let mut report = ReportWords::ZERO;
+    // SAFETY: each pointer is a slice's, with its length, and the report has its words. Only the report is written: it overlaps nothing.
+    let accepted = unsafe {
         raw::demnyaluz_validate(
             words.as_ptr(),
             words.len(),
@@ -47,13 +143,17 @@ pub fn validate(words: &[u64], strings: &[u16], extensible: bool, descriptor: &[
             descriptor.len(),
             current.as_ptr(),
             current.len(),
-            report,
+            report.0.as_mut_ptr(),
         )
-    }
+    };
+    Validated { accepted, report }
 }
 
 /// A descriptor is merged into a current one by itself.
-pub fn merge(words: &[u64], strings: &[u16], current: &[u8], descriptor: &[u8], report: &mut ReportWords) {
+#[must_use]
+pub fn merge(words: &[u64], strings: &[u16], current: &[u8], descriptor: &[u8]) -> ReportWords {
+    let mut report = ReportWords::ZERO;
+    // SAFETY: each pointer is a slice's, with its length, and the report has its words. Only the report is written: it overlaps nothing.
     unsafe {
         raw::demnyaluz_merge(
             words.as_ptr(),
@@ -64,45 +164,69 @@ pub fn merge(words: &[u64], strings: &[u16], current: &[u8], descriptor: &[u8], 
             current.len(),
             descriptor.as_ptr(),
             descriptor.len(),
-            report,
+            report.0.as_mut_ptr(),
         );
     }
+    report
 }
 
-/// The text of a message, where it fits, and its length.
-pub fn message(number: u64, text: &mut [u8]) -> u64 {
-    unsafe { raw::demnyaluz_message(number, text.as_mut_ptr(), text.len()) }
+/// The length of a message's text, 0 where there is no such message. The text is written where all of it fits.
+///
+/// ```
+/// use demnyaluz::lent;
+///
+/// let mut text = vec![0; lent::message(1, &mut [])];
+/// lent::message(1, &mut text);
+/// assert_eq!(text, b"Proxy object has empty handler and target");
+/// ```
+pub fn message(number: u64, text: &mut [u8]) -> usize {
+    // SAFETY: each pointer is a slice's, with its length. What is written is borrowed mutably: it overlaps nothing.
+    let length = unsafe { raw::demnyaluz_message(number, text.as_mut_ptr(), text.len()) };
+    length as usize
 }
 
-/// Words of the right length become an empty store.
+/// Words of the right length become an empty store; others are left: false.
+#[must_use]
 pub fn empty_store(words: &mut [u64]) -> bool {
+    // SAFETY: each pointer is a slice's, with its length. What is written is borrowed mutably: it overlaps nothing.
     unsafe { raw::demnyaluz_empty_store(words.as_mut_ptr(), words.len()) }
 }
 
-/// Cells of the right length become an empty table of strings.
+/// Cells of the right length become an empty table of strings; others are left: false.
+#[must_use]
 pub fn empty_strings(strings: &mut [u16]) -> bool {
+    // SAFETY: each pointer is a slice's, with its length. What is written is borrowed mutably: it overlaps nothing.
     unsafe { raw::demnyaluz_empty_strings(strings.as_mut_ptr(), strings.len()) }
 }
 
-/// Store, table and state of the right lengths become those of a text that is not read yet.
+/// Store, table and state of the right lengths become those of a text that is not read yet; where one has another length all are left: false.
+#[must_use]
 pub fn text_start(words: &mut [u64], strings: &mut [u16], state: &mut [u64]) -> bool {
+    // SAFETY: each pointer is a slice's, with its length. What is written is borrowed mutably: it overlaps nothing.
     unsafe { raw::demnyaluz_text_start(words.as_mut_ptr(), words.len(), strings.as_mut_ptr(), strings.len(), state.as_mut_ptr(), state.len()) }
 }
 
-/// Bytes of the piece are taken up to and with its next line feed, or all of them, and at most one row is written. The result is how many bytes
-/// were taken and how many were written; once reading has ended both are 0.
+/// Bytes of the piece are taken up to and with its next line feed, or all of them, and at most one row is written; once reading has ended nothing
+/// is taken and written.
 ///
-/// False, with both 0 and nothing else touched, where a length is wrong or the memory is not what [`text_start`] and the calls after it left.
-pub fn text_feed(
-    words: &mut [u64],
-    strings: &mut [u16],
-    state: &mut [u64],
-    line: &mut [u8],
-    piece: &[u8],
-    rows: &mut [u8],
-    result: &mut [u64; 2],
-) -> bool {
-    unsafe {
+/// None, with nothing touched, where a length is wrong or the memory is not what [`text_start`] and the calls after it left.
+///
+/// ```
+/// use demnyaluz::{lent, STORE_WORDS, STRING_CELLS, TEXT_LINE_BYTES, TEXT_ROW_BYTES, TEXT_STATE_WORDS};
+///
+/// let (mut words, mut strings, mut state) = (vec![0; STORE_WORDS], vec![0; STRING_CELLS], vec![0; TEXT_STATE_WORDS]);
+/// let (mut line, mut rows) = (vec![0; TEXT_LINE_BYTES], vec![0; TEXT_ROW_BYTES]);
+/// assert!(lent::text_start(&mut words, &mut strings, &mut state));
+/// let names = b"step object key value receiver descriptor sheet\n";
+/// let fed = lent::text_feed(&mut words, &mut strings, &mut state, &mut line, names, &mut rows).expect("memory of a text");
+/// assert_eq!(fed.taken, names.len());
+/// assert_eq!(&rows[..fed.written], b"line outcome number answers calls value\n");
+/// ```
+#[must_use]
+pub fn text_feed(words: &mut [u64], strings: &mut [u16], state: &mut [u64], line: &mut [u8], piece: &[u8], rows: &mut [u8]) -> Option<Fed> {
+    let mut result = [0; 2];
+    // SAFETY: each pointer is a slice's, with its length, and the result has two words. What is written is borrowed mutably: it overlaps nothing.
+    let fed = unsafe {
         raw::demnyaluz_text_feed(
             words.as_mut_ptr(),
             words.len(),
@@ -116,15 +240,19 @@ pub fn text_feed(
             piece.len(),
             rows.as_mut_ptr(),
             rows.len(),
-            result,
+            result.as_mut_ptr(),
         )
-    }
+    };
+    fed.then_some(Fed { taken: result[0] as usize, written: result[1] as usize })
 }
 
-/// The text ends: the row of a last line without its line feed is written, or, where there was no first line, the heading and its refusal. The
-/// result is 0 and how many bytes were written. False as by [`text_feed`].
-pub fn text_end(words: &mut [u64], strings: &mut [u16], state: &mut [u64], line: &mut [u8], rows: &mut [u8], result: &mut [u64; 2]) -> bool {
-    unsafe {
+/// The text ends: how many bytes were written, of the row of a last line without its line feed, or, where there was no first line, of the heading
+/// and its refusal. None as by [`text_feed`].
+#[must_use]
+pub fn text_end(words: &mut [u64], strings: &mut [u16], state: &mut [u64], line: &mut [u8], rows: &mut [u8]) -> Option<usize> {
+    let mut result = [0; 2];
+    // SAFETY: each pointer is a slice's, with its length, and the result has two words. What is written is borrowed mutably: it overlaps nothing.
+    let ended = unsafe {
         raw::demnyaluz_text_end(
             words.as_mut_ptr(),
             words.len(),
@@ -136,7 +264,8 @@ pub fn text_end(words: &mut [u64], strings: &mut [u16], state: &mut [u64], line:
             line.len(),
             rows.as_mut_ptr(),
             rows.len(),
-            result,
+            result.as_mut_ptr(),
         )
-    }
+    };
+    ended.then_some(result[1] as usize)
 }

@@ -3,7 +3,7 @@
 //! This crate is a safe interface to `libdemnyaluz.a`, whose functions are proved against definitions written from the standard; the crate itself,
 //! which turns values into records and reports into values, is not proved but tested.
 //!
-//! A [`Store`] holds objects, properties and strings. A [`Step`] calls one of the eleven internal methods of an object, or makes an object or a
+//! A [`Store`] holds objects, properties and strings. A [`Step`] calls one of the essential internal methods of an object, or makes an object or a
 //! proxy. A proxy's handler is a set of [`Traps`] and, for each step, a list of [`Answer`]s: each call of a trap, a getter or a setter takes the
 //! next one. What comes back is a [`Report`]. A [`TextReader`] takes steps as lines of text and gives a row for each.
 //!
@@ -22,6 +22,9 @@
 //! # Ok::<(), Failure>(())
 //! ```
 #![deny(missing_docs)]
+#![forbid(unsafe_op_in_unsafe_fn)]
+// but in `lent`, which calls the library
+#![deny(unsafe_code)]
 
 mod descriptor;
 pub mod lent;
@@ -36,8 +39,11 @@ mod text;
 mod value;
 
 pub use descriptor::{Property, PropertyDescriptor};
-pub use report::{Completion, Failure, Message, Refusal, Report};
+pub use report::{Completion, Failure, Message, Refusal, Report, REPORT_WORDS};
 pub use step::{sheet_bytes, Answer, Step, Traps};
-pub use store::{Store, OUTPUT_BYTES, STORE_WORDS, STRING_CELLS};
+pub use store::{
+    Store, Validation, MAXIMUM_ANSWERS, MAXIMUM_CALLS, MAXIMUM_KEYS, MAXIMUM_OBJECTS, MAXIMUM_PROPERTIES, MAXIMUM_STRINGS, MAXIMUM_UNITS,
+    OUTPUT_BYTES, STORE_WORDS, STRING_CELLS,
+};
 pub use text::{run_text, TextReader, TEXT_LINE_BYTES, TEXT_ROW_BYTES, TEXT_STATE_WORDS};
-pub use value::{FunctionId, ObjectId, PropertyKey, StringId, SymbolId, Value};
+pub use value::{FunctionId, ObjectId, PropertyKey, StringId, SymbolId, TryFromValueError, Value, ValueWords};

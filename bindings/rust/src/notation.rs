@@ -28,27 +28,49 @@
 //! object  = o0 to o255
 //! key     = TEXT | s0 to s255 | y0 to y255                    a string by its text or its number, a symbol
 //! value   = "undefined" | "null" | "true" | "false" | NUMBER | key | object | f0 to f255
-//! NUMBER  = -2147483648 to 2147483647 is an Integer32; -0, NaN, Infinity, -Infinity and anything with "." or "e" is a Float64
+//! NUMBER  = -2147483648 to 2147483647 is an Integer32; -0, NaN, Infinity, -Infinity and anything with "." or "e" is a Float64, which is an
+//!           error where it is too large for one
 //! TEXT    = '"' {character | \" | \\ | \n | \t | \uXXXX} '"'
 //! ```
 //!
 //! A text that was not entered yet is entered before the line that has it.
 use crate::descriptor::PropertyDescriptor;
-use crate::step::{sheet_bytes, Answer, Step, Traps};
+use crate::readable;
+use crate::step::{sheet_bytes, Answer, Step, Traps, TRAPS};
+use crate::store::{MAXIMUM_STRINGS, MAXIMUM_UNITS};
 use crate::value::{FunctionId, ObjectId, PropertyKey, StringId, SymbolId, Value};
 use std::fmt;
 
 /// What is to be called.
-#[derive(Clone, PartialEq, Eq, Debug)]
+///
+/// ```
+/// use demnyaluz::notation::Call;
+///
+/// assert_eq!(Call::Enter(vec![0x76]).to_string(), "string \"v\"");
+/// ```
+#[derive(Clone, PartialEq, Eq, Hash, Debug)]
+#[non_exhaustive]
 pub enum Call {
     /// A string is entered, as code units.
     Enter(Vec<u16>),
-    /// A step, with its answers.
-    Step(Step, Vec<Answer>),
+    /// A step is performed.
+    Step {
+        /// The step.
+        step: Step,
+        /// What its traps, getters and setters answer.
+        answers: Vec<Answer>,
+    },
+}
+
+impl fmt::Display for Call {
+    /// As a line has it, but for strings, which are numbers here; [`readable::call`] has their texts.
+    fn fmt(&self, f: &mut fmt::Formatter<'_>) -> fmt::Result {
+        f.write_str(&readable::call(self, &Strings::new()))
+    }
 }
 
 /// A call, and the line that it stands on.
-#[derive(Clone, PartialEq, Eq, Debug)]
+#[derive(Clone, PartialEq, Eq, Hash, Debug)]
 pub struct Line {
     /// Lines count from 1.
     pub number: usize,
@@ -56,31 +78,76 @@ pub struct Line {
     pub call: Call,
 }
 
-/// Where a line cannot be read, and why.
-#[derive(Clone, PartialEq, Eq, Debug)]
+/// Where a line cannot be read: what was expected there, and what was found.
+///
+/// ```
+/// use demnyaluz::notation::parse;
+///
+/// let error = parse("object\nrevoke it").unwrap_err();
+/// assert_eq!((error.line(), error.column()), (2, 8));
+/// assert_eq!((error.expected(), error.found()), ("an object (o0 to o255)", "'it'"));
+/// assert_eq!(error.to_string(), "line 2, column 8: expected an object (o0 to o255), found 'it'");
+/// ```
+#[derive(Clone, PartialEq, Eq, Hash, Debug)]
 pub struct Error {
-    /// Lines count from 1.
-    pub line: usize,
-    /// Columns count from 1, in characters.
-    pub column: usize,
-    /// What is wrong.
-    pub message: String,
+    line: usize,
+    column: usize,
+    expected: String,
+    found: String,
+}
+
+impl Error {
+    /// The line; lines count from 1.
+    #[must_use]
+    pub fn line(&self) -> usize {
+        self.line
+    }
+
+    /// The column; columns count from 1, in characters.
+    #[must_use]
+    pub fn column(&self) -> usize {
+        self.column
+    }
+
+    /// What was expected.
+    #[must_use]
+    pub fn expected(&self) -> &str {
+        &self.expected
+    }
+
+    /// What was found.
+    #[must_use]
+    pub fn found(&self) -> &str {
+        &self.found
+    }
 }
 
 impl fmt::Display for Error {
     fn fmt(&self, f: &mut fmt::Formatter<'_>) -> fmt::Result {
-        write!(f, "line {}, column {}: {}", self.line, self.column, self.message)
+        write!(f, "line {}, column {}: expected {}, found {}", self.line, self.column, self.expected, self.found)
     }
 }
 
 impl std::error::Error for Error {}
 
 /// The strings that calls have entered, by their numbers.
-#[derive(Clone, PartialEq, Eq, Debug, Default)]
+///
+/// ```
+/// use demnyaluz::notation::Strings;
+/// use demnyaluz::StringId;
+///
+/// let mut strings = Strings::new();
+/// assert_eq!(strings.enter(&[0x76]), Some(StringId(0)));
+/// assert_eq!(strings.enter(&[0x77]), Some(StringId(1)));
+/// assert_eq!(strings.enter(&[0x76]), Some(StringId(0)));
+/// assert_eq!(strings.units(StringId(1)), Some(&[0x77][..]));
+/// ```
+#[derive(Clone, PartialEq, Eq, Hash, Debug, Default)]
 pub struct Strings(Vec<Vec<u16>>);
 
 impl Strings {
     /// No string.
+    #[must_use]
     pub fn new() -> Self {
         Strings::default()
     }
@@ -90,7 +157,7 @@ impl Strings {
         if let Some(n) = self.number(units) {
             return Some(n);
         }
-        if units.len() > 32 || self.0.len() == 256 {
+        if units.len() > MAXIMUM_UNITS || self.0.len() == MAXIMUM_STRINGS {
             return None;
         }
         self.0.push(units.to_vec());
@@ -98,44 +165,70 @@ impl Strings {
     }
 
     /// The number of a string that was entered.
+    #[must_use]
     pub fn number(&self, units: &[u16]) -> Option<StringId> {
         self.0.iter().position(|s| s == units).map(|n| StringId(n as u8))
     }
 
     /// The code units of a string that was entered.
+    #[must_use]
     pub fn units(&self, s: StringId) -> Option<&[u16]> {
         self.0.get(usize::from(s.0)).map(Vec::as_slice)
     }
 }
 
 /// The calls of a text, in their order.
+///
+/// # Errors
+/// The first place that cannot be read.
+///
+/// ```
+/// use demnyaluz::notation::{parse, Call};
+///
+/// let lines = parse("object   # o0\nhas o0 \"visits\"")?;
+/// let calls: Vec<String> = lines.iter().map(|l| l.call.to_string()).collect();
+/// assert_eq!(calls, ["object", "string \"visits\"", "has o0 s0"]);
+/// # Ok::<(), demnyaluz::notation::Error>(())
+/// ```
 pub fn parse(text: &str) -> Result<Vec<Line>, Error> {
-    let mut calls = Vec::new();
+    let mut calls: Vec<Line> = Vec::new();
     let mut strings = Strings::new();
     for (i, line) in text.lines().enumerate() {
         let number = i + 1;
         let tokens = tokens(line, number)?;
-        if tokens.is_empty() {
+        let Some((_, first)) = tokens.first() else {
             continue;
-        }
-        let mut parser = Parser { tokens: &tokens, at: 0, line: number, end: line.chars().count() + 1, strings: &mut strings, entered: Vec::new() };
-        let call = if line.starts_with([' ', '\t']) {
+        };
+        let mut parser = Parser {
+            tokens: &tokens,
+            at: 0,
+            line: number,
+            end: line.chars().count() + 1,
+            strings: &mut strings,
+            entered: Vec::new(),
+            tried: Vec::new(),
+        };
+        if line.starts_with([' ', '\t']) {
             let more = parser.answers()?;
             let entered = parser.end()?;
-            let Some(Line { number, call: Call::Step(step, mut answers) }) = calls.pop() else {
-                return Err(Error { line: number, column: tokens[0].1, message: "answers without a step before them".to_string() });
-            };
-            answers.extend(more);
-            // what the answers name is entered before their step
-            calls.extend(entered.into_iter().map(|units| Line { number, call: Call::Enter(units) }));
-            calls.push(Line { number, call: Call::Step(step, answers) });
-            continue;
+            let expected =
+                |found: &str| Error { line: number, column: *first, expected: "a step before answers".to_string(), found: found.to_string() };
+            match calls.pop() {
+                None => return Err(expected("no line")),
+                Some(Line { call: Call::Enter(_), .. }) => return Err(expected("the entry of a string")),
+                Some(Line { number, call: Call::Step { step, mut answers } }) => {
+                    answers.extend(more);
+                    // what the answers name is entered before their step
+                    calls.extend(entered.into_iter().map(|units| Line { number, call: Call::Enter(units) }));
+                    calls.push(Line { number, call: Call::Step { step, answers } });
+                }
+            }
         } else {
-            parser.call()?
-        };
-        let entered = parser.end()?;
-        calls.extend(entered.into_iter().map(|units| Line { number, call: Call::Enter(units) }));
-        calls.push(Line { number, call });
+            let call = parser.call()?;
+            let entered = parser.end()?;
+            calls.extend(entered.into_iter().map(|units| Line { number, call: Call::Enter(units) }));
+            calls.push(Line { number, call });
+        }
     }
     Ok(calls)
 }
@@ -143,15 +236,25 @@ pub fn parse(text: &str) -> Result<Vec<Line>, Error> {
 /// The names of the cells of [`cells`], as the first line has them.
 pub const HEADING: &str = "step object key value receiver descriptor sheet";
 
-/// A call as seven cells of lowercase hexadecimal digits, a line that [`TextReader`](crate::TextReader) reads: a dash is all zeros, or an empty
+/// A call as cells of lowercase hexadecimal digits, a line that [`TextReader`](crate::TextReader) reads: a dash is all zeros, or an empty
 /// sheet. Entering a string is step 0f, with its code units in the last cell, high byte first; a dash there is the empty string.
+///
+/// ```
+/// use demnyaluz::notation::{cells, Call};
+/// use demnyaluz::{ObjectId, Step};
+///
+/// let call = Call::Step { step: Step::OwnPropertyKeys { object: ObjectId(1) }, answers: vec![] };
+/// assert_eq!(cells(&call), "0e 01 - - - - -");
+/// assert_eq!(cells(&Call::Enter(vec![0x76])), "0f 00 - - - - 0076");
+/// ```
+#[must_use]
 pub fn cells(call: &Call) -> String {
     match call {
         Call::Enter(units) => {
             let units: String = units.iter().map(|u| format!("{u:04x}")).collect();
             format!("0f 00 - - - - {}", if units.is_empty() { "-" } else { &units })
         }
-        Call::Step(step, answers) => {
+        Call::Step { step, answers } => {
             let bytes = step.to_bytes();
             let mut cells = vec![hex(&bytes[..1]), hex(&bytes[1..2])];
             for part in [&bytes[2..11], &bytes[11..20], &bytes[20..29], &bytes[29..], &sheet_bytes(answers)] {
@@ -163,6 +266,11 @@ pub fn cells(call: &Call) -> String {
 }
 
 /// Bytes as lowercase hexadecimal digits.
+///
+/// ```
+/// assert_eq!(demnyaluz::notation::hex(&[0x0f, 0xa0]), "0fa0");
+/// ```
+#[must_use]
 pub fn hex(bytes: &[u8]) -> String {
     bytes.iter().map(|b| format!("{b:02x}")).collect()
 }
@@ -177,17 +285,35 @@ enum Token {
 impl fmt::Display for Token {
     fn fmt(&self, f: &mut fmt::Formatter<'_>) -> fmt::Result {
         match self {
-            Token::Word(w) => write!(f, "'{w}'"),
-            Token::Text(units) => write!(f, "{:?}", String::from_utf16_lossy(units)),
+            Token::Word(w) => write!(f, "'{}'", shortened(w)),
+            Token::Text(units) => f.write_str(&shortened(&readable::text(units))),
             Token::Mark(c) => write!(f, "'{c}'"),
         }
     }
 }
 
+/// The beginning of a long text.
+fn shortened(text: &str) -> String {
+    const LONGEST: usize = 60;
+    match text.char_indices().nth(LONGEST) {
+        Some((end, _)) => format!("{}...", &text[..end]),
+        None => text.to_string(),
+    }
+}
+
+/// Whether a word can have the character.
+fn is_of_word(c: char) -> bool {
+    c.is_ascii_alphanumeric() || "+-._".contains(c)
+}
+
 /// The tokens of a line, each with its column.
 fn tokens(line: &str, number: usize) -> Result<Vec<(Token, usize)>, Error> {
     let characters: Vec<char> = line.chars().collect();
-    let error = |at: usize, message: &str| Error { line: number, column: at + 1, message: message.to_string() };
+    let error = |at: usize, expected: &str, found: String| Error { line: number, column: at + 1, expected: expected.to_string(), found };
+    let found = |characters: &[char]| match characters {
+        [] => "the end of the line".to_string(),
+        _ => format!("'{}'", characters.iter().collect::<String>()),
+    };
     let mut tokens = Vec::new();
     let mut at = 0;
     while at < characters.len() {
@@ -204,7 +330,7 @@ fn tokens(line: &str, number: usize) -> Result<Vec<(Token, usize)>, Error> {
                 at += 1;
                 loop {
                     match characters.get(at) {
-                        None => return Err(error(start, "a text that does not end")),
+                        None => return Err(error(start, "a text that ends in '\"'", found(&[]))),
                         Some('"') => break,
                         Some('\\') => {
                             at += 1;
@@ -213,13 +339,18 @@ fn tokens(line: &str, number: usize) -> Result<Vec<(Token, usize)>, Error> {
                                 Some('n') => units.push(10),
                                 Some('t') => units.push(9),
                                 Some('u') => {
-                                    let digits: String = characters.iter().skip(at + 1).take(4).collect();
-                                    let plain = digits.len() == 4 && digits.bytes().all(|b| b.is_ascii_hexdigit());
-                                    let unit = plain.then(|| u16::from_str_radix(&digits, 16).ok()).flatten();
-                                    units.push(unit.ok_or_else(|| error(at - 1, "\\u wants four hexadecimal digits"))?);
+                                    let digits = &characters[at + 1..characters.len().min(at + 5)];
+                                    let unit = digits.iter().try_fold(0, |unit, d| Some(unit << 4 | d.to_digit(16)? as u16));
+                                    match unit.filter(|_| digits.len() == 4) {
+                                        Some(unit) => units.push(unit),
+                                        None => return Err(error(at - 1, "four hexadecimal digits after '\\u'", found(digits))),
+                                    }
                                     at += 4;
                                 }
-                                _ => return Err(error(at - 1, "an escape that is none of \\\" \\\\ \\n \\t \\u")),
+                                c => {
+                                    let escape = c.map_or(found(&[]), |c| format!("'\\{c}'"));
+                                    return Err(error(at - 1, "an escape (\\\" \\\\ \\n \\t or \\u and four digits)", escape));
+                                }
                             }
                         }
                         Some(c) => units.extend_from_slice(c.encode_utf16(&mut [0; 2])),
@@ -229,31 +360,35 @@ fn tokens(line: &str, number: usize) -> Result<Vec<(Token, usize)>, Error> {
                 at += 1;
                 tokens.push((Token::Text(units), start + 1));
             }
-            c if c.is_ascii_alphanumeric() || "+-._".contains(c) => {
-                while at < characters.len() && (characters[at].is_ascii_alphanumeric() || "+-._".contains(characters[at])) {
+            c if is_of_word(c) => {
+                while characters.get(at).is_some_and(|c| is_of_word(*c)) {
                     at += 1;
                 }
                 tokens.push((Token::Word(characters[start..at].iter().collect()), start + 1));
             }
-            c => return Err(error(at, &format!("a character that has no place here: {c:?}"))),
+            c => return Err(error(at, "a word, a text in '\"', or one of { } [ ] , : #", format!("{c:?}"))),
         }
     }
     Ok(tokens)
 }
 
-/// The traps by their names.
-pub(crate) const TRAPS: [(&str, Traps); 11] = [
-    ("getPrototypeOf", Traps::GET_PROTOTYPE_OF),
-    ("setPrototypeOf", Traps::SET_PROTOTYPE_OF),
-    ("isExtensible", Traps::IS_EXTENSIBLE),
-    ("preventExtensions", Traps::PREVENT_EXTENSIONS),
-    ("getOwnPropertyDescriptor", Traps::GET_OWN_PROPERTY_DESCRIPTOR),
-    ("defineProperty", Traps::DEFINE_PROPERTY),
-    ("has", Traps::HAS),
-    ("get", Traps::GET),
-    ("set", Traps::SET),
-    ("deleteProperty", Traps::DELETE_PROPERTY),
-    ("ownKeys", Traps::OWN_KEYS),
+/// The words that a line can begin with.
+const NAMES: &[&str] = &[
+    "string",
+    "object",
+    "proxy",
+    "revoke",
+    "getPrototypeOf",
+    "setPrototypeOf",
+    "isExtensible",
+    "preventExtensions",
+    "getOwnPropertyDescriptor",
+    "defineProperty",
+    "has",
+    "get",
+    "set",
+    "deleteProperty",
+    "ownKeys",
 ];
 
 struct Parser<'a> {
@@ -265,6 +400,8 @@ struct Parser<'a> {
     strings: &'a mut Strings,
     /// Texts of this line that were not entered before it.
     entered: Vec<Vec<u16>>,
+    /// What could have stood here, but does not.
+    tried: Vec<String>,
 }
 
 impl Parser<'_> {
@@ -272,31 +409,41 @@ impl Parser<'_> {
         self.tokens.get(self.at).map(|(t, _)| t)
     }
 
+    fn next(&mut self) {
+        self.at += 1;
+        self.tried.clear();
+    }
+
     fn column(&self) -> usize {
         self.tokens.get(self.at).map_or(self.end, |(_, column)| *column)
     }
 
-    fn error<T>(&self, message: impl Into<String>) -> Result<T, Error> {
-        Err(Error { line: self.line, column: self.column(), message: message.into() })
+    /// The error of what should stand here.
+    fn expected<T>(&self, what: impl Into<String>) -> Result<T, Error> {
+        let found = self.peek().map_or("the end of the line".to_string(), Token::to_string);
+        self.unlike(what, found)
     }
 
-    fn wanted<T>(&self, what: &str) -> Result<T, Error> {
-        match self.peek() {
-            None => self.error(format!("{what} is missing")),
-            Some(t) => self.error(format!("{what} is wanted, not {t}")),
+    fn unlike<T>(&self, expected: impl Into<String>, found: impl Into<String>) -> Result<T, Error> {
+        Err(Error { line: self.line, column: self.column(), expected: expected.into(), found: found.into() })
+    }
+
+    /// Takes the mark, if it is the next.
+    fn took_mark(&mut self, mark: char) -> bool {
+        let next = self.peek() == Some(&Token::Mark(mark));
+        if next {
+            self.next();
+        } else {
+            self.tried.push(format!("'{mark}'"));
         }
-    }
-
-    fn is_mark(&self, mark: char) -> bool {
-        self.peek() == Some(&Token::Mark(mark))
+        next
     }
 
     fn mark(&mut self, mark: char) -> Result<(), Error> {
-        if !self.is_mark(mark) {
-            return self.wanted(&format!("'{mark}'"));
+        if self.took_mark(mark) {
+            return Ok(());
         }
-        self.at += 1;
-        Ok(())
+        self.expected(format!("'{mark}'"))
     }
 
     fn word(&self) -> Option<&str> {
@@ -309,33 +456,37 @@ impl Parser<'_> {
     /// Takes the word, if it is the next.
     fn took(&mut self, word: &str) -> bool {
         let next = self.word() == Some(word);
-        self.at += usize::from(next);
+        if next {
+            self.next();
+        } else {
+            self.tried.push(format!("'{word}'"));
+        }
         next
     }
 
     /// Nothing may be left of the line; gives the texts to enter before it.
     fn end(self) -> Result<Vec<Vec<u16>>, Error> {
-        match self.peek() {
-            Some(t) => self.error(format!("{t} is left over")),
-            None => Ok(self.entered),
+        match (self.peek(), self.tried.is_empty()) {
+            (None, _) => Ok(self.entered),
+            (_, true) => self.expected("the end of the line"),
+            (_, false) => self.expected(format!("{} or the end of the line", self.tried.join(", "))),
         }
     }
 
     fn call(&mut self) -> Result<Call, Error> {
-        let Some(name) = self.word().map(str::to_string) else {
-            return self.wanted("the name of a step");
+        let Some(name) = self.word().filter(|w| NAMES.contains(w)).map(str::to_string) else {
+            return self.expected(format!("a step ({})", NAMES.join(", ")));
         };
-        let start = self.at;
-        self.at += 1;
-        if name == "string" {
-            let Some(Token::Text(units)) = self.peek().cloned() else {
-                return self.wanted("a text");
-            };
-            self.at += 1;
-            self.strings.enter(&units);
-            return Ok(Call::Enter(units));
-        }
+        self.next();
         let step = match name.as_str() {
+            "string" => {
+                let Some(Token::Text(units)) = self.peek().cloned() else {
+                    return self.expected("a text");
+                };
+                self.next();
+                self.strings.enter(&units);
+                return Ok(Call::Enter(units));
+            }
             "object" => {
                 let given = self.peek().is_some() && self.word() != Some("answers");
                 Step::MakeObject { prototype: if given { self.prototype()? } else { None } }
@@ -359,13 +510,13 @@ impl Parser<'_> {
             }
             "deleteProperty" => Step::Delete { object: self.object()?, key: self.key()? },
             "ownKeys" => Step::OwnPropertyKeys { object: self.object()? },
-            _ => {
-                self.at = start;
-                return self.error(format!("there is no step '{name}'"));
-            }
+            name => unreachable!("'{name}' is one of the names"),
         };
         let answers = if self.word() == Some("answers") { self.answers()? } else { Vec::new() };
-        Ok(Call::Step(step, answers))
+        if answers.is_empty() {
+            self.tried.push("'answers:'".to_string());
+        }
+        Ok(Call::Step { step, answers })
     }
 
     fn answers(&mut self) -> Result<Vec<Answer>, Error> {
@@ -373,36 +524,54 @@ impl Parser<'_> {
             self.mark(':')?;
         }
         let mut answers = vec![self.answer()?];
-        while self.is_mark(',') {
-            self.at += 1;
+        while self.took_mark(',') {
             answers.push(self.answer()?);
         }
         Ok(answers)
     }
 
     fn answer(&mut self) -> Result<Answer, Error> {
+        if self.peek().is_none() {
+            return self.expected("an answer (a value, a descriptor {..}, keys [..] or throw and a value)");
+        }
         if self.took("throw") {
             return Ok(Answer::Throw(self.value()?));
         }
         if self.took("value") {
             return Ok(Answer::Value(self.value()?));
         }
-        if self.took("descriptor") || self.is_mark('{') {
+        if self.took("descriptor") || self.peek() == Some(&Token::Mark('{')) {
             return Ok(Answer::Descriptor(self.descriptor()?));
         }
-        if self.took("keys") || self.is_mark('[') {
+        if self.took("keys") || self.peek() == Some(&Token::Mark('[')) {
             self.mark('[')?;
             let mut values = Vec::new();
-            while !self.is_mark(']') {
-                if !values.is_empty() {
-                    self.mark(',')?;
-                }
-                values.push(self.value()?);
-            }
-            self.mark(']')?;
+            self.items(']', VALUE, |parser| {
+                values.push(parser.value()?);
+                Ok(())
+            })?;
             return Ok(Answer::Keys(values));
         }
         Ok(Answer::Value(self.value()?))
+    }
+
+    /// Items with commas between them, up to the closing mark.
+    fn items(&mut self, close: char, what: &str, mut item: impl FnMut(&mut Self) -> Result<(), Error>) -> Result<(), Error> {
+        if self.took_mark(close) {
+            return Ok(());
+        }
+        if self.peek().is_none() {
+            return self.expected(format!("{what} or '{close}'"));
+        }
+        loop {
+            item(self)?;
+            if self.took_mark(close) {
+                return Ok(());
+            }
+            if !self.took_mark(',') {
+                return self.expected(format!("',' or '{close}'"));
+            }
+        }
     }
 
     /// The number of a word such as `o3`, if it is one of that letter.
@@ -411,15 +580,15 @@ impl Parser<'_> {
         if digits.is_empty() || !digits.bytes().all(|b| b.is_ascii_digit()) {
             return None;
         }
-        Some(digits.parse().or_else(|_| self.error("a number above 255")))
+        Some(digits.parse().or_else(|_| self.expected(format!("{letter}0 to {letter}255"))))
     }
 
     fn object(&mut self) -> Result<ObjectId, Error> {
         let Some(n) = self.numbered('o') else {
-            return self.wanted("an object, as o0,");
+            return self.expected("an object (o0 to o255)");
         };
         let n = n?;
-        self.at += 1;
+        self.next();
         Ok(ObjectId(n))
     }
 
@@ -428,7 +597,7 @@ impl Parser<'_> {
             return Ok(None);
         }
         if self.numbered('o').is_none() {
-            return self.wanted("null or an object, as o0,");
+            return self.expected("null or an object (o0 to o255)");
         }
         self.object().map(Some)
     }
@@ -443,33 +612,34 @@ impl Parser<'_> {
     fn traps(&mut self) -> Result<Traps, Error> {
         let mut traps = Traps::NONE;
         loop {
-            let Some(word) = self.word() else {
-                return self.wanted("the name of a trap");
+            let word = self.word().unwrap_or_default();
+            let named = TRAPS.iter().find(|(name, _)| *name == word).map(|(_, trap)| *trap);
+            let all = (word == "all").then_some(Traps::ALL);
+            let Some(more) = named.or(all).or_else(|| Traps::from_mask(word.parse().ok()?)) else {
+                let names: Vec<&str> = Traps::ALL.names().collect();
+                return self.expected(format!("a trap ({}), 'all' or a mask of at most {}", names.join(", "), Traps::ALL.mask()));
             };
-            traps = traps
-                | match (word, TRAPS.iter().find(|(name, _)| *name == word), word.parse().ok().and_then(Traps::from_mask)) {
-                    ("all", ..) => Traps::ALL,
-                    (_, Some((_, trap)), _) => *trap,
-                    (_, _, Some(mask)) => mask,
-                    _ => return self.wanted("the name of a trap, 'all' or a mask up to 2047"),
-                };
-            self.at += 1;
-            if !self.is_mark(',') {
+            traps |= more;
+            self.next();
+            if !self.took_mark(',') {
                 return Ok(traps);
             }
-            self.at += 1;
         }
     }
 
     fn text(&mut self, units: &[u16]) -> Result<StringId, Error> {
         let known = self.strings.number(units).is_some();
         let Some(number) = self.strings.enter(units) else {
-            return self.error(if units.len() > 32 { "a text of more than 32 code units" } else { "a 257th string" });
+            return if units.len() > MAXIMUM_UNITS {
+                self.unlike(format!("a text of at most {MAXIMUM_UNITS} code units"), format!("one of {}", units.len()))
+            } else {
+                self.unlike(format!("at most {MAXIMUM_STRINGS} different texts"), "one more")
+            };
         };
         if !known {
             self.entered.push(units.to_vec());
         }
-        self.at += 1;
+        self.next();
         Ok(number)
     }
 
@@ -482,9 +652,9 @@ impl Parser<'_> {
         } else if let Some(n) = self.numbered('y') {
             PropertyKey::Symbol(SymbolId(n?))
         } else {
-            return self.wanted("a key: a text, or as s0 or y0,");
+            return self.expected("a key (a text, s0 to s255 or y0 to y255)");
         };
-        self.at += 1;
+        self.next();
         Ok(key)
     }
 
@@ -504,33 +674,34 @@ impl Parser<'_> {
             (_, Some("NaN")) => Value::Float64(f64::NAN),
             (_, Some("Infinity")) => Value::Float64(f64::INFINITY),
             (_, Some("-Infinity")) => Value::Float64(f64::NEG_INFINITY),
-            (_, Some("-0")) => Value::Float64(-0.0),
-            (_, Some(word)) if word.starts_with(|c: char| c.is_ascii_digit() || "+-.".contains(c)) => {
-                let float = || word.contains(['.', 'e', 'E']).then(|| word.parse().ok()).flatten();
-                match (word.parse(), float()) {
-                    (Ok(i), _) => Value::Integer32(i),
-                    (_, Some(f)) => Value::Float64(f),
-                    _ => return self.wanted("a number that fits (with a point it is a Float64)"),
-                }
-            }
-            _ => return self.wanted("a value"),
+            (_, Some(word)) if word.starts_with(|c: char| c.is_ascii_digit() || "+-.".contains(c)) => self.number(word)?,
+            _ => return self.expected(VALUE),
         };
-        self.at += 1;
+        self.next();
         Ok(value)
     }
 
+    fn number(&self, word: &str) -> Result<Value, Error> {
+        if !word.contains(['.', 'e', 'E']) {
+            return match word.parse() {
+                Ok(0) if word.starts_with('-') => Ok(Value::Float64(-0.0)),
+                Ok(i) => Ok(Value::Integer32(i)),
+                Err(_) => self.expected("a whole number from -2147483648 to 2147483647, or one with a point or an exponent"),
+            };
+        }
+        match word.parse::<f64>() {
+            Ok(f) if f.is_finite() => Ok(Value::Float64(f)),
+            Ok(_) => self.expected(format!("a number from {:e} to {:e}, Infinity or -Infinity", f64::MIN, f64::MAX)),
+            Err(_) => self.expected("a number"),
+        }
+    }
+
     fn descriptor(&mut self) -> Result<PropertyDescriptor, Error> {
+        const FIELD: &str = "a field (value, writable, get, set, enumerable or configurable)";
         let mut d = PropertyDescriptor::default();
         self.mark('{')?;
-        let mut first = true;
-        while !self.is_mark('}') {
-            if !first {
-                self.mark(',')?;
-            }
-            first = false;
-            let Some(name) = self.word().map(str::to_string) else {
-                return self.wanted("the name of a field");
-            };
+        self.items('}', FIELD, |parser| {
+            let name = parser.word().unwrap_or_default().to_string();
             let taken = match name.as_str() {
                 "enumerable" => d.enumerable.is_some(),
                 "configurable" => d.configurable.is_some(),
@@ -538,23 +709,23 @@ impl Parser<'_> {
                 "value" => d.value.is_some(),
                 "get" => d.get.is_some(),
                 "set" => d.set.is_some(),
-                _ => return self.error(format!("there is no field '{name}'")),
+                _ => return parser.expected(FIELD),
             };
             if taken {
-                return self.error(format!("a second field '{name}'"));
+                return parser.unlike("each field once", format!("'{name}' again"));
             }
-            self.at += 1;
-            self.mark(':')?;
+            parser.next();
+            parser.mark(':')?;
             match name.as_str() {
-                "enumerable" => d.enumerable = Some(self.boolean()?),
-                "configurable" => d.configurable = Some(self.boolean()?),
-                "writable" => d.writable = Some(self.boolean()?),
-                "value" => d.value = Some(self.value()?),
-                "get" => d.get = Some(self.value()?),
-                _ => d.set = Some(self.value()?),
+                "enumerable" => d.enumerable = Some(parser.boolean()?),
+                "configurable" => d.configurable = Some(parser.boolean()?),
+                "writable" => d.writable = Some(parser.boolean()?),
+                "value" => d.value = Some(parser.value()?),
+                "get" => d.get = Some(parser.value()?),
+                _ => d.set = Some(parser.value()?),
             }
-        }
-        self.mark('}')?;
+            Ok(())
+        })?;
         Ok(d)
     }
 
@@ -565,6 +736,8 @@ impl Parser<'_> {
         if self.took("false") {
             return Ok(false);
         }
-        self.wanted("true or false")
+        self.expected("true or false")
     }
 }
+
+const VALUE: &str = "a value (as undefined, null, true, 70000, -0.5, \"text\", o0, s0, y0 or f0)";

@@ -1,7 +1,17 @@
-//! The C interface as it is: `include/demnyaluz.h` in the repository says what each function does.
+//! The C interface as it is: `include/demnyaluz.h` in the repository says what each function does. [`lent`](crate::lent) has the same over slices.
 //!
-//! Every function takes memory of any content and length. Each pointer must be good for its length (for length 0 it must still not be
-//! null), and nothing that is written may overlap anything else that is lent.
+//! # Safety
+//! Every function takes memory of any content and length. Each pointer must be good for its length, a report for
+//! [`REPORT_WORDS`](crate::REPORT_WORDS) words and a result for two, and nothing that is written may overlap anything else that is lent.
+//!
+//! ```
+//! use demnyaluz::raw;
+//!
+//! let mut text = [0; 90];
+//! // SAFETY: the pointer is the array's, with its length.
+//! let length = unsafe { raw::demnyaluz_message(17, text.as_mut_ptr(), text.len()) };
+//! assert_eq!(&text[..length as usize], b"Proxy trap returned unexpected data descriptor");
+//! ```
 
 extern "C" {
     /// One step.
@@ -16,11 +26,11 @@ extern "C" {
         sheet_length: usize,
         output: *mut u8,
         output_length: usize,
-        report: *mut [u64; 10],
+        report: *mut u64,
     );
 
     /// A string's code units are entered.
-    pub fn demnyaluz_enter_string(strings: *mut u16, strings_length: usize, units: *const u16, units_length: usize, report: *mut [u64; 10]);
+    pub fn demnyaluz_enter_string(strings: *mut u16, strings_length: usize, units: *const u16, units_length: usize, report: *mut u64);
 
     /// A descriptor is completed by itself.
     pub fn demnyaluz_complete(
@@ -30,7 +40,7 @@ extern "C" {
         strings_length: usize,
         descriptor: *const u8,
         descriptor_length: usize,
-        report: *mut [u64; 10],
+        report: *mut u64,
     );
 
     /// A descriptor is validated by itself over a current one, or, with length 0, over an absent property.
@@ -44,7 +54,7 @@ extern "C" {
         descriptor_length: usize,
         current: *const u8,
         current_length: usize,
-        report: *mut [u64; 10],
+        report: *mut u64,
     ) -> bool;
 
     /// A descriptor is merged into a current one by itself.
@@ -57,7 +67,7 @@ extern "C" {
         current_length: usize,
         descriptor: *const u8,
         descriptor_length: usize,
-        report: *mut [u64; 10],
+        report: *mut u64,
     );
 
     /// The text of a message, where it fits, and its length.
@@ -93,7 +103,7 @@ extern "C" {
         piece_length: usize,
         rows: *mut u8,
         rows_length: usize,
-        result: *mut [u64; 2],
+        result: *mut u64,
     ) -> bool;
 
     /// A text ends, and the row of a last line without its line feed is written.
@@ -108,6 +118,6 @@ extern "C" {
         line_length: usize,
         rows: *mut u8,
         rows_length: usize,
-        result: *mut [u64; 2],
+        result: *mut u64,
     ) -> bool;
 }

@@ -1,11 +1,28 @@
 //! Values, calls and reports as [`notation`](crate::notation) writes them: strings by their texts, where they were entered.
+//!
+//! ```
+//! use demnyaluz::notation::{Call, Strings};
+//! use demnyaluz::{readable, Answer, ObjectId, Step, StringId};
+//!
+//! let mut strings = Strings::new();
+//! let key = strings.enter(&"visits".encode_utf16().collect::<Vec<_>>()).expect("room");
+//! let step = Step::Get { object: ObjectId(1), key: key.into(), receiver: ObjectId(1).into() };
+//! let call = Call::Step { step, answers: vec![Answer::Value(4_464.into())] };
+//! assert_eq!(readable::call(&call, &strings), "get o1 \"visits\" receiver o1 answers: 4464");
+//! assert_eq!(readable::value(StringId(5).into(), &strings), "s5");
+//! ```
 use crate::descriptor::PropertyDescriptor;
-use crate::notation::{Call, Strings, TRAPS};
+use crate::notation::{Call, Strings};
 use crate::report::{Completion, Failure, Report};
 use crate::step::{Answer, Step, Traps};
 use crate::value::{ObjectId, Value};
 
 /// A text in quotation marks; quotation marks, backslashes, control characters and lone surrogates are escaped.
+///
+/// ```
+/// assert_eq!(demnyaluz::readable::text(&[0x61, 0x22, 0xd800]), r#""a\"\ud800""#);
+/// ```
+#[must_use]
 pub fn text(units: &[u16]) -> String {
     let mut text = String::from("\"");
     for character in char::decode_utf16(units.iter().copied()) {
@@ -22,6 +39,18 @@ pub fn text(units: &[u16]) -> String {
 }
 
 /// A value: `70000`, `o1`, `"visits"`, `y3`; a string that was not entered is `s5`.
+///
+/// ```
+/// use demnyaluz::notation::Strings;
+/// use demnyaluz::{readable, StringId};
+///
+/// let mut strings = Strings::new();
+/// strings.enter(&[0x76]);
+/// assert_eq!(readable::value(70_000.into(), &strings), "70000");
+/// assert_eq!(readable::value(StringId(0).into(), &strings), "\"v\"");
+/// assert_eq!(readable::value(StringId(5).into(), &strings), "s5");
+/// ```
+#[must_use]
 pub fn value(v: Value, strings: &Strings) -> String {
     match v {
         Value::String(s) => strings.units(s).map_or_else(|| v.to_string(), text),
@@ -30,6 +59,7 @@ pub fn value(v: Value, strings: &Strings) -> String {
 }
 
 /// A descriptor: `{value: 70000, writable: false, enumerable: true, configurable: false}`, the fields that it has.
+#[must_use]
 pub fn descriptor(d: &PropertyDescriptor, strings: &Strings) -> String {
     let of_value = |v: Option<Value>| v.map(|v| value(v, strings));
     let of_boolean = |b: Option<bool>| b.map(|b| b.to_string());
@@ -46,12 +76,21 @@ pub fn descriptor(d: &PropertyDescriptor, strings: &Strings) -> String {
 }
 
 /// A list of values: `["visits", y3]`.
+///
+/// ```
+/// use demnyaluz::notation::Strings;
+/// use demnyaluz::{readable, SymbolId, Value};
+///
+/// assert_eq!(readable::list([Value::Null, SymbolId(3).into()], &Strings::new()), "[null, y3]");
+/// ```
+#[must_use]
 pub fn list(values: impl IntoIterator<Item = Value>, strings: &Strings) -> String {
     let values: Vec<String> = values.into_iter().map(|v| value(v, strings)).collect();
     format!("[{}]", values.join(", "))
 }
 
 /// An answer: `4464`, `throw "lost"`, `{value: 1}`, `["visits", y3]`.
+#[must_use]
 pub fn answer(a: &Answer, strings: &Strings) -> String {
     match a {
         Answer::Value(v) => value(*v, strings),
@@ -61,53 +100,79 @@ pub fn answer(a: &Answer, strings: &Strings) -> String {
     }
 }
 
-/// A call on one line: `get o1 "visits" receiver o1 answers: 4464`.
-pub fn call(c: &Call, strings: &Strings) -> String {
-    let (step, answers) = match c {
-        Call::Enter(units) => return format!("string {}", text(units)),
-        Call::Step(step, answers) => (step, answers),
-    };
-    let object = |o: ObjectId| value(o.into(), strings);
+/// A step on one line, without answers: `get o1 "visits" receiver o1`.
+///
+/// ```
+/// use demnyaluz::notation::Strings;
+/// use demnyaluz::{readable, ObjectId, Step, Traps};
+///
+/// let step = Step::MakeProxy { target: ObjectId(0), traps: Traps::GET | Traps::OWN_KEYS };
+/// assert_eq!(readable::step(&step, &Strings::new()), "proxy o0 traps get, ownKeys");
+/// ```
+#[must_use]
+pub fn step(step: &Step, strings: &Strings) -> String {
     let of = |v: Value| value(v, strings);
-    let prototype = |p: Option<ObjectId>| p.map_or("null".to_string(), object);
-    let told = match *step {
+    let prototype = |p: Option<ObjectId>| p.map_or(Value::Null, Value::Object);
+    match *step {
         Step::MakeObject { prototype: None } => "object".to_string(),
-        Step::MakeObject { prototype: Some(p) } => format!("object {}", object(p)),
-        Step::MakeProxy { target, traps: Traps::NONE } => format!("proxy {}", object(target)),
-        Step::MakeProxy { target, traps: Traps::ALL } => format!("proxy {} traps all", object(target)),
-        Step::MakeProxy { target, traps } => {
-            let names: Vec<&str> = TRAPS.into_iter().filter(|(_, trap)| traps.contains(*trap)).map(|(name, _)| name).collect();
-            format!("proxy {} traps {}", object(target), names.join(", "))
-        }
-        Step::Revoke { proxy } => format!("revoke {}", object(proxy)),
-        Step::GetPrototypeOf { object: o } => format!("getPrototypeOf {}", object(o)),
-        Step::SetPrototypeOf { object: o, prototype: p } => format!("setPrototypeOf {} {}", object(o), prototype(p)),
-        Step::IsExtensible { object: o } => format!("isExtensible {}", object(o)),
-        Step::PreventExtensions { object: o } => format!("preventExtensions {}", object(o)),
-        Step::GetOwnProperty { object: o, key } => format!("getOwnPropertyDescriptor {} {}", object(o), of(key.into())),
-        Step::DefineOwnProperty { object: o, key, descriptor: d } => {
-            format!("defineProperty {} {} {}", object(o), of(key.into()), descriptor(&d, strings))
-        }
-        Step::HasProperty { object: o, key } => format!("has {} {}", object(o), of(key.into())),
-        Step::Get { object: o, key, receiver } => format!("get {} {} receiver {}", object(o), of(key.into()), of(receiver)),
-        Step::Set { object: o, key, value: v, receiver } => format!("set {} {} {} receiver {}", object(o), of(key.into()), of(v), of(receiver)),
-        Step::Delete { object: o, key } => format!("deleteProperty {} {}", object(o), of(key.into())),
-        Step::OwnPropertyKeys { object: o } => format!("ownKeys {}", object(o)),
-    };
-    if answers.is_empty() {
-        return told;
+        Step::MakeObject { prototype: Some(p) } => format!("object {p}"),
+        Step::MakeProxy { target, traps: Traps::NONE } => format!("proxy {target}"),
+        Step::MakeProxy { target, traps } => format!("proxy {target} traps {traps}"),
+        Step::Revoke { proxy } => format!("revoke {proxy}"),
+        Step::GetPrototypeOf { object } => format!("getPrototypeOf {object}"),
+        Step::SetPrototypeOf { object, prototype: p } => format!("setPrototypeOf {object} {}", prototype(p)),
+        Step::IsExtensible { object } => format!("isExtensible {object}"),
+        Step::PreventExtensions { object } => format!("preventExtensions {object}"),
+        Step::GetOwnProperty { object, key } => format!("getOwnPropertyDescriptor {object} {}", of(key.into())),
+        Step::DefineOwnProperty { object, key, descriptor: d } => format!("defineProperty {object} {} {}", of(key.into()), descriptor(&d, strings)),
+        Step::HasProperty { object, key } => format!("has {object} {}", of(key.into())),
+        Step::Get { object, key, receiver } => format!("get {object} {} receiver {}", of(key.into()), of(receiver)),
+        Step::Set { object, key, value, receiver } => format!("set {object} {} {} receiver {}", of(key.into()), of(value), of(receiver)),
+        Step::Delete { object, key } => format!("deleteProperty {object} {}", of(key.into())),
+        Step::OwnPropertyKeys { object } => format!("ownKeys {object}"),
     }
-    let answers: Vec<String> = answers.iter().map(|a| answer(a, strings)).collect();
-    format!("{told} answers: {}", answers.join(", "))
+}
+
+/// A call on one line: `string "visits"`, `get o1 "visits" receiver o1 answers: 4464`.
+#[must_use]
+pub fn call(c: &Call, strings: &Strings) -> String {
+    match c {
+        Call::Enter(units) => format!("string {}", text(units)),
+        Call::Step { step: s, answers } if answers.is_empty() => step(s, strings),
+        Call::Step { step: s, answers } => {
+            let answers: Vec<String> = answers.iter().map(|a| answer(a, strings)).collect();
+            format!("{} answers: {}", step(s, strings), answers.join(", "))
+        }
+    }
+}
+
+/// What a result holds: `70000`, `{value: 1}`, `absent`, `["visits", y3]`.
+#[must_use]
+pub fn completion(c: &Completion, strings: &Strings) -> String {
+    match c {
+        Completion::Value(v) => value(*v, strings),
+        Completion::Property(p) => descriptor(&(*p).into(), strings),
+        Completion::Absent => "absent".to_string(),
+        Completion::Keys(keys) => list(keys.iter().map(|k| Value::from(*k)), strings),
+    }
 }
 
 /// A report: `70000 (1 answer, 2 calls)`; a refusal has no answers and no calls.
+///
+/// ```
+/// use demnyaluz::notation::Strings;
+/// use demnyaluz::{readable, ObjectId, Step, Store};
+///
+/// let (mut store, strings) = (Store::new(), Strings::new());
+/// let report = store.step(&Step::IsExtensible { object: ObjectId(0) }, &[]);
+/// assert_eq!(readable::report(&report, &strings), "refused 2: an object was never made");
+/// let report = store.step(&Step::MakeObject { prototype: None }, &[]);
+/// assert_eq!(readable::report(&report, &strings), "o0 (0 answers, 0 calls)");
+/// ```
+#[must_use]
 pub fn report(r: &Report, strings: &Strings) -> String {
     let outcome = match &r.outcome {
-        Ok(Completion::Value(v)) => value(*v, strings),
-        Ok(Completion::Property(p)) => descriptor(&(*p).into(), strings),
-        Ok(Completion::Absent) => "absent".to_string(),
-        Ok(Completion::Keys(keys)) => list(keys.iter().map(|k| Value::from(*k)), strings),
+        Ok(c) => completion(c, strings),
         Err(Failure::Thrown(v)) => format!("thrown {}", value(*v, strings)),
         Err(failure @ Failure::Refused(_)) => return failure.to_string(),
         Err(failure) => failure.to_string(),

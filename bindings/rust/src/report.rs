@@ -1,11 +1,30 @@
 //! What a step reports: a result, or why there is none.
 use crate::descriptor::Property;
 use crate::lent;
-use crate::value::{ObjectId, PropertyKey, Value};
+use crate::notation::Strings;
+use crate::readable;
+use crate::value::{ObjectId, PropertyKey, Value, ValueWords};
+use std::error::Error;
 use std::fmt;
 
+/// How many words a report has.
+pub const REPORT_WORDS: usize = 10;
+
 /// Why a call was turned back. Store, strings and output are then unchanged, and no answer and no call is reported.
-#[derive(Clone, Copy, PartialEq, Eq, Hash, Debug)]
+///
+/// ```
+/// use demnyaluz::{Failure, Refusal, Store, Traps};
+///
+/// let mut store = Store::new();
+/// let object = store.make_object(None)?;
+/// let proxy = store.make_proxy(object, Traps::ALL)?;
+/// // the trap has no answer
+/// assert_eq!(store.is_extensible(proxy, &[]), Err(Failure::Refused(Refusal::SheetSpent)));
+/// assert_eq!(Refusal::SheetSpent.number(), 8);
+/// # Ok::<(), Failure>(())
+/// ```
+#[derive(Clone, Copy, PartialEq, Eq, PartialOrd, Ord, Hash, Debug)]
+#[non_exhaustive]
 #[repr(u8)]
 pub enum Refusal {
     /// 1: the bytes are no step, sheet or descriptor, or the memory is no store or table.
@@ -36,7 +55,13 @@ pub enum Refusal {
 
 impl Refusal {
     /// All refusals, in the order of their numbers.
-    pub const ALL: [Refusal; 12] = [
+    ///
+    /// ```
+    /// use demnyaluz::Refusal;
+    ///
+    /// assert_eq!(Refusal::ALL.first(), Some(&Refusal::MalformedRecord));
+    /// ```
+    pub const ALL: &'static [Refusal] = &[
         Refusal::MalformedRecord,
         Refusal::ObjectNeverMade,
         Refusal::UnusablePart,
@@ -51,14 +76,23 @@ impl Refusal {
         Refusal::BrokenLine,
     ];
 
-    /// The number, 1 to 12.
+    /// The number: 1 for the first.
+    #[must_use]
     pub fn number(self) -> u8 {
         self as u8
     }
 
-    /// The refusal of a number.
+    /// The refusal of a number, if there is one.
+    ///
+    /// ```
+    /// use demnyaluz::Refusal;
+    ///
+    /// assert_eq!(Refusal::from_number(8), Some(Refusal::SheetSpent));
+    /// assert_eq!(Refusal::from_number(0), None);
+    /// ```
+    #[must_use]
     pub fn from_number(number: u64) -> Option<Refusal> {
-        Refusal::ALL.into_iter().find(|r| u64::from(r.number()) == number)
+        Refusal::ALL.iter().copied().find(|r| u64::from(r.number()) == number)
     }
 }
 
@@ -81,12 +115,20 @@ impl fmt::Display for Refusal {
     }
 }
 
-impl std::error::Error for Refusal {}
+impl Error for Refusal {}
 
 macro_rules! messages {
     ($($number:literal $name:ident $doc:literal,)*) => {
         /// The TypeErrors. Their texts are the library's: [`Message::text`].
-        #[derive(Clone, Copy, PartialEq, Eq, Hash, Debug)]
+        ///
+        /// ```
+        /// use demnyaluz::Message;
+        ///
+        /// assert_eq!(Message::GotUnexpectedData.number(), 17);
+        /// assert_eq!(Message::GotUnexpectedData.to_string(), "Proxy trap returned unexpected data descriptor");
+        /// ```
+        #[derive(Clone, Copy, PartialEq, Eq, PartialOrd, Ord, Hash, Debug)]
+        #[non_exhaustive]
         #[repr(u8)]
         pub enum Message {
             $(#[doc = $doc] $name = $number,)*
@@ -94,7 +136,7 @@ macro_rules! messages {
 
         impl Message {
             /// All messages, in the order of their numbers.
-            pub const ALL: [Message; 31] = [$(Message::$name,)*];
+            pub const ALL: &'static [Message] = &[$(Message::$name,)*];
         }
     };
 }
@@ -134,21 +176,35 @@ messages! {
 }
 
 impl Message {
-    /// The number, 1 to 31.
+    /// The number: 1 for the first.
+    #[must_use]
     pub fn number(self) -> u8 {
         self as u8
     }
 
-    /// The message of a number.
+    /// The message of a number, if there is one.
+    ///
+    /// ```
+    /// use demnyaluz::Message;
+    ///
+    /// assert_eq!(Message::from_number(1), Some(Message::RevokedProxy));
+    /// assert_eq!(Message::from_number(0), None);
+    /// ```
+    #[must_use]
     pub fn from_number(number: u64) -> Option<Message> {
-        Message::ALL.into_iter().find(|m| u64::from(m.number()) == number)
+        Message::ALL.iter().copied().find(|m| u64::from(m.number()) == number)
     }
 
     /// The text, as the library's table has it.
+    ///
+    /// ```
+    /// assert_eq!(demnyaluz::Message::RevokedProxy.text(), "Proxy object has empty handler and target");
+    /// ```
+    #[must_use]
     pub fn text(self) -> String {
-        let mut bytes = [0; 128];
-        let length = lent::message(self.number().into(), &mut bytes);
-        String::from_utf8_lossy(&bytes[..length as usize]).into_owned()
+        let mut bytes = vec![0; lent::message(self.number().into(), &mut [])];
+        lent::message(self.number().into(), &mut bytes);
+        String::from_utf8_lossy(&bytes).into_owned()
     }
 }
 
@@ -159,7 +215,15 @@ impl fmt::Display for Message {
 }
 
 /// What a result holds.
-#[derive(Clone, PartialEq, Eq, Debug)]
+///
+/// ```
+/// use demnyaluz::{Completion, SymbolId};
+///
+/// assert_eq!(Completion::Value(70_000.into()).to_string(), "70000");
+/// assert_eq!(Completion::Keys(vec![SymbolId(3).into()]).to_string(), "[y3]");
+/// ```
+#[derive(Clone, PartialEq, Eq, Hash, Debug)]
+#[non_exhaustive]
 pub enum Completion {
     /// A value.
     Value(Value),
@@ -171,8 +235,27 @@ pub enum Completion {
     Keys(Vec<PropertyKey>),
 }
 
+impl fmt::Display for Completion {
+    /// Strings are numbers here; [`readable::completion`] has their texts.
+    fn fmt(&self, f: &mut fmt::Formatter<'_>) -> fmt::Result {
+        f.write_str(&readable::completion(self, &Strings::new()))
+    }
+}
+
 /// Why there is no result.
-#[derive(Clone, Copy, PartialEq, Eq, Debug)]
+///
+/// Its text is the whole of what there is to say, the refusal's or the message's included, so it has no [`source`](Error::source).
+///
+/// ```
+/// use demnyaluz::{Failure, Message, Refusal};
+///
+/// assert_eq!(Failure::from(Refusal::StoreFull).to_string(), "refused 7: there is no room");
+/// let failure = Failure::TypeError(Message::RevokedProxy);
+/// assert_eq!(failure.to_string(), "TypeError 1: Proxy object has empty handler and target");
+/// assert_eq!(Failure::Thrown(4_464.into()).to_string(), "thrown 4464");
+/// ```
+#[derive(Clone, Copy, PartialEq, Eq, Hash, Debug)]
+#[non_exhaustive]
 pub enum Failure {
     /// The call was turned back.
     Refused(Refusal),
@@ -192,7 +275,7 @@ impl fmt::Display for Failure {
     }
 }
 
-impl std::error::Error for Failure {}
+impl Error for Failure {}
 
 impl From<Refusal> for Failure {
     fn from(r: Refusal) -> Failure {
@@ -201,7 +284,19 @@ impl From<Refusal> for Failure {
 }
 
 /// What a step reports.
-#[derive(Clone, PartialEq, Eq, Debug)]
+///
+/// ```
+/// use demnyaluz::{Completion, Step, Store};
+///
+/// let mut store = Store::new();
+/// let report = store.step(&Step::MakeObject { prototype: None }, &[]);
+/// assert_eq!((report.answers, report.calls), (0, 0));
+/// assert_eq!(report.to_string(), "o0 (0 answers, 0 calls)");
+/// assert!(matches!(report.outcome, Ok(Completion::Value(_))));
+/// ```
+#[derive(Clone, PartialEq, Eq, Hash, Debug)]
+#[must_use = "a report may be of a failure"]
+#[non_exhaustive]
 pub struct Report {
     /// The result, or why there is none.
     pub outcome: Result<Completion, Failure>,
@@ -212,73 +307,99 @@ pub struct Report {
 }
 
 impl Report {
-    /// The report of ten words and, for keys, the output that they were written to.
+    /// The report of its [`REPORT_WORDS`] words and, for keys, the output that they were written to; none where they are no report.
     ///
-    /// # Panics
-    /// Where the words are no report of the library.
-    pub fn from_words(words: &[u64; 10], output: &[u8]) -> Report {
-        let [outcome, number, answers, calls, form, detail, ..] = *words;
-        let value = |i: usize| Value::from_words(words[i], words[i + 1]).expect("a value");
+    /// ```
+    /// use demnyaluz::{Report, REPORT_WORDS};
+    ///
+    /// let mut words = [0; REPORT_WORDS];
+    /// words[1] = 7;
+    /// assert_eq!(Report::from_words(&words, &[]).unwrap().to_string(), "refused 7: there is no room");
+    /// words[1] = 0;
+    /// assert_eq!(Report::from_words(&words, &[]), None);
+    /// ```
+    #[must_use]
+    pub fn from_words(words: &[u64], output: &[u8]) -> Option<Report> {
+        let [outcome, number, answers, calls, form, detail, kind, payload, second_kind, second_payload] = *words else {
+            return None;
+        };
+        let value = || Value::from_words(ValueWords { kind, payload });
+        let second = || Value::from_words(ValueWords { kind: second_kind, payload: second_payload });
         let flag = |bit: u64| detail & bit != 0;
         let (enumerable, configurable) = (flag(4), flag(8));
         let outcome = match (outcome, form) {
-            (0, _) => Err(Failure::Refused(Refusal::from_number(number).expect("a refusal"))),
-            (2, _) => Err(Failure::TypeError(Message::from_number(number).expect("a message"))),
-            (3, _) => Err(Failure::Thrown(value(6))),
-            (1, 1) => Ok(Completion::Value(value(6))),
-            (1, 2) if flag(1) => Ok(Completion::Property(Property::Accessor { get: value(6), set: value(8), enumerable, configurable })),
-            (1, 2) => Ok(Completion::Property(Property::Data { value: value(6), writable: flag(2), enumerable, configurable })),
+            (0, _) => Err(Failure::Refused(Refusal::from_number(number)?)),
+            (2, _) => Err(Failure::TypeError(Message::from_number(number)?)),
+            (3, _) => Err(Failure::Thrown(value()?)),
+            (1, 1) => Ok(Completion::Value(value()?)),
+            (1, 2) if flag(1) => Ok(Completion::Property(Property::Accessor { get: value()?, set: second()?, enumerable, configurable })),
+            (1, 2) => Ok(Completion::Property(Property::Data { value: value()?, writable: flag(2), enumerable, configurable })),
             (1, 3) => Ok(Completion::Absent),
-            (1, 4) => {
-                let key = |bytes: &[u8]| Value::from_bytes(bytes.try_into().ok()?).and_then(PropertyKey::from_value);
-                Ok(Completion::Keys(output.chunks_exact(9).take(detail as usize).map(|k| key(k).expect("a key")).collect()))
-            }
-            _ => panic!("no report: {words:?}"),
+            (1, 4) => Ok(Completion::Keys(keys(output.get(..usize::try_from(detail).ok()?.checked_mul(Value::SIZE)?)?)?)),
+            _ => return None,
         };
-        Report { outcome, answers: answers as u32, calls: calls as u32 }
+        Some(Report { outcome, answers: answers.try_into().ok()?, calls: calls.try_into().ok()? })
     }
 
-    pub(crate) fn boolean(self) -> Result<bool, Failure> {
-        match self.value()? {
+    /// The report of a call of the library.
+    pub(crate) fn of_library(words: lent::ReportWords, output: &[u8]) -> Report {
+        Report::from_words(words.as_slice(), output).expect("a report of the library")
+    }
+
+    pub(crate) fn into_boolean(self) -> Result<bool, Failure> {
+        match self.into_value()? {
             Value::Boolean(b) => Ok(b),
             v => panic!("no boolean: {v}"),
         }
     }
 
-    pub(crate) fn value(self) -> Result<Value, Failure> {
+    pub(crate) fn into_value(self) -> Result<Value, Failure> {
         match self.outcome? {
             Completion::Value(v) => Ok(v),
-            c => panic!("no value: {c:?}"),
+            c => panic!("no value: {c}"),
         }
     }
 
-    pub(crate) fn object(self) -> Result<ObjectId, Failure> {
-        match self.value()? {
+    pub(crate) fn into_object(self) -> Result<ObjectId, Failure> {
+        match self.into_value()? {
             Value::Object(o) => Ok(o),
             v => panic!("no object: {v}"),
         }
     }
 
-    pub(crate) fn prototype(self) -> Result<Option<ObjectId>, Failure> {
-        match self.value()? {
+    pub(crate) fn into_prototype(self) -> Result<Option<ObjectId>, Failure> {
+        match self.into_value()? {
             Value::Null => Ok(None),
             Value::Object(o) => Ok(Some(o)),
             v => panic!("no prototype: {v}"),
         }
     }
 
-    pub(crate) fn property(self) -> Result<Option<Property>, Failure> {
+    pub(crate) fn into_property(self) -> Result<Option<Property>, Failure> {
         match self.outcome? {
             Completion::Property(p) => Ok(Some(p)),
             Completion::Absent => Ok(None),
-            c => panic!("no property: {c:?}"),
+            c => panic!("no property: {c}"),
         }
     }
 
-    pub(crate) fn keys(self) -> Result<Vec<PropertyKey>, Failure> {
+    pub(crate) fn into_keys(self) -> Result<Vec<PropertyKey>, Failure> {
         match self.outcome? {
             Completion::Keys(keys) => Ok(keys),
-            c => panic!("no keys: {c:?}"),
+            c => panic!("no keys: {c}"),
         }
     }
+}
+
+impl fmt::Display for Report {
+    /// Strings are numbers here; [`readable::report`] has their texts.
+    fn fmt(&self, f: &mut fmt::Formatter<'_>) -> fmt::Result {
+        f.write_str(&readable::report(self, &Strings::new()))
+    }
+}
+
+/// Keys of their bytes, if each of them is one.
+pub(crate) fn keys(bytes: &[u8]) -> Option<Vec<PropertyKey>> {
+    let key = |bytes: &[u8]| PropertyKey::try_from(Value::from_bytes(bytes.try_into().ok()?)?).ok();
+    bytes.chunks(Value::SIZE).map(key).collect()
 }

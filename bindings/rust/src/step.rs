@@ -1,56 +1,106 @@
 //! Steps and answers, and the bytes that they are.
 use crate::descriptor::PropertyDescriptor;
+use crate::notation::Strings;
+use crate::readable;
 use crate::value::{ObjectId, PropertyKey, Value};
+use std::fmt;
+use std::ops::{BitAnd, BitAndAssign, BitOr, BitOrAssign, Not, Sub, SubAssign};
 
-/// Which traps a proxy's handler has: one bit for each of the eleven methods.
+/// Which traps a proxy's handler has: a set with one bit for each method.
+///
+/// ```
+/// use demnyaluz::Traps;
+///
+/// let mut traps = Traps::GET | Traps::OWN_KEYS;
+/// traps |= Traps::SET;
+/// assert!(traps.contains(Traps::GET) && !traps.contains(Traps::HAS));
+/// assert_eq!(traps.to_string(), "get, set, ownKeys");
+/// assert_eq!([Traps::GET, Traps::SET].into_iter().collect::<Traps>(), traps - Traps::OWN_KEYS);
+/// ```
 #[derive(Clone, Copy, PartialEq, Eq, Hash, Debug, Default)]
 pub struct Traps(u16);
+
+macro_rules! traps {
+    ($($constant:ident $mask:literal $name:literal $doc:literal,)*) => {
+        impl Traps {
+            $(#[doc = concat!("The trap of \\[\\[", $doc, "]].")]
+            pub const $constant: Traps = Traps($mask);)*
+
+            /// All traps.
+            pub const ALL: Traps = Traps(0 $(| $mask)*);
+        }
+
+        /// Each trap by its name.
+        pub(crate) const TRAPS: &[(&str, Traps)] = &[$(($name, Traps::$constant),)*];
+    };
+}
+
+traps! {
+    GET_PROTOTYPE_OF 1 "getPrototypeOf" "GetPrototypeOf",
+    SET_PROTOTYPE_OF 2 "setPrototypeOf" "SetPrototypeOf",
+    IS_EXTENSIBLE 4 "isExtensible" "IsExtensible",
+    PREVENT_EXTENSIONS 8 "preventExtensions" "PreventExtensions",
+    GET_OWN_PROPERTY_DESCRIPTOR 16 "getOwnPropertyDescriptor" "GetOwnProperty",
+    DEFINE_PROPERTY 32 "defineProperty" "DefineOwnProperty",
+    HAS 64 "has" "HasProperty",
+    GET 128 "get" "Get",
+    SET 256 "set" "Set",
+    DELETE_PROPERTY 512 "deleteProperty" "Delete",
+    OWN_KEYS 1024 "ownKeys" "OwnPropertyKeys",
+}
 
 impl Traps {
     /// No trap: every call goes to the target.
     pub const NONE: Traps = Traps(0);
-    /// The trap of \[\[GetPrototypeOf]].
-    pub const GET_PROTOTYPE_OF: Traps = Traps(1);
-    /// The trap of \[\[SetPrototypeOf]].
-    pub const SET_PROTOTYPE_OF: Traps = Traps(2);
-    /// The trap of \[\[IsExtensible]].
-    pub const IS_EXTENSIBLE: Traps = Traps(4);
-    /// The trap of \[\[PreventExtensions]].
-    pub const PREVENT_EXTENSIONS: Traps = Traps(8);
-    /// The trap of \[\[GetOwnProperty]].
-    pub const GET_OWN_PROPERTY_DESCRIPTOR: Traps = Traps(16);
-    /// The trap of \[\[DefineOwnProperty]].
-    pub const DEFINE_PROPERTY: Traps = Traps(32);
-    /// The trap of \[\[HasProperty]].
-    pub const HAS: Traps = Traps(64);
-    /// The trap of \[\[Get]].
-    pub const GET: Traps = Traps(128);
-    /// The trap of \[\[Set]].
-    pub const SET: Traps = Traps(256);
-    /// The trap of \[\[Delete]].
-    pub const DELETE_PROPERTY: Traps = Traps(512);
-    /// The trap of \[\[OwnPropertyKeys]].
-    pub const OWN_KEYS: Traps = Traps(1024);
-    /// All eleven traps.
-    pub const ALL: Traps = Traps(2047);
 
-    /// The traps of a mask, if it is at most 2047.
-    pub fn from_mask(mask: u16) -> Option<Traps> {
-        (mask <= 2047).then_some(Traps(mask))
+    /// The traps of a mask, if each of its bits is a trap's.
+    ///
+    /// ```
+    /// use demnyaluz::Traps;
+    ///
+    /// assert_eq!(Traps::from_mask(0x80), Some(Traps::GET));
+    /// assert_eq!(Traps::from_mask(0x8000), None);
+    /// ```
+    #[must_use]
+    pub const fn from_mask(mask: u16) -> Option<Traps> {
+        if mask & !Traps::ALL.0 == 0 {
+            Some(Traps(mask))
+        } else {
+            None
+        }
     }
 
-    /// The mask, 0 to 2047.
-    pub fn mask(self) -> u16 {
+    /// The mask.
+    #[must_use]
+    pub const fn mask(self) -> u16 {
         self.0
     }
 
     /// Whether all of these traps are there.
-    pub fn contains(self, other: Traps) -> bool {
+    #[must_use]
+    pub const fn contains(self, other: Traps) -> bool {
         self.0 & other.0 == other.0
+    }
+
+    /// Whether there is no trap.
+    #[must_use]
+    pub const fn is_empty(self) -> bool {
+        self.0 == 0
+    }
+
+    /// The names of the traps, as a handler has them, in the order of their bits.
+    ///
+    /// ```
+    /// use demnyaluz::Traps;
+    ///
+    /// assert_eq!((Traps::OWN_KEYS | Traps::GET).names().collect::<Vec<_>>(), ["get", "ownKeys"]);
+    /// ```
+    pub fn names(self) -> impl Iterator<Item = &'static str> {
+        TRAPS.iter().filter(move |(_, trap)| self.contains(*trap)).map(|(name, _)| *name)
     }
 }
 
-impl std::ops::BitOr for Traps {
+impl BitOr for Traps {
     type Output = Traps;
 
     fn bitor(self, other: Traps) -> Traps {
@@ -58,8 +108,110 @@ impl std::ops::BitOr for Traps {
     }
 }
 
+impl BitOrAssign for Traps {
+    fn bitor_assign(&mut self, other: Traps) {
+        *self = *self | other;
+    }
+}
+
+impl BitAnd for Traps {
+    type Output = Traps;
+
+    fn bitand(self, other: Traps) -> Traps {
+        Traps(self.0 & other.0)
+    }
+}
+
+impl BitAndAssign for Traps {
+    fn bitand_assign(&mut self, other: Traps) {
+        *self = *self & other;
+    }
+}
+
+impl Sub for Traps {
+    type Output = Traps;
+
+    /// The traps that the other set lacks.
+    fn sub(self, other: Traps) -> Traps {
+        Traps(self.0 & !other.0)
+    }
+}
+
+impl SubAssign for Traps {
+    fn sub_assign(&mut self, other: Traps) {
+        *self = *self - other;
+    }
+}
+
+impl Not for Traps {
+    type Output = Traps;
+
+    fn not(self) -> Traps {
+        Traps::ALL - self
+    }
+}
+
+impl Extend<Traps> for Traps {
+    fn extend<I: IntoIterator<Item = Traps>>(&mut self, traps: I) {
+        traps.into_iter().for_each(|t| *self |= t);
+    }
+}
+
+impl FromIterator<Traps> for Traps {
+    fn from_iter<I: IntoIterator<Item = Traps>>(traps: I) -> Traps {
+        traps.into_iter().fold(Traps::NONE, Traps::bitor)
+    }
+}
+
+impl fmt::Display for Traps {
+    /// As a line of steps has them: `get, ownKeys`, or `all`; `none` where there are none.
+    fn fmt(&self, f: &mut fmt::Formatter<'_>) -> fmt::Result {
+        match *self {
+            Traps::NONE => f.write_str("none"),
+            Traps::ALL => f.write_str("all"),
+            _ => f.write_str(&self.names().collect::<Vec<_>>().join(", ")),
+        }
+    }
+}
+
+impl fmt::Binary for Traps {
+    fn fmt(&self, f: &mut fmt::Formatter<'_>) -> fmt::Result {
+        fmt::Binary::fmt(&self.0, f)
+    }
+}
+
+impl fmt::Octal for Traps {
+    fn fmt(&self, f: &mut fmt::Formatter<'_>) -> fmt::Result {
+        fmt::Octal::fmt(&self.0, f)
+    }
+}
+
+impl fmt::LowerHex for Traps {
+    fn fmt(&self, f: &mut fmt::Formatter<'_>) -> fmt::Result {
+        fmt::LowerHex::fmt(&self.0, f)
+    }
+}
+
+impl fmt::UpperHex for Traps {
+    fn fmt(&self, f: &mut fmt::Formatter<'_>) -> fmt::Result {
+        fmt::UpperHex::fmt(&self.0, f)
+    }
+}
+
 /// One step over a store.
-#[derive(Clone, Copy, PartialEq, Eq, Debug)]
+///
+/// ```
+/// use demnyaluz::{Step, Store, SymbolId};
+///
+/// let mut store = Store::new();
+/// let object = store.make_object(None)?;
+/// let step = Step::HasProperty { object, key: SymbolId(3).into() };
+/// assert_eq!(step.to_string(), "has o0 y3");
+/// assert_eq!(store.step(&step, &[]).to_string(), "false (0 answers, 3 calls)");
+/// # Ok::<(), demnyaluz::Failure>(())
+/// ```
+#[derive(Clone, Copy, PartialEq, Eq, Hash, Debug)]
+#[non_exhaustive]
 pub enum Step {
     /// Makes an ordinary object.
     MakeObject {
@@ -161,7 +313,8 @@ impl Step {
     /// How many bytes the record of a step has.
     pub const SIZE: usize = 58;
 
-    /// The code, 1 to 14.
+    /// The code: the first byte of its record.
+    #[must_use]
     pub fn code(&self) -> u8 {
         match self {
             Step::MakeObject { .. } => 1,
@@ -181,7 +334,16 @@ impl Step {
         }
     }
 
-    /// The 58 bytes of the step: code, object, key, value, receiver, descriptor.
+    /// The bytes of the step: code, object, key, value, receiver, descriptor.
+    ///
+    /// ```
+    /// use demnyaluz::{ObjectId, Step};
+    ///
+    /// let bytes = Step::OwnPropertyKeys { object: ObjectId(1) }.to_bytes();
+    /// assert_eq!(bytes[..2], [14, 1]);
+    /// assert!(bytes[2..].iter().all(|b| *b == 0));
+    /// ```
+    #[must_use]
     pub fn to_bytes(&self) -> [u8; Self::SIZE] {
         let mut bytes = [0; Self::SIZE];
         bytes[0] = self.code();
@@ -212,14 +374,31 @@ impl Step {
     }
 }
 
+impl fmt::Display for Step {
+    /// As a line of steps has it, but for strings, which are numbers here; [`readable::step`] has their texts.
+    fn fmt(&self, f: &mut fmt::Formatter<'_>) -> fmt::Result {
+        f.write_str(&readable::step(self, &Strings::new()))
+    }
+}
+
 /// What a handler, a getter or a setter answers to one call.
-#[derive(Clone, PartialEq, Eq, Debug)]
+///
+/// ```
+/// use demnyaluz::{Answer, PropertyDescriptor, SymbolId, Value};
+///
+/// assert_eq!(Answer::from(Value::from(4_464)), Answer::Value(Value::Integer32(4_464)));
+/// assert_eq!(Answer::from(PropertyDescriptor::default()).to_string(), "{}");
+/// assert_eq!(Answer::keys([SymbolId(3).into()]).to_string(), "[y3]");
+/// assert_eq!(Answer::Throw(Value::Null).to_string(), "throw null");
+/// ```
+#[derive(Clone, PartialEq, Eq, Hash, Debug)]
+#[non_exhaustive]
 pub enum Answer {
     /// A value.
     Value(Value),
     /// An object with these fields of a descriptor.
     Descriptor(PropertyDescriptor),
-    /// A list, for the trap of \[\[OwnPropertyKeys]]: at most 256 values.
+    /// A list, for the trap of \[\[OwnPropertyKeys]]: at most [`MAXIMUM_KEYS`](crate::MAXIMUM_KEYS) values.
     Keys(Vec<Value>),
     /// A thrown value.
     Throw(Value),
@@ -227,12 +406,41 @@ pub enum Answer {
 
 impl Answer {
     /// A list of keys.
+    #[must_use]
     pub fn keys(keys: impl IntoIterator<Item = PropertyKey>) -> Answer {
         Answer::Keys(keys.into_iter().map(Value::from).collect())
     }
 }
 
-/// The bytes of an answer sheet. One with more than 64 answers or a list of more than 256 is refused as malformed.
+impl From<Value> for Answer {
+    fn from(v: Value) -> Answer {
+        Answer::Value(v)
+    }
+}
+
+impl From<PropertyDescriptor> for Answer {
+    fn from(d: PropertyDescriptor) -> Answer {
+        Answer::Descriptor(d)
+    }
+}
+
+impl fmt::Display for Answer {
+    /// As a line of steps has it, but for strings, which are numbers here; [`readable::answer`] has their texts.
+    fn fmt(&self, f: &mut fmt::Formatter<'_>) -> fmt::Result {
+        f.write_str(&readable::answer(self, &Strings::new()))
+    }
+}
+
+/// The bytes of an answer sheet. One with more than [`MAXIMUM_ANSWERS`](crate::MAXIMUM_ANSWERS) answers, or a list of more than
+/// [`MAXIMUM_KEYS`](crate::MAXIMUM_KEYS) values, is refused as malformed.
+///
+/// ```
+/// use demnyaluz::{sheet_bytes, Answer};
+///
+/// assert_eq!(sheet_bytes(&[]), [0]);
+/// assert_eq!(sheet_bytes(&[Answer::Value(true.into())]), [1, 1, 2, 1, 0, 0, 0, 0, 0, 0, 0]);
+/// ```
+#[must_use]
 pub fn sheet_bytes(answers: &[Answer]) -> Vec<u8> {
     let mut bytes = vec![u8::try_from(answers.len()).unwrap_or(u8::MAX)];
     for answer in answers {

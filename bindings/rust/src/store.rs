@@ -1,6 +1,6 @@
 //! A store that owns its memory, and the calls on it.
 use crate::descriptor::{Property, PropertyDescriptor};
-use crate::lent;
+use crate::lent::{self, ReportWords};
 use crate::report::{Completion, Failure, Refusal, Report};
 use crate::step::{sheet_bytes, Answer, Step, Traps};
 use crate::value::{ObjectId, PropertyKey, StringId, Value};
@@ -12,15 +12,60 @@ pub const STORE_WORDS: usize = 1634;
 pub const STRING_CELLS: usize = 8449;
 
 /// How many bytes of output hold the longest list of keys.
-pub const OUTPUT_BYTES: usize = 256 * 9;
+pub const OUTPUT_BYTES: usize = MAXIMUM_KEYS * Value::SIZE;
 
-/// At most 32 objects with 256 properties between them, and 256 strings of at most 32 code units.
+/// How many objects a store can hold.
+pub const MAXIMUM_OBJECTS: usize = 32;
+
+/// How many properties the objects of a store can have between them.
+pub const MAXIMUM_PROPERTIES: usize = 256;
+
+/// How many strings a table can hold.
+pub const MAXIMUM_STRINGS: usize = 256;
+
+/// How many code units a string can have.
+pub const MAXIMUM_UNITS: usize = 32;
+
+/// How many answers a sheet can have.
+pub const MAXIMUM_ANSWERS: usize = 64;
+
+/// How many keys a list can have.
+pub const MAXIMUM_KEYS: usize = 256;
+
+/// How many calls of internal methods a step can make.
+pub const MAXIMUM_CALLS: usize = 2048;
+
+/// At most [`MAXIMUM_OBJECTS`] objects with [`MAXIMUM_PROPERTIES`] properties between them, and [`MAXIMUM_STRINGS`] strings of at most
+/// [`MAXIMUM_UNITS`] code units.
 ///
 /// Two stores are equal if their memory is: the same calls from [`Store::new`] give equal stores.
-#[derive(Clone, PartialEq, Eq)]
+///
+/// ```
+/// use demnyaluz::{PropertyDescriptor, Store};
+///
+/// let mut store = Store::new();
+/// let visits = store.enter_string("visits")?;
+/// let counts = store.make_object(None)?;
+/// assert!(store.define_own_property(counts, visits, PropertyDescriptor::fixed(70_000), &[])?);
+/// assert_eq!(store.get(counts, visits, counts, &[])?, 70_000.into());
+/// assert!(!store.set(counts, visits, 4_464, counts, &[])?);
+/// # Ok::<(), demnyaluz::Failure>(())
+/// ```
+#[derive(Clone, PartialEq, Eq, Hash)]
 pub struct Store {
     words: Box<[u64]>,
     strings: Box<[u16]>,
+}
+
+/// What [`Store::validate`] says.
+#[derive(Clone, Copy, PartialEq, Eq, Hash, Debug)]
+#[must_use = "a descriptor may not be accepted"]
+#[non_exhaustive]
+pub struct Validation {
+    /// Whether the descriptor is accepted.
+    pub accepted: bool,
+    /// The property after it; none is absent.
+    pub property: Option<Property>,
 }
 
 impl Default for Store {
@@ -37,6 +82,10 @@ impl std::fmt::Debug for Store {
 
 impl Store {
     /// A store with no object and no string.
+    ///
+    /// # Panics
+    /// Where the archive that is linked has another [`STORE_WORDS`] or [`STRING_CELLS`].
+    #[must_use]
     pub fn new() -> Self {
         let mut store = Store { words: vec![0; STORE_WORDS].into(), strings: vec![0; STRING_CELLS].into() };
         let made = lent::empty_store(&mut store.words) && lent::empty_strings(&mut store.strings);
@@ -45,27 +94,70 @@ impl Store {
     }
 
     /// One step, whose traps, getters and setters take the answers in their order.
+    ///
+    /// ```
+    /// use demnyaluz::{Answer, Step, Store, Traps};
+    ///
+    /// let mut store = Store::new();
+    /// let object = store.make_object(None)?;
+    /// let proxy = store.make_proxy(object, Traps::IS_EXTENSIBLE)?;
+    /// let report = store.step(&Step::IsExtensible { object: proxy }, &[Answer::Value(true.into())]);
+    /// assert_eq!(report.to_string(), "true (1 answer, 2 calls)");
+    /// # Ok::<(), demnyaluz::Failure>(())
+    /// ```
     pub fn step(&mut self, step: &Step, answers: &[Answer]) -> Report {
         self.step_bytes(&step.to_bytes(), &sheet_bytes(answers), &mut [0; OUTPUT_BYTES])
     }
 
-    /// One step as bytes. Keys are written to the output, 9 bytes each.
+    /// One step as bytes. Keys are written to the output, [`Value::SIZE`] bytes each.
+    ///
+    /// ```
+    /// use demnyaluz::{Step, Store};
+    ///
+    /// let mut store = Store::new();
+    /// let step = Step::MakeObject { prototype: None }.to_bytes();
+    /// assert_eq!(store.step_bytes(&step, &[0], &mut []).to_string(), "o0 (0 answers, 0 calls)");
+    /// assert_eq!(store.step_bytes(&step[1..], &[0], &mut []).to_string(), "refused 1: a record is malformed");
+    /// ```
     pub fn step_bytes(&mut self, step: &[u8], sheet: &[u8], output: &mut [u8]) -> Report {
-        let mut report = [0; 10];
-        lent::step(&mut self.words, &self.strings, step, sheet, output, &mut report);
-        Report::from_words(&report, output)
+        let words = lent::step(&mut self.words, &self.strings, step, sheet, output);
+        Report::of_library(words, output)
     }
 
     /// A string is entered; an equal one keeps its number.
+    ///
+    /// # Errors
+    /// [`Refusal::UnusablePart`] for a string of more than [`MAXIMUM_UNITS`] code units, and [`Refusal::StoreFull`].
+    ///
+    /// ```
+    /// use demnyaluz::Store;
+    ///
+    /// let mut store = Store::new();
+    /// let visits = store.enter_string("visits")?;
+    /// assert_eq!(store.enter_string("visits")?, visits);
+    /// assert_eq!(store.string(visits).as_deref(), Some("visits"));
+    /// # Ok::<(), demnyaluz::Refusal>(())
+    /// ```
     pub fn enter_string(&mut self, text: &str) -> Result<StringId, Refusal> {
         self.enter_units(&text.encode_utf16().collect::<Vec<u16>>())
     }
 
     /// A string is entered as its code units; an equal one keeps its number.
+    ///
+    /// # Errors
+    /// As by [`Store::enter_string`].
+    ///
+    /// ```
+    /// use demnyaluz::Store;
+    ///
+    /// let mut store = Store::new();
+    /// let lone = store.enter_units(&[0xd800])?;
+    /// assert_eq!(store.string_units(lone), Some(&[0xd800][..]));
+    /// # Ok::<(), demnyaluz::Refusal>(())
+    /// ```
     pub fn enter_units(&mut self, units: &[u16]) -> Result<StringId, Refusal> {
-        let mut report = [0; 10];
-        lent::enter_string(&mut self.strings, units, &mut report);
-        match Report::from_words(&report, &[]).outcome {
+        let words = lent::enter_string(&mut self.strings, units);
+        match Report::of_library(words, &[]).outcome {
             Ok(Completion::Value(Value::String(s))) => Ok(s),
             Err(Failure::Refused(r)) => Err(r),
             other => panic!("no string: {other:?}"),
@@ -73,80 +165,213 @@ impl Store {
     }
 
     /// The code units of a string that was entered.
+    #[must_use]
     pub fn string_units(&self, s: StringId) -> Option<&[u16]> {
         if u16::from(s.0) >= self.strings[0] {
             return None;
         }
-        let row = &self.strings[1 + 33 * usize::from(s.0)..][..33];
+        // a length before the code units
+        let row = self.strings[1..].chunks_exact(1 + MAXIMUM_UNITS).nth(s.0.into())?;
         Some(&row[1..1 + usize::from(row[0])])
     }
 
     /// The text of a string that was entered; lone surrogates are replaced.
+    #[must_use]
     pub fn string(&self, s: StringId) -> Option<String> {
         self.string_units(s).map(String::from_utf16_lossy)
     }
 
     /// How many objects were made.
+    #[must_use]
     pub fn object_count(&self) -> usize {
         self.words[0] as usize
     }
 
     /// How many properties there are.
+    #[must_use]
     pub fn property_count(&self) -> usize {
         self.words[1] as usize
     }
 
     /// How many strings were entered.
+    #[must_use]
     pub fn string_count(&self) -> usize {
         self.strings[0].into()
     }
 
-    /// The store's words: `include/demnyaluz.h` has the layout.
+    /// The store's words: `include/demnyaluz.h` has the layout, which later versions may change.
+    #[must_use]
     pub fn words(&self) -> &[u64] {
         &self.words
     }
 
     /// Makes an ordinary object; no prototype is null.
+    ///
+    /// # Errors
+    /// A refusal.
+    ///
+    /// ```
+    /// use demnyaluz::Store;
+    ///
+    /// let mut store = Store::new();
+    /// let parent = store.make_object(None)?;
+    /// let child = store.make_object(Some(parent))?;
+    /// assert_eq!(store.get_prototype_of(child, &[])?, Some(parent));
+    /// # Ok::<(), demnyaluz::Failure>(())
+    /// ```
     pub fn make_object(&mut self, prototype: Option<ObjectId>) -> Result<ObjectId, Failure> {
-        self.step(&Step::MakeObject { prototype }, &[]).object()
+        self.step(&Step::MakeObject { prototype }, &[]).into_object()
     }
 
     /// Makes a proxy.
+    ///
+    /// # Errors
+    /// A refusal.
+    ///
+    /// ```
+    /// use demnyaluz::{Answer, Store, Traps};
+    ///
+    /// let mut store = Store::new();
+    /// let target = store.make_object(None)?;
+    /// let proxy = store.make_proxy(target, Traps::HAS | Traps::GET)?;
+    /// let key = store.enter_string("visits")?;
+    /// assert!(store.has_property(proxy, key, &[Answer::Value(true.into())])?);
+    /// # Ok::<(), demnyaluz::Failure>(())
+    /// ```
     pub fn make_proxy(&mut self, target: ObjectId, traps: Traps) -> Result<ObjectId, Failure> {
-        self.step(&Step::MakeProxy { target, traps }, &[]).object()
+        self.step(&Step::MakeProxy { target, traps }, &[]).into_object()
     }
 
     /// Revokes a proxy; again is harmless.
+    ///
+    /// # Errors
+    /// A refusal.
+    ///
+    /// ```
+    /// use demnyaluz::{Failure, Message, Store, Traps};
+    ///
+    /// let mut store = Store::new();
+    /// let target = store.make_object(None)?;
+    /// let proxy = store.make_proxy(target, Traps::NONE)?;
+    /// store.revoke(proxy)?;
+    /// assert_eq!(store.is_extensible(proxy, &[]), Err(Failure::TypeError(Message::RevokedProxy)));
+    /// # Ok::<(), Failure>(())
+    /// ```
     pub fn revoke(&mut self, proxy: ObjectId) -> Result<(), Failure> {
-        self.step(&Step::Revoke { proxy }, &[]).boolean().map(|_| ())
+        self.step(&Step::Revoke { proxy }, &[]).into_boolean().map(|_| ())
     }
 
     /// \[\[GetPrototypeOf]]; none is null.
+    ///
+    /// # Errors
+    /// A refusal, a TypeError or a thrown value.
+    ///
+    /// ```
+    /// use demnyaluz::{Answer, Store, Traps};
+    ///
+    /// let mut store = Store::new();
+    /// let object = store.make_object(None)?;
+    /// assert_eq!(store.get_prototype_of(object, &[])?, None);
+    /// let proxy = store.make_proxy(object, Traps::GET_PROTOTYPE_OF)?;
+    /// assert_eq!(store.get_prototype_of(proxy, &[Answer::Value(object.into())])?, Some(object));
+    /// # Ok::<(), demnyaluz::Failure>(())
+    /// ```
     pub fn get_prototype_of(&mut self, object: ObjectId, answers: &[Answer]) -> Result<Option<ObjectId>, Failure> {
-        self.step(&Step::GetPrototypeOf { object }, answers).prototype()
+        self.step(&Step::GetPrototypeOf { object }, answers).into_prototype()
     }
 
     /// \[\[SetPrototypeOf]]; none is null.
+    ///
+    /// # Errors
+    /// A refusal, a TypeError or a thrown value.
+    ///
+    /// ```
+    /// use demnyaluz::Store;
+    ///
+    /// let mut store = Store::new();
+    /// let (first, second) = (store.make_object(None)?, store.make_object(None)?);
+    /// assert!(store.set_prototype_of(first, Some(second), &[])?);
+    /// // no cycles
+    /// assert!(!store.set_prototype_of(second, Some(first), &[])?);
+    /// # Ok::<(), demnyaluz::Failure>(())
+    /// ```
     pub fn set_prototype_of(&mut self, object: ObjectId, prototype: Option<ObjectId>, answers: &[Answer]) -> Result<bool, Failure> {
-        self.step(&Step::SetPrototypeOf { object, prototype }, answers).boolean()
+        self.step(&Step::SetPrototypeOf { object, prototype }, answers).into_boolean()
     }
 
     /// \[\[IsExtensible]]
+    ///
+    /// # Errors
+    /// A refusal, a TypeError or a thrown value.
+    ///
+    /// ```
+    /// use demnyaluz::{Answer, Failure, Message, Store, Traps};
+    ///
+    /// let mut store = Store::new();
+    /// let object = store.make_object(None)?;
+    /// let proxy = store.make_proxy(object, Traps::IS_EXTENSIBLE)?;
+    /// // the trap may not deny it
+    /// let told = store.is_extensible(proxy, &[Answer::Value(false.into())]);
+    /// assert_eq!(told, Err(Failure::TypeError(Message::UnexpectedExtensible)));
+    /// # Ok::<(), demnyaluz::Failure>(())
+    /// ```
     pub fn is_extensible(&mut self, object: ObjectId, answers: &[Answer]) -> Result<bool, Failure> {
-        self.step(&Step::IsExtensible { object }, answers).boolean()
+        self.step(&Step::IsExtensible { object }, answers).into_boolean()
     }
 
     /// \[\[PreventExtensions]]
+    ///
+    /// # Errors
+    /// A refusal, a TypeError or a thrown value.
+    ///
+    /// ```
+    /// use demnyaluz::{Store, SymbolId};
+    ///
+    /// let mut store = Store::new();
+    /// let object = store.make_object(None)?;
+    /// assert!(store.prevent_extensions(object, &[])?);
+    /// assert!(!store.is_extensible(object, &[])?);
+    /// assert!(!store.set(object, SymbolId(0), 1, object, &[])?);
+    /// # Ok::<(), demnyaluz::Failure>(())
+    /// ```
     pub fn prevent_extensions(&mut self, object: ObjectId, answers: &[Answer]) -> Result<bool, Failure> {
-        self.step(&Step::PreventExtensions { object }, answers).boolean()
+        self.step(&Step::PreventExtensions { object }, answers).into_boolean()
     }
 
-    /// \[\[GetOwnProperty]]
+    /// \[\[GetOwnProperty]]; none is absent.
+    ///
+    /// # Errors
+    /// A refusal, a TypeError or a thrown value.
+    ///
+    /// ```
+    /// use demnyaluz::{Property, Store, SymbolId};
+    ///
+    /// let mut store = Store::new();
+    /// let object = store.make_object(None)?;
+    /// assert!(store.set(object, SymbolId(0), 5, object, &[])?);
+    /// let plain = Property::Data { value: 5.into(), writable: true, enumerable: true, configurable: true };
+    /// assert_eq!(store.get_own_property(object, SymbolId(0), &[])?, Some(plain));
+    /// assert_eq!(store.get_own_property(object, SymbolId(1), &[])?, None);
+    /// # Ok::<(), demnyaluz::Failure>(())
+    /// ```
     pub fn get_own_property(&mut self, object: ObjectId, key: impl Into<PropertyKey>, answers: &[Answer]) -> Result<Option<Property>, Failure> {
-        self.step(&Step::GetOwnProperty { object, key: key.into() }, answers).property()
+        self.step(&Step::GetOwnProperty { object, key: key.into() }, answers).into_property()
     }
 
     /// \[\[DefineOwnProperty]]
+    ///
+    /// # Errors
+    /// A refusal, a TypeError or a thrown value.
+    ///
+    /// ```
+    /// use demnyaluz::{PropertyDescriptor, Store, SymbolId};
+    ///
+    /// let mut store = Store::new();
+    /// let object = store.make_object(None)?;
+    /// assert!(store.define_own_property(object, SymbolId(0), PropertyDescriptor::fixed(70_000), &[])?);
+    /// assert!(!store.define_own_property(object, SymbolId(0), PropertyDescriptor::fixed(4_464), &[])?);
+    /// # Ok::<(), demnyaluz::Failure>(())
+    /// ```
     pub fn define_own_property(
         &mut self,
         object: ObjectId,
@@ -154,20 +379,64 @@ impl Store {
         descriptor: PropertyDescriptor,
         answers: &[Answer],
     ) -> Result<bool, Failure> {
-        self.step(&Step::DefineOwnProperty { object, key: key.into(), descriptor }, answers).boolean()
+        self.step(&Step::DefineOwnProperty { object, key: key.into(), descriptor }, answers).into_boolean()
     }
 
     /// \[\[HasProperty]]
+    ///
+    /// # Errors
+    /// A refusal, a TypeError or a thrown value.
+    ///
+    /// ```
+    /// use demnyaluz::{Store, SymbolId};
+    ///
+    /// let mut store = Store::new();
+    /// let parent = store.make_object(None)?;
+    /// let child = store.make_object(Some(parent))?;
+    /// assert!(store.set(parent, SymbolId(0), 5, parent, &[])?);
+    /// assert!(store.has_property(child, SymbolId(0), &[])?);
+    /// # Ok::<(), demnyaluz::Failure>(())
+    /// ```
     pub fn has_property(&mut self, object: ObjectId, key: impl Into<PropertyKey>, answers: &[Answer]) -> Result<bool, Failure> {
-        self.step(&Step::HasProperty { object, key: key.into() }, answers).boolean()
+        self.step(&Step::HasProperty { object, key: key.into() }, answers).into_boolean()
     }
 
     /// \[\[Get]]
+    ///
+    /// # Errors
+    /// A refusal, a TypeError or a thrown value.
+    ///
+    /// ```
+    /// use demnyaluz::{Answer, FunctionId, PropertyDescriptor, Store, SymbolId};
+    ///
+    /// let mut store = Store::new();
+    /// let object = store.make_object(None)?;
+    /// let accessor = PropertyDescriptor { get: Some(FunctionId(1).into()), ..PropertyDescriptor::default() };
+    /// assert!(store.define_own_property(object, SymbolId(0), accessor, &[])?);
+    /// // the getter takes the answer
+    /// assert_eq!(store.get(object, SymbolId(0), object, &[Answer::Value(12.5.into())])?, 12.5.into());
+    /// # Ok::<(), demnyaluz::Failure>(())
+    /// ```
     pub fn get(&mut self, object: ObjectId, key: impl Into<PropertyKey>, receiver: impl Into<Value>, answers: &[Answer]) -> Result<Value, Failure> {
-        self.step(&Step::Get { object, key: key.into(), receiver: receiver.into() }, answers).value()
+        self.step(&Step::Get { object, key: key.into(), receiver: receiver.into() }, answers).into_value()
     }
 
     /// \[\[Set]]
+    ///
+    /// # Errors
+    /// A refusal, a TypeError or a thrown value.
+    ///
+    /// ```
+    /// use demnyaluz::{Store, SymbolId};
+    ///
+    /// let mut store = Store::new();
+    /// let parent = store.make_object(None)?;
+    /// let child = store.make_object(Some(parent))?;
+    /// // the receiver gets the property
+    /// assert!(store.set(parent, SymbolId(0), 5, child, &[])?);
+    /// assert_eq!(store.own_property_keys(child, &[])?, [SymbolId(0).into()]);
+    /// # Ok::<(), demnyaluz::Failure>(())
+    /// ```
     pub fn set(
         &mut self,
         object: ObjectId,
@@ -176,56 +445,113 @@ impl Store {
         receiver: impl Into<Value>,
         answers: &[Answer],
     ) -> Result<bool, Failure> {
-        self.step(&Step::Set { object, key: key.into(), value: value.into(), receiver: receiver.into() }, answers).boolean()
+        self.step(&Step::Set { object, key: key.into(), value: value.into(), receiver: receiver.into() }, answers).into_boolean()
     }
 
     /// \[\[Delete]]
+    ///
+    /// # Errors
+    /// A refusal, a TypeError or a thrown value.
+    ///
+    /// ```
+    /// use demnyaluz::{PropertyDescriptor, Store, SymbolId};
+    ///
+    /// let mut store = Store::new();
+    /// let object = store.make_object(None)?;
+    /// assert!(store.define_own_property(object, SymbolId(0), PropertyDescriptor::fixed(70_000), &[])?);
+    /// assert!(!store.delete(object, SymbolId(0), &[])?);
+    /// assert!(store.delete(object, SymbolId(1), &[])?);
+    /// # Ok::<(), demnyaluz::Failure>(())
+    /// ```
     pub fn delete(&mut self, object: ObjectId, key: impl Into<PropertyKey>, answers: &[Answer]) -> Result<bool, Failure> {
-        self.step(&Step::Delete { object, key: key.into() }, answers).boolean()
+        self.step(&Step::Delete { object, key: key.into() }, answers).into_boolean()
     }
 
-    /// \[\[OwnPropertyKeys]]
+    /// \[\[OwnPropertyKeys]]: array indices first, then the other strings, then symbols.
+    ///
+    /// # Errors
+    /// A refusal, a TypeError or a thrown value.
+    ///
+    /// ```
+    /// use demnyaluz::{PropertyKey, Store, SymbolId};
+    ///
+    /// let mut store = Store::new();
+    /// let object = store.make_object(None)?;
+    /// let keys: [PropertyKey; 3] = [store.enter_string("10")?.into(), store.enter_string("visits")?.into(), SymbolId(3).into()];
+    /// for key in keys.into_iter().rev() {
+    ///     assert!(store.set(object, key, 1, object, &[])?);
+    /// }
+    /// assert_eq!(store.own_property_keys(object, &[])?, keys);
+    /// # Ok::<(), demnyaluz::Failure>(())
+    /// ```
     pub fn own_property_keys(&mut self, object: ObjectId, answers: &[Answer]) -> Result<Vec<PropertyKey>, Failure> {
-        self.step(&Step::OwnPropertyKeys { object }, answers).keys()
+        self.step(&Step::OwnPropertyKeys { object }, answers).into_keys()
     }
 
     /// CompletePropertyDescriptor by itself. The store says which objects and strings there are.
+    ///
+    /// # Errors
+    /// [`Refusal::ObjectNeverMade`], [`Refusal::UnusablePart`] and [`Refusal::UnusableDescriptor`].
+    ///
+    /// ```
+    /// use demnyaluz::{PropertyDescriptor, Store};
+    ///
+    /// let complete = Store::new().complete(&PropertyDescriptor { value: Some(1.into()), ..PropertyDescriptor::default() })?;
+    /// assert_eq!(PropertyDescriptor::from(complete), PropertyDescriptor::data(1, false, false, false));
+    /// # Ok::<(), demnyaluz::Refusal>(())
+    /// ```
     pub fn complete(&self, descriptor: &PropertyDescriptor) -> Result<Property, Refusal> {
-        let (bytes, mut report) = (descriptor.to_bytes(), [0; 10]);
-        lent::complete(&self.words, &self.strings, &bytes, &mut report);
-        present(Report::from_words(&report, &[]))
+        present(lent::complete(&self.words, &self.strings, &descriptor.to_bytes()))
     }
 
     /// ValidateAndApplyPropertyDescriptor by itself: whether it accepts, and the property after it. No current descriptor is an absent
     /// property.
-    pub fn validate(
-        &self,
-        extensible: bool,
-        descriptor: &PropertyDescriptor,
-        current: Option<&PropertyDescriptor>,
-    ) -> Result<(bool, Option<Property>), Refusal> {
-        let (bytes, mut report) = (descriptor.to_bytes(), [0; 10]);
-        let current = current.map_or(Vec::new(), |c| c.to_bytes().to_vec());
-        let accepted = lent::validate(&self.words, &self.strings, extensible, &bytes, &current, &mut report);
-        Ok((accepted, refused_or(Report::from_words(&report, &[]))?))
+    ///
+    /// # Errors
+    /// Those of [`Store::complete`], and [`Refusal::IncompleteCurrent`].
+    ///
+    /// ```
+    /// use demnyaluz::{PropertyDescriptor, Store};
+    ///
+    /// let current = PropertyDescriptor::fixed(70_000);
+    /// let told = Store::new().validate(true, &PropertyDescriptor::fixed(4_464), Some(&current))?;
+    /// assert!(!told.accepted);
+    /// assert_eq!(told.property.map(PropertyDescriptor::from), Some(current));
+    /// # Ok::<(), demnyaluz::Refusal>(())
+    /// ```
+    pub fn validate(&self, extensible: bool, descriptor: &PropertyDescriptor, current: Option<&PropertyDescriptor>) -> Result<Validation, Refusal> {
+        let current = current.map(PropertyDescriptor::to_bytes);
+        let current = current.as_ref().map_or(&[][..], |c| c);
+        let told = lent::validate(&self.words, &self.strings, extensible, &descriptor.to_bytes(), current);
+        Ok(Validation { accepted: told.accepted, property: refused_or(told.report)? })
     }
 
     /// Merges a descriptor into a current one of its kind, by itself.
+    ///
+    /// # Errors
+    /// Those of [`Store::validate`], and [`Refusal::DifferentKinds`].
+    ///
+    /// ```
+    /// use demnyaluz::{PropertyDescriptor, Store};
+    ///
+    /// let value = PropertyDescriptor { value: Some(4_464.into()), ..PropertyDescriptor::default() };
+    /// let merged = Store::new().merge(&PropertyDescriptor::fixed(70_000), &value)?;
+    /// assert_eq!(PropertyDescriptor::from(merged), PropertyDescriptor::fixed(4_464));
+    /// # Ok::<(), demnyaluz::Refusal>(())
+    /// ```
     pub fn merge(&self, current: &PropertyDescriptor, descriptor: &PropertyDescriptor) -> Result<Property, Refusal> {
-        let (bytes, current, mut report) = (descriptor.to_bytes(), current.to_bytes(), [0; 10]);
-        lent::merge(&self.words, &self.strings, &current, &bytes, &mut report);
-        present(Report::from_words(&report, &[]))
+        present(lent::merge(&self.words, &self.strings, &current.to_bytes(), &descriptor.to_bytes()))
     }
 }
 
 /// The property of a report that makes no call.
-fn refused_or(report: Report) -> Result<Option<Property>, Refusal> {
-    report.property().map_err(|f| match f {
+fn refused_or(words: ReportWords) -> Result<Option<Property>, Refusal> {
+    Report::of_library(words, &[]).into_property().map_err(|f| match f {
         Failure::Refused(r) => r,
         other => panic!("no refusal: {other}"),
     })
 }
 
-fn present(report: Report) -> Result<Property, Refusal> {
-    Ok(refused_or(report)?.expect("a property"))
+fn present(words: ReportWords) -> Result<Property, Refusal> {
+    Ok(refused_or(words)?.expect("a property"))
 }

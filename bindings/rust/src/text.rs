@@ -34,6 +34,7 @@ pub const TEXT_ROW_BYTES: usize = 4_800;
 /// assert_eq!(rows, b"line outcome number answers calls value\n1 1 0 0 0 070000000000000000\n");
 /// # Ok::<(), std::io::Error>(())
 /// ```
+#[derive(Clone)]
 pub struct TextReader {
     words: Box<[u64]>,
     strings: Box<[u16]>,
@@ -56,6 +57,10 @@ impl std::fmt::Debug for TextReader {
 
 impl TextReader {
     /// A reader at the start of a text.
+    ///
+    /// # Panics
+    /// Where the archive that is linked has another length of a store, a table or a state.
+    #[must_use]
     pub fn new() -> Self {
         let mut reader = TextReader {
             words: vec![0; STORE_WORDS].into(),
@@ -77,15 +82,13 @@ impl TextReader {
     pub fn feed<W: Write + ?Sized>(&mut self, bytes: &[u8], rows: &mut W) -> io::Result<usize> {
         let mut taken = 0;
         while taken < bytes.len() {
-            let mut result = [0; 2];
             let TextReader { words, strings, state, line, rows: row } = self;
-            let fed = lent::text_feed(words, strings, state, line, &bytes[taken..], row, &mut result);
-            assert!(fed, "the reader's own memory");
-            rows.write_all(&self.rows[..result[1] as usize])?;
-            if result[0] == 0 {
+            let fed = lent::text_feed(words, strings, state, line, &bytes[taken..], row).expect("the reader's own memory");
+            rows.write_all(&row[..fed.written])?;
+            if fed.taken == 0 {
                 break;
             }
-            taken += result[0] as usize;
+            taken += fed.taken;
         }
         Ok(taken)
     }
@@ -96,11 +99,9 @@ impl TextReader {
     /// # Errors
     /// Those of the writer.
     pub fn end<W: Write + ?Sized>(&mut self, rows: &mut W) -> io::Result<()> {
-        let mut result = [0; 2];
         let TextReader { words, strings, state, line, rows: row } = self;
-        let ended = lent::text_end(words, strings, state, line, row, &mut result);
-        assert!(ended, "the reader's own memory");
-        rows.write_all(&self.rows[..result[1] as usize])
+        let written = lent::text_end(words, strings, state, line, row).expect("the reader's own memory");
+        rows.write_all(&row[..written])
     }
 }
 
@@ -111,6 +112,7 @@ impl TextReader {
 /// let rows = "line outcome number answers calls value\n1 1 0 0 0 050000000000000000\n2 0 12 0 0 -\n";
 /// assert_eq!(demnyaluz::run_text(text.as_bytes()), rows.as_bytes());
 /// ```
+#[must_use]
 pub fn run_text(input: &[u8]) -> Vec<u8> {
     let mut rows = Vec::new();
     let mut reader = TextReader::new();

@@ -1,28 +1,56 @@
 //! Language values and property keys.
+use std::error::Error;
 use std::fmt;
 
-/// An object of the store, by its number in the order made.
-#[derive(Clone, Copy, PartialEq, Eq, PartialOrd, Ord, Hash, Debug)]
-pub struct ObjectId(pub u8);
+macro_rules! numbers {
+    ($($(#[$doc:meta])* $name:ident $letter:literal,)*) => {
+        $(
+            $(#[$doc])*
+            #[derive(Clone, Copy, PartialEq, Eq, PartialOrd, Ord, Hash, Debug)]
+            pub struct $name(pub u8);
 
-/// A string that was entered, by its number.
-#[derive(Clone, Copy, PartialEq, Eq, PartialOrd, Ord, Hash, Debug)]
-pub struct StringId(pub u8);
+            impl fmt::Display for $name {
+                #[doc = concat!("As a line of steps has it: `", $letter, "0`.")]
+                fn fmt(&self, f: &mut fmt::Formatter<'_>) -> fmt::Result {
+                    write!(f, concat!($letter, "{}"), self.0)
+                }
+            }
+        )*
+    };
+}
 
-/// A symbol, by its number. Symbols need no making.
-#[derive(Clone, Copy, PartialEq, Eq, PartialOrd, Ord, Hash, Debug)]
-pub struct SymbolId(pub u8);
-
-/// A function, by its number. Functions need no making: a call takes the next answer.
-#[derive(Clone, Copy, PartialEq, Eq, PartialOrd, Ord, Hash, Debug)]
-pub struct FunctionId(pub u8);
+numbers! {
+    /// An object of the store, by its number in the order made.
+    ///
+    /// ```
+    /// assert_eq!(demnyaluz::ObjectId(3).to_string(), "o3");
+    /// ```
+    ObjectId "o",
+    /// A string that was entered, by its number.
+    StringId "s",
+    /// A symbol, by its number. Symbols need no making.
+    SymbolId "y",
+    /// A function, by its number. Functions need no making: a call takes the next answer.
+    FunctionId "f",
+}
 
 /// A language value.
 ///
 /// `==` compares representations, NaNs of different bits included; [`Value::same_value`] compares as the language does.
-#[derive(Clone, Copy, Debug)]
+///
+/// ```
+/// use demnyaluz::{FunctionId, Value};
+///
+/// assert_eq!(Value::from(70_000), Value::Integer32(70_000));
+/// assert_eq!(Value::from(0.5), Value::Float64(0.5));
+/// assert_eq!(Value::from(FunctionId(2)).to_string(), "f2");
+/// assert_eq!(Value::default(), Value::Undefined);
+/// ```
+#[derive(Clone, Copy, Debug, Default)]
+#[non_exhaustive]
 pub enum Value {
     /// undefined
+    #[default]
     Undefined,
     /// null
     Null,
@@ -42,18 +70,46 @@ pub enum Value {
     Function(FunctionId),
 }
 
+/// A value as the two words that a report has of it; `include/demnyaluz.h` says what they are.
+///
+/// ```
+/// use demnyaluz::{Value, ValueWords};
+///
+/// let words = Value::from(-1).to_words();
+/// assert_eq!(words, ValueWords { kind: 3, payload: 0xffff_ffff });
+/// assert_eq!(Value::from_words(words), Some(Value::Integer32(-1)));
+/// assert_eq!(Value::from_words(ValueWords { kind: 2, payload: 2 }), None);
+/// ```
+#[derive(Clone, Copy, PartialEq, Eq, Hash, Debug, Default)]
+pub struct ValueWords {
+    /// Which kind of value it is.
+    pub kind: u64,
+    /// The value within its kind.
+    pub payload: u64,
+}
+
 impl PartialEq for Value {
     fn eq(&self, other: &Value) -> bool {
-        self.words() == other.words()
+        self.to_words() == other.to_words()
     }
 }
 
 impl Eq for Value {}
 
+impl std::hash::Hash for Value {
+    fn hash<H: std::hash::Hasher>(&self, state: &mut H) {
+        self.to_words().hash(state);
+    }
+}
+
 impl Value {
-    /// The kind, 0 to 8, and the payload.
-    pub fn words(self) -> (u8, u64) {
-        match self {
+    /// How many bytes the record of a value has.
+    pub const SIZE: usize = 9;
+
+    /// The kind and the payload.
+    #[must_use]
+    pub fn to_words(self) -> ValueWords {
+        let (kind, payload) = match self {
             Value::Undefined => (0, 0),
             Value::Null => (1, 0),
             Value::Boolean(b) => (2, b.into()),
@@ -63,11 +119,14 @@ impl Value {
             Value::Symbol(n) => (6, n.0.into()),
             Value::Object(n) => (7, n.0.into()),
             Value::Function(n) => (8, n.0.into()),
-        }
+        };
+        ValueWords { kind, payload }
     }
 
     /// The value of a kind and a payload, if there is one.
-    pub fn from_words(kind: u64, payload: u64) -> Option<Value> {
+    #[must_use]
+    pub fn from_words(words: ValueWords) -> Option<Value> {
+        let ValueWords { kind, payload } = words;
         let number = || u8::try_from(payload).ok();
         Some(match kind {
             0 if payload == 0 => Value::Undefined,
@@ -83,21 +142,40 @@ impl Value {
         })
     }
 
-    /// The nine bytes of a value in a record.
-    pub fn to_bytes(self) -> [u8; 9] {
-        let (kind, payload) = self.words();
-        let mut bytes = [kind; 9];
+    /// The bytes of a value in a record: its kind, then its payload, low byte first.
+    ///
+    /// ```
+    /// use demnyaluz::Value;
+    ///
+    /// let bytes = Value::from(70_000).to_bytes();
+    /// assert_eq!(bytes, [3, 0x70, 0x11, 0x01, 0, 0, 0, 0, 0]);
+    /// assert_eq!(Value::from_bytes(&bytes), Some(Value::Integer32(70_000)));
+    /// ```
+    #[must_use]
+    pub fn to_bytes(self) -> [u8; Self::SIZE] {
+        let ValueWords { kind, payload } = self.to_words();
+        let mut bytes = [kind as u8; Self::SIZE];
         bytes[1..].copy_from_slice(&payload.to_le_bytes());
         bytes
     }
 
-    /// The value of nine bytes of a record, if there is one.
-    pub fn from_bytes(bytes: &[u8; 9]) -> Option<Value> {
+    /// The value of the bytes of a record, if there is one.
+    #[must_use]
+    pub fn from_bytes(bytes: &[u8; Self::SIZE]) -> Option<Value> {
         let [kind, payload @ ..] = *bytes;
-        Value::from_words(kind.into(), u64::from_le_bytes(payload))
+        Value::from_words(ValueWords { kind: kind.into(), payload: u64::from_le_bytes(payload) })
     }
 
     /// SameValue: all NaNs are alike, +0 and -0 differ, Integer32 1 is Float64 1.0.
+    ///
+    /// ```
+    /// use demnyaluz::Value;
+    ///
+    /// assert!(Value::from(1).same_value(Value::from(1.0)));
+    /// assert!(!Value::from(0).same_value(Value::from(-0.0)));
+    /// assert!(Value::from(f64::NAN).same_value(Value::from(-f64::NAN)));
+    /// ```
+    #[must_use]
     pub fn same_value(self, other: Value) -> bool {
         match (self.number(), other.number()) {
             (Some(a), Some(b)) => a.to_bits() == b.to_bits() || a.is_nan() && b.is_nan(),
@@ -114,46 +192,31 @@ impl Value {
     }
 }
 
-impl From<bool> for Value {
-    fn from(b: bool) -> Value {
-        Value::Boolean(b)
-    }
+macro_rules! from {
+    ($($type:ty => $variant:ident,)*) => {
+        $(
+            impl From<$type> for Value {
+                fn from(v: $type) -> Value {
+                    Value::$variant(v.into())
+                }
+            }
+        )*
+    };
 }
 
-impl From<i32> for Value {
-    fn from(i: i32) -> Value {
-        Value::Integer32(i)
-    }
-}
-
-impl From<f64> for Value {
-    fn from(f: f64) -> Value {
-        Value::Float64(f)
-    }
-}
-
-impl From<StringId> for Value {
-    fn from(s: StringId) -> Value {
-        Value::String(s)
-    }
-}
-
-impl From<SymbolId> for Value {
-    fn from(s: SymbolId) -> Value {
-        Value::Symbol(s)
-    }
-}
-
-impl From<ObjectId> for Value {
-    fn from(o: ObjectId) -> Value {
-        Value::Object(o)
-    }
-}
-
-impl From<FunctionId> for Value {
-    fn from(f: FunctionId) -> Value {
-        Value::Function(f)
-    }
+from! {
+    bool => Boolean,
+    i8 => Integer32,
+    u8 => Integer32,
+    i16 => Integer32,
+    u16 => Integer32,
+    i32 => Integer32,
+    f32 => Float64,
+    f64 => Float64,
+    StringId => String,
+    SymbolId => Symbol,
+    ObjectId => Object,
+    FunctionId => Function,
 }
 
 impl From<PropertyKey> for Value {
@@ -169,22 +232,35 @@ impl fmt::Display for Value {
     /// `undefined`, `70000`, `-0.0`, `o3`, `s0`, `y7`, `f2`: as a line of steps has it, but for strings, which are numbers here.
     fn fmt(&self, f: &mut fmt::Formatter<'_>) -> fmt::Result {
         match self {
-            Value::Undefined => write!(f, "undefined"),
-            Value::Null => write!(f, "null"),
+            Value::Undefined => f.write_str("undefined"),
+            Value::Null => f.write_str("null"),
             Value::Boolean(b) => write!(f, "{b}"),
             Value::Integer32(i) => write!(f, "{i}"),
             Value::Float64(x) if x.is_infinite() => f.write_str(if *x > 0.0 { "Infinity" } else { "-Infinity" }),
             Value::Float64(x) => write!(f, "{x:?}"),
-            Value::String(n) => write!(f, "s{}", n.0),
-            Value::Symbol(n) => write!(f, "y{}", n.0),
-            Value::Object(n) => write!(f, "o{}", n.0),
-            Value::Function(n) => write!(f, "f{}", n.0),
+            Value::String(n) => write!(f, "{n}"),
+            Value::Symbol(n) => write!(f, "{n}"),
+            Value::Object(n) => write!(f, "{n}"),
+            Value::Function(n) => write!(f, "{n}"),
         }
     }
 }
 
 /// A property key: a string that was entered, or a symbol.
-#[derive(Clone, Copy, PartialEq, Eq, Hash, Debug)]
+///
+/// ```
+/// use demnyaluz::{PropertyKey, SymbolId, Value};
+///
+/// let key = PropertyKey::from(SymbolId(3));
+/// assert_eq!(Value::from(key), Value::Symbol(SymbolId(3)));
+/// assert_eq!(PropertyKey::try_from(Value::Symbol(SymbolId(3))), Ok(key));
+///
+/// let error = PropertyKey::try_from(Value::Null).unwrap_err();
+/// assert_eq!(error.to_string(), "expected a string or a symbol, found null");
+/// ```
+// the standard has these two kinds
+#[allow(clippy::exhaustive_enums)]
+#[derive(Clone, Copy, PartialEq, Eq, PartialOrd, Ord, Hash, Debug)]
 pub enum PropertyKey {
     /// A string.
     String(StringId),
@@ -192,13 +268,36 @@ pub enum PropertyKey {
     Symbol(SymbolId),
 }
 
-impl PropertyKey {
-    /// The key that a value is, if it is one.
-    pub fn from_value(v: Value) -> Option<PropertyKey> {
-        match v {
-            Value::String(s) => Some(PropertyKey::String(s)),
-            Value::Symbol(s) => Some(PropertyKey::Symbol(s)),
-            _ => None,
+/// A value that is no property key.
+#[derive(Clone, Copy, PartialEq, Eq, Hash, Debug)]
+pub struct TryFromValueError {
+    value: Value,
+}
+
+impl TryFromValueError {
+    /// The value.
+    #[must_use]
+    pub fn value(&self) -> Value {
+        self.value
+    }
+}
+
+impl fmt::Display for TryFromValueError {
+    fn fmt(&self, f: &mut fmt::Formatter<'_>) -> fmt::Result {
+        write!(f, "expected a string or a symbol, found {}", self.value)
+    }
+}
+
+impl Error for TryFromValueError {}
+
+impl TryFrom<Value> for PropertyKey {
+    type Error = TryFromValueError;
+
+    fn try_from(value: Value) -> Result<PropertyKey, TryFromValueError> {
+        match value {
+            Value::String(s) => Ok(PropertyKey::String(s)),
+            Value::Symbol(s) => Ok(PropertyKey::Symbol(s)),
+            _ => Err(TryFromValueError { value }),
         }
     }
 }

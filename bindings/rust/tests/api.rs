@@ -1,8 +1,11 @@
 //! The crate's own types: what they encode to, what reports they give, and how the store looks from outside.
+use demnyaluz::notation::Call;
 use demnyaluz::{
-    lent, sheet_bytes, Answer, Completion, Failure, FunctionId, Message, ObjectId, Property, PropertyDescriptor, PropertyKey, Refusal, Step, Store,
-    StringId, SymbolId, Traps, Value,
+    lent, notation, rows, sheet_bytes, Answer, Completion, Failure, FunctionId, Message, ObjectId, Property, PropertyDescriptor, PropertyKey,
+    Refusal, Report, Step, Store, StringId, SymbolId, TextReader, Traps, TryFromValueError, Validation, Value, ValueWords,
 };
+use std::collections::HashSet;
+use std::error::Error;
 
 fn hex(bytes: &[u8]) -> String {
     demnyaluz::notation::hex(bytes)
@@ -26,8 +29,8 @@ fn values_are_nine_bytes() {
         assert_eq!(hex(&value.to_bytes()), bytes);
         assert_eq!(Value::from_bytes(&value.to_bytes()), Some(value));
     }
-    for (kind, payload) in [(0, 1), (1, 1), (2, 2), (3, 1 << 32), (5, 256), (7, 256), (9, 0)] {
-        assert_eq!(Value::from_words(kind, payload), None);
+    for (kind, payload) in [(0, 1), (1, 1), (2, 2), (3, 1 << 32), (5, 256), (7, 256), (9, 0), (256, 0), (u64::MAX, 0)] {
+        assert_eq!(Value::from_words(ValueWords { kind, payload }), None);
     }
 }
 
@@ -152,7 +155,7 @@ fn message_texts_fit_or_stay_out() {
         for room in 0..=100 {
             let mut text = vec![b'?'; room].into_boxed_slice();
             let size = lent::message(number, &mut text);
-            assert_eq!(size as usize, expected.len());
+            assert_eq!(size, expected.len());
             let written = if expected.len() <= room { expected.as_str() } else { "" };
             assert_eq!(*text, [written.as_bytes(), &vec![b'?'; room - written.len()]].concat());
         }
@@ -161,7 +164,7 @@ fn message_texts_fit_or_stay_out() {
 
 #[test]
 fn refusals_have_numbers_and_texts() {
-    for (i, r) in Refusal::ALL.into_iter().enumerate() {
+    for (i, r) in Refusal::ALL.iter().copied().enumerate() {
         assert_eq!(usize::from(r.number()), i + 1);
         assert_eq!(Refusal::from_number(i as u64 + 1), Some(r));
         assert!(!r.to_string().is_empty());
@@ -266,10 +269,15 @@ fn descriptors_by_themselves() {
     assert_eq!(store.complete(&PropertyDescriptor::default()), Ok(data(Value::Undefined, false)));
     let sealed: PropertyDescriptor = data(70_000.into(), false).into();
     let value = |n: i32| PropertyDescriptor { value: Some(n.into()), ..Default::default() };
-    assert_eq!(store.validate(true, &value(4_464), Some(&sealed)), Ok((false, Some(data(70_000.into(), false)))));
-    assert_eq!(store.validate(true, &value(70_000), Some(&sealed)), Ok((true, Some(data(70_000.into(), false)))));
-    assert_eq!(store.validate(false, &value(1), None), Ok((false, None)));
-    assert_eq!(store.validate(true, &value(1), None), Ok((true, Some(data(1.into(), false)))));
+    for (extensible, told, current, accepted, property) in [
+        (true, 4_464, Some(&sealed), false, Some(data(70_000.into(), false))),
+        (true, 70_000, Some(&sealed), true, Some(data(70_000.into(), false))),
+        (false, 1, None, false, None),
+        (true, 1, None, true, Some(data(1.into(), false))),
+    ] {
+        let validation = store.validate(extensible, &value(told), current).unwrap();
+        assert_eq!((validation.accepted, validation.property), (accepted, property));
+    }
     assert_eq!(store.validate(true, &value(1), Some(&value(1))), Err(Refusal::IncompleteCurrent));
     assert_eq!(store.merge(&sealed, &value(4_464)), Ok(data(4_464.into(), false)));
     let accessor = PropertyDescriptor { get: Some(Value::Undefined), ..Default::default() };
@@ -323,7 +331,402 @@ fn bytes_of_any_length_are_taken() {
 }
 
 #[test]
-fn a_store_can_move_between_threads() {
-    fn sendable<T: Send + Sync>() {}
+fn values_come_from_rusts_own() {
+    assert_eq!(Value::from(true), Value::Boolean(true));
+    assert_eq!([Value::from(i8::MIN), Value::from(i16::MIN), Value::from(i32::MIN)], [-128, -32_768, i32::MIN].map(Value::Integer32));
+    assert_eq!([Value::from(u8::MAX), Value::from(u16::MAX)], [255, 65_535].map(Value::Integer32));
+    assert_eq!([Value::from(0.5_f32), Value::from(f64::MAX)], [0.5, f64::MAX].map(Value::Float64));
+    assert_eq!(Value::from(StringId(1)), Value::String(StringId(1)));
+    assert_eq!(Value::from(SymbolId(2)), Value::Symbol(SymbolId(2)));
+    assert_eq!(Value::from(ObjectId(3)), Value::Object(ObjectId(3)));
+    assert_eq!(Value::from(FunctionId(4)), Value::Function(FunctionId(4)));
+    assert_eq!(Value::from(PropertyKey::from(StringId(5))), Value::String(StringId(5)));
+    assert_eq!(Value::from(PropertyKey::from(SymbolId(6))), Value::Symbol(SymbolId(6)));
+    assert_eq!((Value::default(), Traps::default()), (Value::Undefined, Traps::NONE));
+    assert_eq!(Answer::from(Value::Null), Answer::Value(Value::Null));
+    assert_eq!(Answer::from(PropertyDescriptor::fixed(1)), Answer::Descriptor(PropertyDescriptor::fixed(1)));
+}
+
+#[test]
+fn a_key_comes_from_a_value_that_is_one() {
+    for key in [PropertyKey::from(StringId(0)), SymbolId(255).into()] {
+        assert_eq!(PropertyKey::try_from(Value::from(key)), Ok(key));
+    }
+    for value in [Value::Undefined, Value::Null, false.into(), 7.into(), 0.5.into(), ObjectId(1).into(), FunctionId(2).into()] {
+        let error: TryFromValueError = PropertyKey::try_from(value).unwrap_err();
+        assert_eq!(error.value(), value);
+        assert_eq!(error.to_string(), format!("expected a string or a symbol, found {value}"));
+    }
+}
+
+/// What is equal is found again in a set, and NaNs of different bits are two.
+#[test]
+fn values_can_be_hashed() {
+    let nans = [f64::NAN.into(), f64::from_bits(0xfff0_0000_0000_0001).into()];
+    let values: HashSet<Value> = [0.into(), (-0.0).into(), 0.0.into(), 0.into(), Value::Null, Value::Undefined].into_iter().chain(nans).collect();
+    assert_eq!(values.len(), 7);
+    assert!(nans.iter().all(|n| values.contains(n)));
+    let reports: HashSet<String> = [Store::new(), Store::default()].into_iter().collect::<HashSet<_>>().iter().map(|s| format!("{s:?}")).collect();
+    assert_eq!(reports, HashSet::from(["Store { objects: 0, properties: 0, strings: 0 }".to_string()]));
+}
+
+#[test]
+fn traps_are_a_set() {
+    let two = Traps::GET | Traps::OWN_KEYS;
+    let mut traps = Traps::NONE;
+    traps |= Traps::GET;
+    assert_eq!(traps, Traps::GET);
+    traps |= two;
+    assert_eq!((traps, traps.mask(), traps.is_empty()), (two, 128 + 1024, false));
+    assert_eq!((two & Traps::GET, two & Traps::SET, two - Traps::GET), (Traps::GET, Traps::NONE, Traps::OWN_KEYS));
+    traps &= Traps::GET | Traps::SET;
+    assert_eq!(traps, Traps::GET);
+    traps -= Traps::ALL;
+    assert_eq!((traps, traps.is_empty()), (Traps::NONE, true));
+    assert_eq!((!Traps::NONE, !Traps::ALL, !two | two, !two & two), (Traps::ALL, Traps::NONE, Traps::ALL, Traps::NONE));
+    assert!(two.contains(Traps::GET) && two.contains(Traps::NONE) && !two.contains(Traps::GET | Traps::SET));
+    let each: Vec<Traps> = (0..16).filter_map(|bit| Traps::from_mask(1 << bit)).collect();
+    assert_eq!((each.iter().copied().collect::<Traps>(), each.len()), (Traps::ALL, 11));
+    traps.extend(each);
+    assert_eq!(traps, Traps::ALL);
+    for mask in 0..=u16::MAX {
+        assert_eq!(Traps::from_mask(mask).map(Traps::mask), (mask <= 2047).then_some(mask));
+    }
+    assert_eq!((two.to_string(), Traps::ALL.to_string(), Traps::NONE.to_string()), ("get, ownKeys".into(), "all".into(), "none".into()));
+    assert_eq!(two.names().collect::<Vec<_>>(), ["get", "ownKeys"]);
+    assert_eq!(Traps::ALL.names().count(), 11);
+    assert_eq!(
+        (format!("{two:#x}"), format!("{two:X}"), format!("{two:o}"), format!("{two:b}")),
+        ("0x480".into(), "480".into(), "2200".into(), "10010000000".into())
+    );
+}
+
+#[test]
+fn what_is_read_can_be_printed() {
+    let key = PropertyKey::from(SymbolId(7));
+    let text = |v: &dyn std::fmt::Display| v.to_string();
+    let fixed = "{value: 70000, writable: false, enumerable: true, configurable: false}";
+    let accessor = Property::Accessor { get: FunctionId(1).into(), set: Value::Undefined, enumerable: true, configurable: false };
+    let step = Step::Get { object: ObjectId(1), key: StringId(0).into(), receiver: 5.into() };
+    for (told, expected) in [
+        (text(&ObjectId(31)), "o31"),
+        (text(&StringId(0)), "s0"),
+        (text(&SymbolId(255)), "y255"),
+        (text(&FunctionId(9)), "f9"),
+        (text(&key), "y7"),
+        (text(&Value::Float64(f64::NEG_INFINITY)), "-Infinity"),
+        (text(&PropertyDescriptor::default()), "{}"),
+        (text(&PropertyDescriptor::fixed(70_000)), fixed),
+        (text(&accessor), "{get: f1, set: undefined, enumerable: true, configurable: false}"),
+        (text(&Answer::Descriptor(PropertyDescriptor::fixed(70_000))), fixed),
+        (text(&Answer::keys([key, StringId(4).into()])), "[y7, s4]"),
+        (text(&Answer::Throw(Value::Null)), "throw null"),
+        (text(&step), "get o1 s0 receiver 5"),
+        (text(&Call::Step { step, answers: vec![Answer::Value(true.into())] }), "get o1 s0 receiver 5 answers: true"),
+        (text(&Call::Enter(vec![97])), "string \"a\""),
+        (text(&Completion::Absent), "absent"),
+        (text(&Completion::Keys(vec![key])), "[y7]"),
+        (text(&Failure::Thrown(4_464.into())), "thrown 4464"),
+    ] {
+        assert_eq!(told, expected);
+    }
+}
+
+/// Words that no call leaves are no report, and neither are keys that the output does not hold.
+#[test]
+fn reports_are_read_from_their_words() {
+    let told = |words: [u64; 10], output: &[u8]| Report::from_words(&words, output).map(|r| r.to_string());
+    let key = Value::from(SymbolId(3)).to_bytes();
+    for (words, output, expected) in [
+        ([0, 8, 0, 0, 0, 0, 0, 0, 0, 0], &[][..], Some("refused 8: the sheet has no next answer")),
+        ([2, 1, 3, 4, 0, 0, 0, 0, 0, 0], &[], Some("TypeError 1: Proxy object has empty handler and target (3 answers, 4 calls)")),
+        ([3, 0, 1, 1, 1, 0, 3, 5, 0, 0], &[], Some("thrown 5 (1 answer, 1 call)")),
+        ([1, 0, 0, 1, 1, 0, 7, 2, 0, 0], &[], Some("o2 (0 answers, 1 call)")),
+        ([1, 0, 0, 1, 3, 0, 0, 0, 0, 0], &[], Some("absent (0 answers, 1 call)")),
+        ([1, 0, 0, 1, 4, 1, 0, 0, 0, 0], &key, Some("[y3] (0 answers, 1 call)")),
+        ([1, 0, 0, 1, 4, 0, 0, 0, 0, 0], &key, Some("[] (0 answers, 1 call)")),
+        ([1, 0, 0, 1, 4, 1, 0, 0, 0, 0], &key[1..], None),
+        ([1, 0, 0, 1, 4, 1, 0, 0, 0, 0], &[3; 9], None),
+        ([1, 0, 0, 1, 4, u64::MAX, 0, 0, 0, 0], &key, None),
+        ([0, 0, 0, 0, 0, 0, 0, 0, 0, 0], &[], None),
+        ([2, 255, 0, 0, 0, 0, 0, 0, 0, 0], &[], None),
+        ([3, 0, 1, 1, 1, 0, 9, 0, 0, 0], &[], None),
+        ([1, 0, 0, 1, 1, 0, 2, 2, 0, 0], &[], None),
+        ([1, 0, 0, 1, 2, 1, 8, 0, 9, 0], &[], None),
+        ([1, 0, 0, 1, 0, 0, 0, 0, 0, 0], &[], None),
+        ([4, 0, 0, 1, 1, 0, 0, 0, 0, 0], &[], None),
+        ([1, 0, u64::MAX, 1, 1, 0, 0, 0, 0, 0], &[], None),
+    ] {
+        assert_eq!(told(words, output).as_deref(), expected, "{words:?}");
+    }
+    assert_eq!(Report::from_words(&[0, 8, 0, 0, 0, 0, 0, 0, 0], &[]), None);
+    assert_eq!(Report::from_words(&[0, 8, 0, 0, 0, 0, 0, 0, 0, 0, 0], &[]), None);
+}
+
+/// `enum demnyaluz_*` of the header, and its constants.
+fn header() -> Vec<(String, usize)> {
+    let path = std::path::Path::new(env!("CARGO_MANIFEST_DIR")).join("../../include/demnyaluz.h");
+    let text = std::fs::read_to_string(path).unwrap();
+    let named = |line: &str| {
+        let (name, value) = line.trim().strip_prefix("DEMNYALUZ_")?.split_once(" = ")?;
+        let digits: String = value.chars().take_while(char::is_ascii_digit).collect();
+        Some((name.to_string(), digits.parse().ok()?))
+    };
+    text.lines().filter_map(named).collect()
+}
+
+/// `SheetSpent` as `SHEET_SPENT`.
+fn in_capitals(name: &str) -> String {
+    let mut capitals = String::new();
+    for c in name.chars() {
+        if c.is_uppercase() && !capitals.is_empty() {
+            capitals.push('_');
+        }
+        capitals.extend(c.to_uppercase());
+    }
+    capitals
+}
+
+#[test]
+fn names_and_numbers_are_the_headers() {
+    let header = header();
+    let of = |prefix: &str| -> Vec<(String, usize)> {
+        header.iter().filter_map(|(name, value)| Some((name.strip_prefix(prefix)?.to_string(), *value))).collect()
+    };
+    let refusals: Vec<_> = Refusal::ALL.iter().map(|r| (in_capitals(&format!("{r:?}")), r.number().into())).collect();
+    assert_eq!(refusals, of("REFUSAL_"));
+    let messages: Vec<_> = Message::ALL.iter().map(|m| (in_capitals(&format!("{m:?}")), m.number().into())).collect();
+    assert_eq!(messages, of("MESSAGE_"));
+    for (name, value) in [
+        ("STORE_WORDS", demnyaluz::STORE_WORDS),
+        ("STRING_CELLS", demnyaluz::STRING_CELLS),
+        ("REPORT_WORDS", demnyaluz::REPORT_WORDS),
+        ("VALUE_BYTES", Value::SIZE),
+        ("DESCRIPTOR_BYTES", PropertyDescriptor::SIZE),
+        ("STEP_BYTES", Step::SIZE),
+        ("OUTPUT_BYTES", demnyaluz::OUTPUT_BYTES),
+        ("TEXT_STATE", demnyaluz::TEXT_STATE_WORDS),
+        ("TEXT_LINE", demnyaluz::TEXT_LINE_BYTES),
+        ("TEXT_ROW", demnyaluz::TEXT_ROW_BYTES),
+        ("MAXIMUM_OBJECTS", demnyaluz::MAXIMUM_OBJECTS),
+        ("MAXIMUM_PROPERTIES", demnyaluz::MAXIMUM_PROPERTIES),
+        ("MAXIMUM_STRINGS", demnyaluz::MAXIMUM_STRINGS),
+        ("MAXIMUM_UNITS", demnyaluz::MAXIMUM_UNITS),
+        ("MAXIMUM_ANSWERS", demnyaluz::MAXIMUM_ANSWERS),
+        ("MAXIMUM_KEYS", demnyaluz::MAXIMUM_KEYS),
+        ("MAXIMUM_CALLS", demnyaluz::MAXIMUM_CALLS),
+    ] {
+        assert!(header.contains(&(name.to_string(), value)), "{name}");
+    }
+    let (object, key, value) = (ObjectId(0), PropertyKey::from(SymbolId(0)), Value::Null);
+    for step in [
+        Step::MakeObject { prototype: None },
+        Step::MakeProxy { target: object, traps: Traps::NONE },
+        Step::Revoke { proxy: object },
+        Step::GetPrototypeOf { object },
+        Step::SetPrototypeOf { object, prototype: None },
+        Step::IsExtensible { object },
+        Step::PreventExtensions { object },
+        Step::GetOwnProperty { object, key },
+        Step::DefineOwnProperty { object, key, descriptor: PropertyDescriptor::default() },
+        Step::HasProperty { object, key },
+        Step::Get { object, key, receiver: value },
+        Step::Set { object, key, value, receiver: value },
+        Step::Delete { object, key },
+        Step::OwnPropertyKeys { object },
+    ] {
+        let debug = format!("{step:?}");
+        let name = format!("CODE_{}", in_capitals(debug.split(' ').next().unwrap()));
+        assert!(header.contains(&(name.clone(), step.code().into())), "{name}");
+    }
+}
+
+/// The entries over slices, where they say more than a store shows.
+#[test]
+fn lent_memory_of_another_length_is_left() {
+    let (mut words, mut strings, mut state) = (vec![7; 1633], vec![7; 8448], vec![7; 9]);
+    assert!(!lent::empty_store(&mut words) && !lent::empty_strings(&mut strings) && !lent::text_start(&mut words, &mut strings, &mut state));
+    let refused = [0, 1, 0, 0, 0, 0, 0, 0, 0, 0];
+    assert_eq!(lent::step(&mut words, &strings, &[1; 58], &[0], &mut []).as_slice(), refused);
+    assert_eq!(lent::enter_string(&mut strings, &[65]).as_ref(), refused);
+    assert_eq!(lent::complete(&words, &strings, &[0; 29]).as_slice(), refused);
+    assert_eq!(lent::merge(&words, &strings, &[0; 29], &[0; 29]).as_slice(), refused);
+    let validated = lent::validate(&words, &strings, true, &[0; 29], &[]);
+    assert_eq!((validated.accepted, validated.report.as_slice()), (false, &refused[..]));
+    assert_eq!(lent::text_feed(&mut words, &mut strings, &mut state, &mut [], b"step", &mut []), None);
+    assert_eq!(lent::text_end(&mut words, &mut strings, &mut state, &mut [], &mut []), None);
+    assert!(words.iter().all(|w| *w == 7) && strings.iter().all(|c| *c == 7) && state.iter().all(|w| *w == 7));
+}
+
+/// An error says what is wrong in one line, as others quote it: it begins in lower case and has no full stop.
+#[test]
+fn errors_are_errors() {
+    fn is_error<E: Error + Send + Sync + 'static>() {}
+    is_error::<Failure>();
+    is_error::<Refusal>();
+    is_error::<TryFromValueError>();
+    is_error::<notation::Error>();
+    is_error::<rows::ParseRowError>();
+    is_error::<rows::Error>();
+    let call = Call::Step { step: Step::MakeObject { prototype: None }, answers: vec![] };
+    let mut errors: Vec<Box<dyn Error>> = vec![
+        Box::new(PropertyKey::try_from(Value::Null).unwrap_err()),
+        Box::new(notation::parse("fetch").unwrap_err()),
+        Box::new(rows::Row::parse("", &call).unwrap_err()),
+        Box::new(Failure::Thrown(Value::Null)),
+    ];
+    errors.extend(Refusal::ALL.iter().flat_map(|r| [Box::new(*r) as Box<dyn Error>, Box::new(Failure::from(*r))]));
+    for error in errors {
+        let text = error.to_string();
+        assert!(text.starts_with(|c: char| c.is_lowercase()) && !text.ends_with('.') && !text.contains('\n'), "{text}");
+        assert!(error.source().is_none(), "{text}");
+    }
+}
+
+/// An error that comes from another says so, and leaves the other's text to it.
+#[test]
+fn errors_have_their_sources() {
+    struct Broken;
+    impl std::io::Read for Broken {
+        fn read(&mut self, _: &mut [u8]) -> std::io::Result<usize> {
+            Err(std::io::Error::other("broken"))
+        }
+    }
+    impl std::io::Write for Broken {
+        fn write(&mut self, _: &[u8]) -> std::io::Result<usize> {
+            Err(std::io::Error::other("broken"))
+        }
+
+        fn flush(&mut self) -> std::io::Result<()> {
+            Ok(())
+        }
+    }
+    let calls = notation::parse("object").unwrap();
+    let row = |text: &str| format!("{}\n{text}\n", rows::HEADING).into_bytes();
+    let made = row("1 1 0 0 0 070000000000000000");
+    let read = rows::show(&calls, std::io::BufReader::new(Broken), &mut Vec::new()).unwrap_err();
+    let write = rows::show(&calls, &*made, &mut Broken).unwrap_err();
+    let malformed = rows::show(&calls, &*row("1 4 0 0 0 -"), &mut Vec::new()).unwrap_err();
+    assert!(matches!((&read, &write, &malformed), (rows::Error::Read(_), rows::Error::Write(_), rows::Error::Malformed { line: 1, .. })));
+    for (error, text, source) in [
+        (&read, "the rows cannot be read", "broken"),
+        (&write, "the calls and their rows cannot be written", "broken"),
+        (&malformed, "the row of line 1 (object) is malformed, '1 4 0 0 0 -'", "expected outcome 0 to 3, found 4"),
+    ] {
+        assert_eq!((error.to_string(), error.source().unwrap().to_string()), (text.to_string(), source.to_string()));
+    }
+    assert!(malformed.source().unwrap().is::<rows::ParseRowError>());
+    let heading = format!("{}\n", rows::HEADING).into_bytes();
+    for rows in [vec![], heading, row("2 1 0 0 0 070000000000000000"), row("0 0 12 0 0 -"), [&*made, b"2 0 1 0 0 -"].concat()] {
+        assert!(rows::show(&calls, &*rows, &mut Vec::new()).unwrap_err().source().is_none());
+    }
+}
+
+#[test]
+fn everything_can_move_between_threads() {
+    fn sendable<T: Send + Sync + Unpin + 'static>() {}
     sendable::<Store>();
+    sendable::<TextReader>();
+    sendable::<Report>();
+    sendable::<Validation>();
+    sendable::<(Step, Answer, Traps, Message)>();
+    sendable::<(Value, ValueWords, PropertyKey, Property, PropertyDescriptor)>();
+    sendable::<(notation::Line, notation::Strings, rows::Row)>();
+    sendable::<(lent::ReportWords, lent::Validated, lent::Fed)>();
+}
+
+/// Later versions may add to these: a match from outside needs a last arm, which would be unreachable if all of them could be named.
+#[test]
+#[deny(unreachable_patterns)]
+fn enums_that_grow_are_not_exhaustive() {
+    macro_rules! named {
+        ($value:expr, $pattern:pat) => {
+            match $value {
+                $pattern => true,
+                _ => false,
+            }
+        };
+    }
+    use Value::{Boolean, Float64, Function, Integer32, Null, Object, String, Symbol, Undefined};
+    assert!(named!(Value::Null, Undefined | Null | Boolean(_) | Integer32(_) | Float64(_) | String(_) | Symbol(_) | Object(_) | Function(_)));
+    let step = Step::MakeObject { prototype: None };
+    assert!(named!(
+        step,
+        Step::MakeObject { .. }
+            | Step::MakeProxy { .. }
+            | Step::Revoke { .. }
+            | Step::GetPrototypeOf { .. }
+            | Step::SetPrototypeOf { .. }
+            | Step::IsExtensible { .. }
+            | Step::PreventExtensions { .. }
+            | Step::GetOwnProperty { .. }
+            | Step::DefineOwnProperty { .. }
+            | Step::HasProperty { .. }
+            | Step::Get { .. }
+            | Step::Set { .. }
+            | Step::Delete { .. }
+            | Step::OwnPropertyKeys { .. }
+    ));
+    assert!(named!(Answer::keys([]), Answer::Value(_) | Answer::Descriptor(_) | Answer::Keys(_) | Answer::Throw(_)));
+    assert!(named!(Call::Enter(vec![]), Call::Enter(_) | Call::Step { .. }));
+    let made = Store::new().step(&step, &[]).outcome.unwrap();
+    assert!(named!(made, Completion::Value(_) | Completion::Property(_) | Completion::Absent | Completion::Keys(_)));
+    let refused = Failure::from(Refusal::StoreFull);
+    assert!(named!(refused, Failure::Refused(_) | Failure::TypeError(_) | Failure::Thrown(_)));
+    use rows::Error::{Heading, LeftOver, Malformed, Missing, Names, OtherLine, Read, Write};
+    assert!(named!(
+        rows::show(&[], &b""[..], &mut Vec::new()).unwrap_err(),
+        Heading { .. } | Names | Missing { .. } | Malformed { .. } | OtherLine { .. } | LeftOver { .. } | Read(_) | Write(_)
+    ));
+    use Refusal as R;
+    assert!(R::ALL.iter().all(|r| named!(
+        r,
+        R::MalformedRecord
+            | R::ObjectNeverMade
+            | R::UnusablePart
+            | R::UnusableDescriptor
+            | R::IncompleteCurrent
+            | R::DifferentKinds
+            | R::StoreFull
+            | R::SheetSpent
+            | R::UnreadableAnswer
+            | R::TooManyCalls
+            | R::OutputTooSmall
+            | R::BrokenLine
+    )));
+    use Message as M;
+    assert!(M::ALL.iter().all(|m| named!(
+        m,
+        M::RevokedProxy
+            | M::PrototypeNotObjectOrNull
+            | M::UnexpectedPrototype
+            | M::PrototypeNotSet
+            | M::UnexpectedExtensible
+            | M::StillExtensible
+            | M::DescriptorNotObjectOrUndefined
+            | M::HiddenNonConfigurable
+            | M::HiddenOfNonExtensible
+            | M::UnexpectedProperty
+            | M::ReportedNonWritable
+            | M::ReportedNonConfigurable
+            | M::PropertyNotDefined
+            | M::DefinedUnexpectedValue
+            | M::DefinedUnexpectedConfigurable
+            | M::DefinedUnexpectedWritable
+            | M::GotUnexpectedData
+            | M::GotUnexpectedAccessor
+            | M::SetUnexpectedData
+            | M::SetUnexpectedAccessor
+            | M::NotDeleted
+            | M::DuplicateString
+            | M::DuplicateSymbol
+            | M::NonConfigurableKeyMissing
+            | M::ConfigurableKeyMissing
+            | M::UnexpectedKey
+            | M::GetterNotCallable
+            | M::SetterNotCallable
+            | M::MixedDescriptor
+            | M::NotKey
+            | M::KeysNotObject
+    )));
 }

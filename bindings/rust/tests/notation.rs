@@ -1,5 +1,5 @@
 //! Readable lines: what they mean, where they are wrong, and their cells.
-use demnyaluz::notation::{cells, parse, Call, Error, Strings, HEADING};
+use demnyaluz::notation::{cells, parse, Call, Strings, HEADING};
 use demnyaluz::readable;
 use demnyaluz::{Answer, FunctionId, ObjectId, PropertyDescriptor, PropertyKey, Step, StringId, SymbolId, Traps, Value};
 
@@ -9,7 +9,7 @@ fn calls(text: &str) -> Vec<Call> {
 
 fn one(text: &str) -> (Step, Vec<Answer>) {
     match calls(text).pop() {
-        Some(Call::Step(step, answers)) => (step, answers),
+        Some(Call::Step { step, answers }) => (step, answers),
         other => panic!("{other:?}"),
     }
 }
@@ -133,13 +133,13 @@ fn texts_are_entered_before_their_line() {
         calls(text),
         vec![
             Call::Enter(units("b")),
-            Call::Step(Step::HasProperty { object: ObjectId(0), key: StringId(0).into() }, vec![]),
+            Call::Step { step: Step::HasProperty { object: ObjectId(0), key: StringId(0).into() }, answers: vec![] },
             Call::Enter(units("a")),
             Call::Enter(units("newA\n\"\\\t")),
-            Call::Step(
-                Step::Get { object: ObjectId(0), key: StringId(1).into(), receiver: ObjectId(0).into() },
-                vec![Answer::Value(StringId(0).into()), Answer::Throw(StringId(2).into())]
-            ),
+            Call::Step {
+                step: Step::Get { object: ObjectId(0), key: StringId(1).into(), receiver: ObjectId(0).into() },
+                answers: vec![Answer::Value(StringId(0).into()), Answer::Throw(StringId(2).into())],
+            },
             Call::Enter(units("a")),
         ]
     );
@@ -147,38 +147,142 @@ fn texts_are_entered_before_their_line() {
     assert_eq!(calls(&format!("string \"{}\"\nhas o0 \"b\"", "x".repeat(33)))[1], Call::Enter(units("b")));
 }
 
+/// The place of an error, what was expected there, and what was found.
+#[track_caller]
+fn error(text: &str, line: usize, column: usize, expected: &str, found: &str) {
+    let error = parse(text).unwrap_err();
+    assert_eq!((error.line(), error.column(), error.expected(), error.found()), (line, column, expected, found), "{text}");
+    assert_eq!(error.to_string(), format!("line {line}, column {column}: expected {expected}, found {found}"));
+}
+
+const END: &str = "the end of the line";
+const VALUE: &str = "a value (as undefined, null, true, 70000, -0.5, \"text\", o0, s0, y0 or f0)";
+const FIELD: &str = "a field (value, writable, get, set, enumerable or configurable)";
+const STEP: &str = "a step (string, object, proxy, revoke, getPrototypeOf, setPrototypeOf, isExtensible, preventExtensions, \
+                    getOwnPropertyDescriptor, defineProperty, has, get, set, deleteProperty, ownKeys)";
+const TRAP: &str = "a trap (getPrototypeOf, setPrototypeOf, isExtensible, preventExtensions, getOwnPropertyDescriptor, defineProperty, has, \
+                    get, set, deleteProperty, ownKeys), 'all' or a mask of at most 2047";
+
 #[test]
-fn errors_have_line_and_column() {
-    for (text, line, column, message) in [
-        ("object\n\nfetch o0", 3, 1, "there is no step 'fetch'"),
-        ("get o0", 1, 7, "a key: a text, or as s0 or y0, is missing"),
-        ("get visits", 1, 5, "an object, as o0, is wanted, not 'visits'"),
-        ("get o256 y0", 1, 5, "a number above 255"),
-        ("get o0 y0 y1", 1, 11, "'y1' is left over"),
-        ("get o0 \"a", 1, 8, "a text that does not end"),
-        ("get o0 \"\\x\"", 1, 9, "an escape that is none of \\\" \\\\ \\n \\t \\u"),
-        ("get o0 \"\\u12g4\"", 1, 9, "\\u wants four hexadecimal digits"),
-        ("set o0 y0 2147483648", 1, 11, "a number that fits (with a point it is a Float64) is wanted, not '2147483648'"),
-        ("defineProperty o0 y0 {value 1}", 1, 29, "':' is wanted, not '1'"),
-        ("defineProperty o0 y0 {writable: 1}", 1, 33, "true or false is wanted, not '1'"),
-        ("defineProperty o0 y0 {colour: 1}", 1, 23, "there is no field 'colour'"),
-        ("defineProperty o0 y0 {value: 1, value: 2}", 1, 33, "a second field 'value'"),
-        ("defineProperty o0 y0 {value: 1", 1, 31, "',' is missing"),
-        ("proxy o0 traps read", 1, 16, "the name of a trap, 'all' or a mask up to 2047 is wanted, not 'read'"),
-        ("proxy o0 traps 2048", 1, 16, "the name of a trap, 'all' or a mask up to 2047 is wanted, not '2048'"),
-        ("  value 5", 1, 3, "answers without a step before them"),
-        ("string \"a\"\n  value 5", 2, 3, "answers without a step before them"),
-        ("get o0 y0 answers 5", 1, 19, "':' is wanted, not '5'"),
-        ("get o0 y0 answers:", 1, 19, "a value is missing"),
-        ("get o0 (y0)", 1, 8, "a character that has no place here: '('"),
-        ("getOwnPropertyDescriptor o0 \"é\" x", 1, 33, "'x' is left over"),
+fn errors_say_what_was_expected_and_what_was_found() {
+    for (text, line, column, expected, found) in [
+        ("object\n\nfetch o0", 3, 1, STEP, "'fetch'"),
+        ("\"get\" o0", 1, 1, STEP, "\"get\""),
+        ("{", 1, 1, STEP, "'{'"),
+        ("string visits", 1, 8, "a text", "'visits'"),
+        ("string \"a\" \"b\"", 1, 12, END, "\"b\""),
+        ("get", 1, 4, "an object (o0 to o255)", END),
+        ("get visits", 1, 5, "an object (o0 to o255)", "'visits'"),
+        ("get o256 y0", 1, 5, "o0 to o255", "'o256'"),
+        ("get o0", 1, 7, "a key (a text, s0 to s255 or y0 to y255)", END),
+        ("get o0 f0", 1, 8, "a key (a text, s0 to s255 or y0 to y255)", "'f0'"),
+        ("get o0 s256", 1, 8, "s0 to s255", "'s256'"),
+        ("get o0 y999999999999", 1, 8, "y0 to y255", "'y999999999999'"),
+        ("get o0 y0 y1", 1, 11, "'receiver', 'answers:' or the end of the line", "'y1'"),
+        ("has o0 y0 receiver o0", 1, 11, "'answers:' or the end of the line", "'receiver'"),
+        ("getOwnPropertyDescriptor o0 \"é\" x", 1, 33, "'answers:' or the end of the line", "'x'"),
+        ("get o0 y0 receiver", 1, 19, VALUE, END),
+        ("get o0 y0 receiver it", 1, 20, VALUE, "'it'"),
+        ("get o0 y0 receiver f256", 1, 20, "f0 to f255", "'f256'"),
+        ("object it", 1, 8, "null or an object (o0 to o255)", "'it'"),
+        ("setPrototypeOf o0", 1, 18, "null or an object (o0 to o255)", END),
+        ("proxy o0 get", 1, 10, "'traps', 'answers:' or the end of the line", "'get'"),
+        ("proxy o0 traps", 1, 15, TRAP, END),
+        ("proxy o0 traps read", 1, 16, TRAP, "'read'"),
+        ("proxy o0 traps 2048", 1, 16, TRAP, "'2048'"),
+        ("proxy o0 traps get set", 1, 20, "',', 'answers:' or the end of the line", "'set'"),
+        ("defineProperty o0 y0", 1, 21, "'{'", END),
+        ("defineProperty o0 y0 {value 1}", 1, 29, "':'", "'1'"),
+        ("defineProperty o0 y0 {writable: 1}", 1, 33, "true or false", "'1'"),
+        ("defineProperty o0 y0 {colour: 1}", 1, 23, FIELD, "'colour'"),
+        ("defineProperty o0 y0 {value: 1,}", 1, 32, FIELD, "'}'"),
+        ("defineProperty o0 y0 {value: 1, value: 2}", 1, 33, "each field once", "'value' again"),
+        ("defineProperty o0 y0 {value: 1", 1, 31, "',' or '}'", END),
+        ("defineProperty o0 y0 {value: 1]", 1, 31, "',' or '}'", "']'"),
+        ("ownKeys o0 answers: [y0 y1]", 1, 25, "',' or ']'", "'y1'"),
+        ("  value 5", 1, 3, "a step before answers", "no line"),
+        ("string \"a\"\n  value 5", 2, 3, "a step before answers", "the entry of a string"),
+        ("get o0 y0 answers 5", 1, 19, "':'", "'5'"),
+        ("get o0 y0 answers:", 1, 19, "an answer (a value, a descriptor {..}, keys [..] or throw and a value)", END),
+        ("get o0 y0 answers: throw", 1, 25, VALUE, END),
+        ("get o0 y0 answers: 1 2", 1, 22, "',' or the end of the line", "'2'"),
+        ("get o0 y0\n  1 2", 2, 5, "',' or the end of the line", "'2'"),
+        ("get o0 (y0)", 1, 8, "a word, a text in '\"', or one of { } [ ] , : #", "'('"),
+        ("get o0 \"a", 1, 8, "a text that ends in '\"'", END),
+        ("get o0 \"\\x\"", 1, 9, "an escape (\\\" \\\\ \\n \\t or \\u and four digits)", "'\\x'"),
+        ("get o0 \"\\", 1, 9, "an escape (\\\" \\\\ \\n \\t or \\u and four digits)", END),
+        ("get o0 \"\\u12g4\"", 1, 9, "four hexadecimal digits after '\\u'", "'12g4'"),
+        ("get o0 \"\\u12", 1, 9, "four hexadecimal digits after '\\u'", "'12'"),
+        ("get o0 \"\\u", 1, 9, "four hexadecimal digits after '\\u'", END),
     ] {
-        assert_eq!(parse(text), Err(Error { line, column, message: message.to_string() }), "{text}");
+        error(text, line, column, expected, found);
     }
-    let long = format!("get o0 \"{}\"", "x".repeat(33));
-    assert_eq!(parse(&long).unwrap_err().to_string(), "line 1, column 8: a text of more than 32 code units");
+    error("defineProperty o0 y0 {", 1, 23, &format!("{FIELD} or '}}'"), END);
+    error("ownKeys o0 answers: [", 1, 22, &format!("{VALUE} or ']'"), END);
+    error(&format!("get o0 \"{}\"", "x".repeat(33)), 1, 8, "a text of at most 32 code units", "one of 33");
     let many: String = (0..257).map(|i| format!("has o0 \"{i}\"\n")).collect();
-    assert_eq!(parse(&many).unwrap_err().to_string(), "line 257, column 8: a 257th string");
+    error(&many, 257, 8, "at most 256 different texts", "one more");
+    // what is found is not told at length
+    error(&format!("get {}", "x".repeat(61)), 1, 5, "an object (o0 to o255)", &format!("'{}...'", "x".repeat(60)));
+    error(&format!("get \"{}\"", "é".repeat(100)), 1, 5, "an object (o0 to o255)", &format!("\"{}...", "é".repeat(59)));
+}
+
+/// Each step and each trap that an error names is one.
+#[test]
+fn errors_name_what_there_is() {
+    let inside = |text: &str| text[text.find('(').unwrap() + 1..text.find(')').unwrap()].to_string();
+    for name in inside(STEP).split(", ") {
+        assert_ne!(parse(name).map_err(|e| e.expected().to_string()), Err(STEP.to_string()), "{name}");
+    }
+    for name in inside(TRAP).split(", ") {
+        assert!(parse(&format!("proxy o0 traps {name}")).is_ok(), "{name}");
+    }
+}
+
+/// A number is an Integer32 or a Float64 that holds it, and never becomes an infinity.
+#[test]
+fn numbers_that_do_not_fit_are_errors() {
+    const WHOLE: &str = "a whole number from -2147483648 to 2147483647, or one with a point or an exponent";
+    const FLOAT: &str = "a number from -1.7976931348623157e308 to 1.7976931348623157e308, Infinity or -Infinity";
+    for (word, expected) in [
+        ("2147483648", WHOLE),
+        ("-2147483649", WHOLE),
+        ("12abc", WHOLE),
+        ("-", WHOLE),
+        ("-NaN", WHOLE),
+        ("+Infinity", WHOLE),
+        ("-inf", WHOLE),
+        ("1e999", FLOAT),
+        ("-1e999", FLOAT),
+        ("1.8e308", FLOAT),
+        ("-1.8E308", FLOAT),
+        ("1e309", FLOAT),
+        ("1.0e99999999999999999999", FLOAT),
+        (".", "a number"),
+        ("1.2.3", "a number"),
+        ("1e", "a number"),
+        ("1e5e5", "a number"),
+        ("1_000.0", "a number"),
+    ] {
+        error(&format!("set o0 y0 {word}"), 1, 11, expected, &format!("'{word}'"));
+        error(&format!("get o0 y0 answers: {word}"), 1, 20, expected, &format!("'{word}'"));
+    }
+    let digits = "9".repeat(400);
+    error(&format!("set o0 y0 {digits}"), 1, 11, WHOLE, &format!("'{}...'", "9".repeat(60)));
+    error(&format!("set o0 y0 -{digits}.0"), 1, 11, FLOAT, &format!("'-{}...'", "9".repeat(59)));
+    for (word, value) in [
+        ("1.7976931348623157e308", f64::MAX),
+        ("-1.7976931348623157e308", f64::MIN),
+        // rounds to the largest
+        ("1.7976931348623158e308", f64::MAX),
+        ("5e-324", 5e-324),
+        ("1e-999", 0.0),
+        ("Infinity", f64::INFINITY),
+        ("-Infinity", f64::NEG_INFINITY),
+        ("-00", -0.0),
+    ] {
+        assert_eq!(one(&format!("set o3 y7 {word}")).0, Step::Set { object: O, key: Y, value: value.into(), receiver: O.into() }, "{word}");
+    }
 }
 
 /// The first line is the example of request 01.

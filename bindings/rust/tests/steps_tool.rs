@@ -156,45 +156,49 @@ fn rows_that_do_not_belong_to_the_calls_are_errors() {
     let made = "1 1 0 0 0 070000000000000000\n";
     let malformed = |line: u64, call: &str, row: &str, why: &str| format!("the row of line {line} ({call}) is malformed, '{row}': {why}");
     for (rows, shown, message) in [
-        (String::new(), 0, "there are no rows: the heading 'line outcome number answers calls value' is missing".to_string()),
-        (made.to_string(), 0, "the heading 'line outcome number answers calls value' is expected, not '1 1 0 0 0 070000000000000000'".to_string()),
-        (format!("{ROWS}0 0 12 0 0 -\n"), 0, "the first line was refused as 12: it is not the seven names".to_string()),
-        (ROWS.to_string(), 0, "the row of line 1 is missing (object): there are rows for 0 of 3 calls".to_string()),
-        (format!("{ROWS}{made}"), 1, "the row of line 2 is missing (ownKeys o0): there are rows for 1 of 3 calls".to_string()),
-        (format!("{ROWS}{made}2 1 0 0 1 -\n3 1 0 0 1 -\n4 1 0 0 1 -\n"), 3, "there are more rows than the 3 calls: '4 1 0 0 1 -'".to_string()),
-        (format!("{ROWS}{made}3 1 0 0 1 -\n"), 1, "the row of line 2 is expected (ownKeys o0), not one of line 3: '3 1 0 0 1 -'".to_string()),
-        (format!("{ROWS}\n"), 0, malformed(1, "object", "", "six parts are wanted, with one space between them, not 1")),
+        (String::new(), 0, "expected the heading 'line outcome number answers calls value', found no line".to_string()),
+        (made.to_string(), 0, "expected the heading 'line outcome number answers calls value', found '1 1 0 0 0 070000000000000000'".to_string()),
+        (
+            format!("{ROWS}0 0 12 0 0 -\n"),
+            0,
+            "expected the row of line 1, found that of a first line that is refused: it is not the seven names".to_string(),
+        ),
+        (ROWS.to_string(), 0, "expected the row of line 1 (object), found no more: there are rows for 0 of 3 calls".to_string()),
+        (format!("{ROWS}{made}"), 1, "expected the row of line 2 (ownKeys o0), found no more: there are rows for 1 of 3 calls".to_string()),
+        (format!("{ROWS}{made}2 1 0 0 1 -\n3 1 0 0 1 -\n4 1 0 0 1 -\n"), 3, "expected rows for 3 calls, found one more, '4 1 0 0 1 -'".to_string()),
+        (format!("{ROWS}{made}3 1 0 0 1 -\n"), 1, "expected the row of line 2 (ownKeys o0), found that of another, '3 1 0 0 1 -'".to_string()),
+        (format!("{ROWS}\n"), 0, malformed(1, "object", "", "expected six parts with one space between them, found 1")),
         (
             format!("{ROWS}1 1 0 0 0 070000000000000000 -\n"),
             0,
-            malformed(1, "object", "1 1 0 0 0 070000000000000000 -", "six parts are wanted, with one space between them, not 7"),
+            malformed(1, "object", "1 1 0 0 0 070000000000000000 -", "expected six parts with one space between them, found 7"),
         ),
-        (format!("{ROWS}01 0 1 0 0 -\n"), 0, malformed(1, "object", "01 0 1 0 0 -", "line is '01', which is no decimal number")),
-        (format!("{ROWS}1 +1 0 0 0 -\n"), 0, malformed(1, "object", "1 +1 0 0 0 -", "outcome is '+1', which is no decimal number")),
-        (format!("{ROWS}1 4 0 0 0 -\n"), 0, malformed(1, "object", "1 4 0 0 0 -", "outcome is 4, not 0 to 3")),
-        (format!("{ROWS}1 0 13 0 0 -\n"), 0, malformed(1, "object", "1 0 13 0 0 -", "there is no refusal 13")),
-        (format!("{ROWS}1 2 32 0 0 -\n"), 0, malformed(1, "object", "1 2 32 0 0 -", "there is no message 32")),
-        (format!("{ROWS}1 0 7 0 1 -\n"), 0, malformed(1, "object", "1 0 7 0 1 -", "a refusal has no answers and no calls")),
-        (format!("{ROWS}1 0 7 65 1 -\n"), 0, malformed(1, "object", "1 0 7 65 1 -", "answers is 65, which is more than 64")),
-        (format!("{ROWS}1 2 1 0 2049 -\n"), 0, malformed(1, "object", "1 2 1 0 2049 -", "calls is 2049, which is more than 2048")),
-        (format!("{ROWS}1 2 1 0 1 00\n"), 0, malformed(1, "object", "1 2 1 0 1 00", "value is '00', but with a refusal or a TypeError it is '-'")),
-        (format!("{ROWS}1 1 0 0 1 -\n"), 0, malformed(1, "object", "1 1 0 0 1 -", "value is '-', which is no bytes in lowercase hexadecimal")),
-        (format!("{ROWS}1 1 0 0 1 0A\n"), 0, malformed(1, "object", "1 1 0 0 1 0A", "value is '0A', which is no bytes in lowercase hexadecimal")),
-        (format!("{ROWS}1 1 0 0 1 00\n"), 0, malformed(1, "object", "1 1 0 0 1 00", "value is '00', which is not the 9 bytes of a value")),
+        (format!("{ROWS}01 0 1 0 0 -\n"), 0, malformed(1, "object", "01 0 1 0 0 -", "expected a decimal number as line, found '01'")),
+        (format!("{ROWS}1 +1 0 0 0 -\n"), 0, malformed(1, "object", "1 +1 0 0 0 -", "expected a decimal number as outcome, found '+1'")),
+        (format!("{ROWS}1 4 0 0 0 -\n"), 0, malformed(1, "object", "1 4 0 0 0 -", "expected outcome 0 to 3, found 4")),
+        (format!("{ROWS}1 0 13 0 0 -\n"), 0, malformed(1, "object", "1 0 13 0 0 -", "expected the number of a refusal, found 13")),
+        (format!("{ROWS}1 2 32 0 0 -\n"), 0, malformed(1, "object", "1 2 32 0 0 -", "expected the number of a message, found 32")),
+        (format!("{ROWS}1 0 7 0 1 -\n"), 0, malformed(1, "object", "1 0 7 0 1 -", "expected no answers and no calls with a refusal, found 0 and 1")),
+        (format!("{ROWS}1 0 7 65 1 -\n"), 0, malformed(1, "object", "1 0 7 65 1 -", "expected at most 64 answers, found 65")),
+        (format!("{ROWS}1 2 1 0 2049 -\n"), 0, malformed(1, "object", "1 2 1 0 2049 -", "expected at most 2048 calls, found 2049")),
+        (format!("{ROWS}1 2 1 0 1 00\n"), 0, malformed(1, "object", "1 2 1 0 1 00", "expected value '-' with a refusal or a TypeError, found '00'")),
+        (format!("{ROWS}1 1 0 0 1 -\n"), 0, malformed(1, "object", "1 1 0 0 1 -", "expected bytes in lowercase hexadecimal as value, found '-'")),
+        (format!("{ROWS}1 1 0 0 1 0A\n"), 0, malformed(1, "object", "1 1 0 0 1 0A", "expected bytes in lowercase hexadecimal as value, found '0A'")),
+        (format!("{ROWS}1 1 0 0 1 00\n"), 0, malformed(1, "object", "1 1 0 0 1 00", "expected the 9 bytes of a value, found '00'")),
         (
             format!("{ROWS}1 1 5 0 0 070000000000000000\n"),
             0,
-            malformed(1, "object", "1 1 5 0 0 070000000000000000", "number is 5, but with a result or a thrown value it is 0"),
+            malformed(1, "object", "1 1 5 0 0 070000000000000000", "expected number 0 with a result or a thrown value, found 5"),
         ),
         (
             format!("{ROWS}{made}2 1 0 0 1 070000000000000000\n"),
             1,
-            malformed(2, "ownKeys o0", "2 1 0 0 1 070000000000000000", "value is '070000000000000000', which is not 9 bytes for each key"),
+            malformed(2, "ownKeys o0", "2 1 0 0 1 070000000000000000", "expected 9 bytes for each key, found '070000000000000000'"),
         ),
         (
             format!("{ROWS}{made}2 1 0 0 1 -\n3 1 0 0 1 0f\n"),
             2,
-            malformed(3, "getOwnPropertyDescriptor o0 y1", "3 1 0 0 1 0f", "value is '0f', which is not the 29 bytes of a complete descriptor"),
+            malformed(3, "getOwnPropertyDescriptor o0 y1", "3 1 0 0 1 0f", "expected the 29 bytes of a complete descriptor, found '0f'"),
         ),
     ] {
         let ran = file.rows(&rows);
@@ -205,27 +209,118 @@ fn rows_that_do_not_belong_to_the_calls_are_errors() {
 }
 
 #[test]
-fn help_is_printed() {
+fn help_has_each_option_and_an_example_that_runs() {
     let ran = steps(&["--help"], "");
-    assert!(ran.status.success());
+    assert!(ran.status.success() && ran.stderr.is_empty());
     let help = text_of(ran.stdout);
-    for part in ["steps FILE", "--cells FILE", "--rows FILE"] {
-        assert!(help.contains(part));
+    assert!(help.starts_with("usage: steps [--cells | --rows] [--] FILE\n"));
+    for option in ["--cells", "--rows", "--help, -h", "--"] {
+        assert!(help.lines().any(|l| l.starts_with(&format!("  {option} "))), "{option}");
     }
-    for wrong in [&[][..], &["--rows"], &["--rows", "-"], &["--cells"], &["--read", "x"], &["--rows", "x", "y"]] {
-        let ran = steps(wrong, "");
-        assert_eq!((ran.status.code(), text_of(ran.stderr)), (Some(2), help.clone()), "{wrong:?}");
+    assert!(help.lines().all(|l| l.chars().count() <= 110), "{help}");
+    for more in [&["-h"][..], &["--cells", "--help"], &["--help", "--read"]] {
+        let ran = steps(more, "");
+        assert_eq!((ran.status.code(), text_of(ran.stdout)), (Some(0), help.clone()), "{more:?}");
+    }
+    // the indented lines after 'Example' are the file, then its last report
+    let (_, example) = help.split_once("\nExample: ").unwrap();
+    let mut indented: Vec<&str> = example.lines().filter_map(|l| l.strip_prefix("  ")).collect();
+    let report = indented.pop().unwrap();
+    let ran = steps(&["-"], &indented.join("\n"));
+    assert!(ran.status.success());
+    assert_eq!(text_of(ran.stdout).lines().last().unwrap().trim_start(), report);
+    assert!(report.starts_with("TypeError 17: "));
+}
+
+#[test]
+fn wrong_arguments_are_named() {
+    for (arguments, message) in [
+        (&[][..], "expected a FILE, found none"),
+        (&["--cells"], "expected a FILE, found none"),
+        (&["--rows"], "expected a FILE, found none"),
+        (&["--"], "expected a FILE, found none"),
+        (&["--read", "x"], "unknown option '--read'"),
+        (&["x", "--read"], "unknown option '--read'"),
+        (&["-x"], "unknown option '-x'"),
+        (&["--cells=x"], "unknown option '--cells=x'"),
+        (&["--Help"], "unknown option '--Help'"),
+        (&["--cells", "--rows", "x"], "expected one of --cells and --rows, found '--rows' as a second"),
+        (&["--rows", "--rows", "x"], "expected one of --cells and --rows, found '--rows' as a second"),
+        (&["--rows", "-"], "expected a FILE with --rows, which reads the rows from the standard input, found '-'"),
+        (&["--rows", "x", "y"], "expected one FILE, found 'y' as a second"),
+        (&["x", "--", "--cells"], "expected one FILE, found '--cells' as a second"),
+    ] {
+        let ran = steps(arguments, "");
+        let told = (ran.status.code(), text_of(ran.stderr), text_of(ran.stdout));
+        assert_eq!(told, (Some(2), format!("steps: {message}; see 'steps --help'\n"), String::new()), "{arguments:?}");
+    }
+}
+
+#[test]
+fn options_may_follow_the_file() {
+    let cells = steps(&["--cells", "-"], "object");
+    for arguments in [["-", "--cells"].as_slice(), &["--cells", "--", "-"]] {
+        assert_eq!(steps(arguments, "object").stdout, cells.stdout, "{arguments:?}");
+    }
+    // a file whose name begins with a dash
+    let ran = steps(&["--", "--cells"], "");
+    assert_eq!(ran.status.code(), Some(1));
+    assert!(text_of(ran.stderr).starts_with("--cells: No such file"));
+}
+
+#[cfg(unix)]
+#[test]
+fn arguments_need_not_be_unicode() {
+    use std::os::unix::ffi::OsStrExt;
+    for (argument, code, message) in [(&b"\xff"[..], 1, "\u{fffd}: No such file"), (b"--\xff", 2, "steps: unknown option '--\u{fffd}'")] {
+        let ran = Command::new(env!("CARGO_BIN_EXE_steps")).arg(std::ffi::OsStr::from_bytes(argument)).output().unwrap();
+        assert_eq!(ran.status.code(), Some(code));
+        assert!(text_of(ran.stderr).starts_with(message));
     }
 }
 
 #[test]
 fn an_error_names_line_and_column() {
-    let ran = steps(&["-"], "object\nget o0 visits\n");
+    for (input, message) in [
+        ("object\nget o0 visits\n", "line 2, column 8: expected a key (a text, s0 to s255 or y0 to y255), found 'visits'"),
+        (
+            "object\nset o0 y0 1e999",
+            "line 2, column 11: expected a number from -1.7976931348623157e308 to 1.7976931348623157e308, Infinity or -Infinity, found '1e999'",
+        ),
+    ] {
+        for mode in [&["-"][..], &["--cells", "-"]] {
+            let ran = steps(mode, input);
+            assert_eq!(ran.status.code(), Some(1));
+            assert_eq!(text_of(ran.stderr), format!("-: {message}\n"));
+            assert!(ran.stdout.is_empty());
+        }
+    }
+    let ran = steps(&["no such file"], "");
     assert_eq!(ran.status.code(), Some(1));
-    assert_eq!(text_of(ran.stderr), "-: line 2, column 8: a key: a text, or as s0 or y0, is wanted, not 'visits'\n");
-    assert!(ran.stdout.is_empty());
-    assert_eq!(steps(&[], "").status.code(), Some(2));
-    assert_eq!(steps(&["no such file"], "").status.code(), Some(1));
+    assert!(text_of(ran.stderr).starts_with("no such file: No such file"));
+}
+
+#[test]
+fn a_file_that_is_no_text_is_an_error() {
+    let path = std::env::temp_dir().join(format!("demnyaluz-{}-bytes.steps", std::process::id()));
+    std::fs::write(&path, b"object\nhas o0 \"\xc3\xa9\xff\"\n").unwrap();
+    let ran = steps(&[path.to_str().unwrap()], "");
+    std::fs::remove_file(&path).unwrap();
+    assert_eq!(ran.status.code(), Some(1));
+    assert_eq!(text_of(ran.stderr), format!("{}: line 2, column 10: expected UTF-8, found the byte ff\n", path.display()));
+}
+
+/// A reader that has seen enough is no error.
+#[test]
+fn the_output_may_be_closed() {
+    for mode in [&["--help"][..], &["-"], &["--cells", "-"]] {
+        let mut child =
+            Command::new(env!("CARGO_BIN_EXE_steps")).args(mode).stdin(Stdio::piped()).stdout(Stdio::piped()).stderr(Stdio::piped()).spawn().unwrap();
+        drop(child.stdout.take());
+        let _ = child.stdin.take().unwrap().write_all("isExtensible o0\n".repeat(1000).as_bytes());
+        let ran = child.wait_with_output().unwrap();
+        assert_eq!((ran.status.code(), text_of(ran.stderr)), (Some(0), String::new()), "{mode:?}");
+    }
 }
 
 #[test]

@@ -4,7 +4,7 @@ mod plain;
 
 use demnyaluz::notation::{cells, parse, Call, HEADING as NAMES};
 use demnyaluz::rows::{self, Row};
-use demnyaluz::{lent, run_text, Completion, Failure, Report, Store, TextReader, TEXT_LINE_BYTES, TEXT_ROW_BYTES, TEXT_STATE_WORDS};
+use demnyaluz::{lent, run_text, Completion, Failure, Store, TextReader, TEXT_LINE_BYTES, TEXT_ROW_BYTES, TEXT_STATE_WORDS};
 use harness::generator::Generator;
 use harness::random::Random;
 use harness::text::{in_pieces, Damage, Reader};
@@ -372,9 +372,8 @@ fn a_record_of_code_15_is_refused_as_1() {
     for i in 0..200 {
         let mut step: Vec<u8> = (0..58).map(|_| if i % 2 == 0 { 0 } else { random.next() as u8 }).collect();
         step[0] = 15;
-        let mut report = [9; 10];
-        lent::step(&mut words, &strings, &step, &[0], &mut [0; 2304], &mut report);
-        assert_eq!(report, [0, 1, 0, 0, 0, 0, 0, 0, 0, 0]);
+        let report = lent::step(&mut words, &strings, &step, &[0], &mut [0; 2304]);
+        assert_eq!(report.as_slice(), [0, 1, 0, 0, 0, 0, 0, 0, 0, 0]);
     }
 }
 
@@ -724,14 +723,16 @@ fn rows_say_what_a_store_reports() {
     let mut store = Store::new();
     assert_eq!(told.lines().count(), calls.len() + 1);
     for (i, (line, text)) in calls.iter().zip(told.lines().skip(1)).enumerate() {
-        let report = match &line.call {
-            Call::Step(step, answers) => store.step(step, answers),
+        let row = Row::parse(text, &line.call).unwrap();
+        assert_eq!(row.line, i as u64 + 1, "{text}");
+        match &line.call {
+            Call::Step { step, answers } => assert_eq!(row.report, store.step(step, answers), "{text}"),
             Call::Enter(units) => {
                 let outcome = store.enter_units(units).map(|s| Completion::Value(s.into())).map_err(Failure::from);
-                Report { outcome, answers: 0, calls: 0 }
+                assert_eq!((row.report.outcome, row.report.answers, row.report.calls), (outcome, 0, 0), "{text}");
             }
-        };
-        assert_eq!(Row::parse(text, &line.call), Ok(Row { line: i as u64 + 1, report }), "{text}");
+            call => panic!("{call}"),
+        }
     }
 }
 

@@ -1,73 +1,149 @@
-//! Runs a file of readable steps over one store, prints them as lines of text, or shows the rows of those lines beside them.
-//!
-//! `steps FILE` (or `steps -` for the standard input) prints, for each call, its line, its bytes and its report. `steps --cells FILE` runs nothing
-//! and prints a line of seven cells for each call, under a heading. `steps --rows FILE` reads the rows of those lines from the standard input and
-//! prints each beside its call. The lines are described in `demnyaluz::notation`.
+//! Runs a file of readable steps over one store, prints them as lines of text, or shows the rows of those lines beside them. `steps --help` says
+//! how; the lines are described in `demnyaluz::notation`.
+#![forbid(unsafe_code)]
+
 use demnyaluz::notation::{cells, hex, parse, Call, Line, Strings, HEADING};
-use demnyaluz::{readable, rows, sheet_bytes, Failure, Store, Value};
+use demnyaluz::{readable, rows, sheet_bytes, Failure, Store};
+use std::error::Error;
+use std::ffi::OsString;
 use std::io::{self, BufWriter, Read, Write};
+use std::path::Path;
 use std::process::ExitCode;
 
 const USAGE: &str = "\
-usage: steps FILE           runs the steps over one store: for each its bytes and its report
-       steps --cells FILE   prints them as lines of hexadecimal cells and runs nothing
-       steps --rows FILE    reads the rows of those lines from the standard input and prints each beside its call
-       steps --help         prints this
-FILE has a step in each line, as 'get o1 \"visits\" answers: 4464'; it may be -, the standard input, but not for --rows.";
+usage: steps [--cells | --rows] [--] FILE
 
+Runs the readable steps of FILE over one store and prints, for each, its line, its bytes and its report.
+FILE may be -, the standard input, but not with --rows.
+
+  --cells      prints each step as a line of hexadecimal cells, under their names, and runs nothing
+  --rows       reads the rows of such lines from the standard input and prints each beside its step
+  --help, -h   prints this
+  --           ends the options, for a FILE whose name begins with a dash
+
+The exit status is 1 where FILE or the rows cannot be read, and 2 where the arguments are wrong.
+
+Example: a count that is fixed at 70,000, and a handler that counts in sixteen bits. With the lines
+
+  object
+  defineProperty o0 \"visits\" {value: 70000, writable: false, enumerable: true, configurable: false}
+  proxy o0 traps get
+  get o1 \"visits\" answers: 4464
+
+as FILE, the last report is
+
+  TypeError 17: Proxy trap returned unexpected data descriptor (1 answer, 2 calls)
+";
+
+#[derive(Clone, Copy, PartialEq, Eq)]
 enum Mode {
     Run,
     Cells,
     Rows,
 }
 
+/// What the arguments ask for.
+enum Request {
+    Help,
+    Work { mode: Mode, file: OsString },
+}
+
+/// The request, or what is wrong with the arguments.
+fn request(arguments: impl Iterator<Item = OsString>) -> Result<Request, String> {
+    let (mut mode, mut file) = (Mode::Run, None);
+    let mut options = true;
+    for argument in arguments {
+        let option = argument.to_string_lossy();
+        if options && option.starts_with('-') && option != "-" {
+            match &*option {
+                "--help" | "-h" => return Ok(Request::Help),
+                "--cells" | "--rows" if mode != Mode::Run => return Err(format!("expected one of --cells and --rows, found '{option}' as a second")),
+                "--cells" => mode = Mode::Cells,
+                "--rows" => mode = Mode::Rows,
+                "--" => options = false,
+                _ => return Err(format!("unknown option '{option}'")),
+            }
+        } else if file.is_some() {
+            return Err(format!("expected one FILE, found '{option}' as a second"));
+        } else {
+            file = Some(argument);
+        }
+    }
+    match file {
+        None => Err("expected a FILE, found none".to_string()),
+        Some(file) if mode == Mode::Rows && file == "-" => {
+            Err("expected a FILE with --rows, which reads the rows from the standard input, found '-'".to_string())
+        }
+        Some(file) => Ok(Request::Work { mode, file }),
+    }
+}
+
 fn main() -> ExitCode {
-    let arguments: Vec<String> = std::env::args().skip(1).collect();
-    let arguments: Vec<&str> = arguments.iter().map(String::as_str).collect();
-    let (mode, file) = match arguments[..] {
-        ["--help" | "-h"] => {
-            println!("{USAGE}");
+    let (mode, file) = match request(std::env::args_os().skip(1)) {
+        Ok(Request::Help) => {
+            // nobody may read it all
+            let _ = io::stdout().write_all(USAGE.as_bytes());
             return ExitCode::SUCCESS;
         }
-        ["--cells", file] => (Mode::Cells, file),
-        ["--rows", file] if file != "-" => (Mode::Rows, file),
-        [file] if !file.starts_with("--") => (Mode::Run, file),
-        _ => {
-            eprintln!("{USAGE}");
+        Ok(Request::Work { mode, file }) => (mode, file),
+        Err(message) => {
+            eprintln!("steps: {message}; see 'steps --help'");
             return ExitCode::from(2);
         }
     };
-    let mut text = String::new();
-    let read =
-        if file == "-" { io::stdin().read_to_string(&mut text) } else { std::fs::File::open(file).and_then(|mut f| f.read_to_string(&mut text)) };
-    if let Err(e) = read {
-        eprintln!("{file}: {e}");
-        return ExitCode::FAILURE;
-    }
-    let calls = match parse(&text) {
-        Ok(calls) => calls,
-        Err(e) => {
-            eprintln!("{file}: {e}");
-            return ExitCode::FAILURE;
-        }
-    };
-    let mut output = BufWriter::new(io::stdout().lock());
-    let done = match mode {
-        Mode::Run => run(&calls, &text, &mut output).map_err(rows::Error::Io),
-        Mode::Cells => print_cells(&calls, &mut output).map_err(rows::Error::Io),
-        Mode::Rows => rows::show(&calls, io::stdin().lock(), &mut output),
-    };
-    // what was shown before an error is printed before it
-    match done.and(output.flush().map_err(rows::Error::Io)) {
+    match work(mode, Path::new(&file)) {
         Ok(()) => ExitCode::SUCCESS,
-        // nobody reads on
-        Err(rows::Error::Io(e)) if e.kind() == io::ErrorKind::BrokenPipe => ExitCode::SUCCESS,
         Err(e) => {
-            let _ = output.flush();
-            eprintln!("{file}: {e}");
+            eprintln!("{}: {}", file.to_string_lossy(), with_sources(&*e));
             ExitCode::FAILURE
         }
     }
+}
+
+/// An error and those that it comes from.
+fn with_sources(error: &dyn Error) -> String {
+    let mut told = error.to_string();
+    let mut source = error.source();
+    while let Some(e) = source {
+        told += &format!(": {e}");
+        source = e.source();
+    }
+    told
+}
+
+fn work(mode: Mode, file: &Path) -> Result<(), Box<dyn Error>> {
+    let text = read(file)?;
+    let calls = parse(&text)?;
+    let mut output = BufWriter::new(io::stdout().lock());
+    let done = match mode {
+        Mode::Run => run(&calls, &text, &mut output).map_err(rows::Error::Write),
+        Mode::Cells => print_cells(&calls, &mut output).map_err(rows::Error::Write),
+        Mode::Rows => rows::show(&calls, io::stdin().lock(), &mut output),
+    };
+    // what was shown before an error is printed before it
+    let flushed = output.flush().map_err(rows::Error::Write);
+    match done.and(flushed) {
+        // nobody reads on
+        Err(rows::Error::Write(e)) if e.kind() == io::ErrorKind::BrokenPipe => Ok(()),
+        done => Ok(done?),
+    }
+}
+
+/// The text of a file.
+fn read(file: &Path) -> Result<String, Box<dyn Error>> {
+    let mut bytes = Vec::new();
+    if file == Path::new("-") {
+        io::stdin().read_to_end(&mut bytes)?;
+    } else {
+        std::fs::File::open(file)?.read_to_end(&mut bytes)?;
+    }
+    String::from_utf8(bytes).map_err(|e| {
+        let (before, after) = e.as_bytes().split_at(e.utf8_error().valid_up_to());
+        let before = String::from_utf8_lossy(before);
+        let line = 1 + before.matches('\n').count();
+        let column = 1 + before.rsplit('\n').next().unwrap_or_default().chars().count();
+        format!("line {line}, column {column}: expected UTF-8, found the byte {}", hex(&after[..1])).into()
+    })
 }
 
 fn print_cells(calls: &[Line], output: &mut impl Write) -> io::Result<()> {
@@ -86,13 +162,10 @@ fn run(calls: &[Line], text: &str, output: &mut impl Write) -> io::Result<()> {
         match call {
             Call::Enter(units) => {
                 strings.enter(units);
-                let told = match store.enter_units(units) {
-                    Ok(s) => Value::String(s).to_string(),
-                    Err(r) => Failure::Refused(r).to_string(),
-                };
-                writeln!(output, "{number}: string {}\n   {told}", readable::text(units))?;
+                let told = store.enter_units(units).map_or_else(|r| Failure::Refused(r).to_string(), |s| s.to_string());
+                writeln!(output, "{number}: {}\n   {told}", readable::call(call, &strings))?;
             }
-            Call::Step(step, answers) => {
+            Call::Step { step, answers } => {
                 writeln!(output, "{number}: {}", lines[number - 1].trim_end())?;
                 for answers in lines[*number..].iter().take_while(|l| l.starts_with([' ', '\t'])) {
                     writeln!(output, "{}", answers.trim_end())?;
@@ -101,6 +174,7 @@ fn run(calls: &[Line], text: &str, output: &mut impl Write) -> io::Result<()> {
                 writeln!(output, "   sheet {}", hex(&sheet_bytes(answers)))?;
                 writeln!(output, "   {}", readable::report(&store.step(step, answers), &strings))?;
             }
+            call => unreachable!("a line is an entry or a step: {call}"),
         }
     }
     Ok(())

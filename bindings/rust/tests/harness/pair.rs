@@ -1,5 +1,5 @@
 //! One store in the library's memory and one plain world, that must agree after every call.
-use super::layout;
+use super::{entries, layout};
 use crate::plain::step::{self, Outcome, Report, Stepped};
 use crate::plain::world::World;
 use demnyaluz::lent;
@@ -70,10 +70,7 @@ impl Pair {
 
     /// One step through the C interface alone.
     pub fn step_library(&mut self, bytes: &[u8], sheet: &[u8], output: &mut [u8]) -> [u64; 10] {
-        let (bytes, sheet) = (exact(bytes), exact(sheet));
-        let mut report = Box::new([u64::MAX; 10]);
-        lent::step(&mut self.words, &self.strings, &bytes, &sheet, output, &mut report);
-        *report
+        entries::step(&mut self.words, &self.strings, &exact(bytes), &exact(sheet), output)
     }
 
     /// One step on both, with room bytes of output.
@@ -103,10 +100,8 @@ impl Pair {
 
     pub fn enter_string(&mut self, units: &[u16]) -> Report {
         let expected = step::enter_string(&mut self.world, units);
-        let units = exact(units);
-        let mut report = Box::new([u64::MAX; 10]);
-        lent::enter_string(&mut self.strings, &units, &mut report);
-        assert_eq!(*report, layout::report_words(&expected), "entering {units:?}");
+        let report = entries::enter_string(&mut self.strings, &exact(units));
+        assert_eq!(report, layout::report_words(&expected), "entering {units:?}");
         assert_eq!(layout::world(&self.words, &self.strings).strings, self.world.strings, "strings after {units:?}");
         self.tally.count(&expected);
         expected
@@ -114,30 +109,24 @@ impl Pair {
 
     pub fn complete(&mut self, bytes: &[u8]) -> Report {
         let expected = step::complete(&self.world, bytes);
-        let bytes = exact(bytes);
-        let mut report = Box::new([u64::MAX; 10]);
-        lent::complete(&self.words, &self.strings, &bytes, &mut report);
-        assert_eq!(*report, layout::report_words(&expected), "completing {}", hex(&bytes));
+        let report = entries::complete(&self.words, &self.strings, &exact(bytes));
+        assert_eq!(report, layout::report_words(&expected), "completing {}", hex(bytes));
         self.tally.count(&expected);
         expected
     }
 
     pub fn validate(&mut self, extensible: bool, bytes: &[u8], current: &[u8]) -> (bool, Report) {
         let (yes, expected) = step::validate_alone(&self.world, extensible, bytes, current);
-        let (bytes, current) = (exact(bytes), exact(current));
-        let mut report = Box::new([u64::MAX; 10]);
-        let accepted = lent::validate(&self.words, &self.strings, extensible, &bytes, &current, &mut report);
-        assert_eq!((accepted, *report), (yes, layout::report_words(&expected)), "validating {extensible} {} over {}", hex(&bytes), hex(&current));
+        let told = entries::validate(&self.words, &self.strings, extensible, &exact(bytes), &exact(current));
+        assert_eq!(told, (yes, layout::report_words(&expected)), "validating {extensible} {} over {}", hex(bytes), hex(current));
         self.tally.count(&expected);
         (yes, expected)
     }
 
     pub fn merge(&mut self, current: &[u8], bytes: &[u8]) -> Report {
         let expected = step::merge(&self.world, current, bytes);
-        let (bytes, current) = (exact(bytes), exact(current));
-        let mut report = Box::new([u64::MAX; 10]);
-        lent::merge(&self.words, &self.strings, &current, &bytes, &mut report);
-        assert_eq!(*report, layout::report_words(&expected), "merging {} into {}", hex(&bytes), hex(&current));
+        let report = entries::merge(&self.words, &self.strings, &exact(current), &exact(bytes));
+        assert_eq!(report, layout::report_words(&expected), "merging {} into {}", hex(bytes), hex(current));
         self.tally.count(&expected);
         expected
     }

@@ -1,4 +1,5 @@
 //! Texts of steps, mostly well formed, and a reader that is lent exactly what it asks for.
+use super::entries;
 use super::generator::Generator;
 use super::random::Random;
 use crate::plain::text::{order, run_line, MAXIMUM_CHARACTERS, NAMES};
@@ -43,18 +44,14 @@ impl Reader {
     /// One call of the feeding function: what it answers, and the bytes taken and written.
     pub fn feed_once(&mut self, piece: &[u8]) -> (bool, [u64; 2]) {
         let piece: Box<[u8]> = piece.into();
-        let mut result = Box::new([u64::MAX; 2]);
         let Reader { words, strings, state, line, rows, .. } = self;
-        let fed = lent::text_feed(words, strings, state, line, &piece, rows, &mut result);
-        (fed, *result)
+        entries::text_feed(words, strings, state, line, &piece, rows)
     }
 
     /// One call of the ending function, likewise.
     pub fn end_once(&mut self) -> (bool, [u64; 2]) {
-        let mut result = Box::new([u64::MAX; 2]);
         let Reader { words, strings, state, line, rows, .. } = self;
-        let ended = lent::text_end(words, strings, state, line, rows, &mut result);
-        (ended, *result)
+        entries::text_end(words, strings, state, line, rows)
     }
 
     fn wrote(&mut self, size: u64) {
