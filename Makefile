@@ -31,7 +31,7 @@ edits:
 # The store beside a Vec of structs in Rust, then steps beside the engines that are installed, in ns, with docs/benchmarks.svg: docs/BENCHMARKS.md.
 # It needs rustc and node.
 bench:
-	rt staticlib store_export
+	rt staticlib benchmark_store
 	rustc --edition 2021 -O -C target-cpu=x86-64 -L target/staticlib -o target/bench bench/bench.rs
 	target/bench
 	rt staticlib demnyaluz
