@@ -246,7 +246,7 @@ fn sheet_tests(r: &[u8]) -> bool
     }
 }
 
-// 8: merging
+// 8: merging, and 9: where it is refused, since one is data and one an accessor
 fn merge(r: &[u8]) -> bool
     requires { ⌜ length (now r) ≡ 192 ⌝ }
 {
@@ -276,6 +276,7 @@ fn passes(r: &[u8; 192]) -> bool {
         6 => step_tests(r),
         7 => sheet_tests(r),
         8 => merge(r),
+        9 => merge(r),
         _ => false,
     }
 }
@@ -333,4 +334,5 @@ fn main() {
     script_line(b"tests of steps: ", passed[6], failed[6]);
     script_line(b"tests of sheets: ", passed[7], failed[7]);
     engine_line(b"merging: ", passed[8], failed[8]);
+    script_line(b"merging refused: ", passed[9], failed[9]);
 }
