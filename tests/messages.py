@@ -3,9 +3,9 @@
 
     tests/messages.py BOA
 
-BOA is the folder that holds boa_engine's src/. Messages 1 to 26 are try_data's text and the distinct TypeError texts from
-proxy_exotic_get_prototype_of through proxy_exotic_own_property_keys, by first appearance. 27 and 28 are to_property_descriptor's;
-where the source at hand lacks that function, they are compared with the texts that document 01 quotes. (29 to 31 are our own.)
+BOA is the folder that holds boa_engine's src/. Message 1 is try_data's text; 2 to 26 are the TypeError texts of the methods from
+proxy_exotic_get_prototype_of to proxy_exotic_own_property_keys, each once, as they come. 27 and 28 are to_property_descriptor's;
+where the source at hand lacks that function, they are compared with the texts of docs/REFERENCE.md. (29 to 31 are our own.)
 The table is read from the Rattle source, crates/message/src/lib.rt.
 """
 import pathlib
@@ -46,7 +46,7 @@ def descriptor_texts(path):
             found = [text for text in texts_in(source[begin:]) if text.startswith("Property descriptor")]
             if found:
                 return found[:2], "boa's source"
-    return QUOTED, "document 01"
+    return QUOTED, "docs/REFERENCE.md"
 
 
 def main():

@@ -100,7 +100,7 @@ function sheetOf(bytes) {
   return answers;
 }
 
-// Refusals 1 to 4, from document 01's list alone ---------------------------------------
+// Refusals 1 to 4, as docs/REFERENCE.md has them ---------------------------------------
 
 const isZero = (bytes) => bytes.every((b) => b === 0);
 

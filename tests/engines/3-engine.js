@@ -24,7 +24,7 @@ if (engine === 'node') Error.stackTraceLimit = 0;
 const isOverflow = (e) => /^(Maximum call stack size exceeded|too much recursion)/.test(e.message);
 
 // By how a text begins and what else it holds: the numbers of the messages that the check may have. 29 to 31 are our own numbers;
-// document 01 asks for no more than the TypeError there, but the texts tell these checks apart too.
+// no more than the TypeError was asked for there, but the texts tell these checks apart too.
 const TEXTS = {
   node: [
     ["Cannot perform '", 'on a proxy that has been revoked', [1]],

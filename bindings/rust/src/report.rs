@@ -8,27 +8,27 @@ use std::fmt;
 #[derive(Clone, Copy, PartialEq, Eq, Hash, Debug)]
 #[repr(u8)]
 pub enum Refusal {
-    /// 1: a record has a wrong length, code, kind, mask, count or boolean, or a nonzero unused or absent part.
+    /// 1: the bytes are no step, sheet or descriptor, or the memory is no store or table.
     MalformedRecord = 1,
-    /// 2: an object number was never made.
+    /// 2: the number of an object that is not there.
     ObjectNeverMade = 2,
     /// 3: a string was not entered or is too long, or a part has a kind that its step cannot use.
     UnusablePart = 3,
-    /// 4: a descriptor mixes data and accessor fields, or its get or set is neither undefined nor a function.
+    /// 4: a descriptor mixes data and accessor fields, or has a get or set that cannot be called and is not undefined.
     UnusableDescriptor = 4,
-    /// 5: the current descriptor is generic or lacks a field that its kind needs.
+    /// 5: the current descriptor has not all fields of a data or of an accessor property.
     IncompleteCurrent = 5,
-    /// 6: two descriptors to be merged are one data and one accessor.
+    /// 6: of the descriptors to be merged one is data and the other an accessor.
     DifferentKinds = 6,
     /// 7: there is no room for another object, property or string.
     StoreFull = 7,
-    /// 8: the sheet has no next answer.
+    /// 8: an answer is asked for, and none is left.
     SheetSpent = 8,
-    /// 9: the next answer cannot be read where it stands.
+    /// 9: the answer has a form that who asks cannot read.
     UnreadableAnswer = 9,
     /// 10: the step would make more than 2,048 calls.
     TooManyCalls = 10,
-    /// 11: the output cannot hold 9 bytes for each key.
+    /// 11: the keys do not fit the output, at 9 bytes each.
     OutputTooSmall = 11,
     /// 12: a line of text breaks its form or has more than 16,384 characters.
     BrokenLine = 12,

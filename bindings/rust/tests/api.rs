@@ -8,7 +8,7 @@ fn hex(bytes: &[u8]) -> String {
     demnyaluz::notation::hex(bytes)
 }
 
-/// Document 01's bytes, written out by hand.
+/// The bytes of docs/REFERENCE.md, written out by hand.
 #[test]
 fn values_are_nine_bytes() {
     for (value, bytes) in [

@@ -1,4 +1,4 @@
-//! Each limit of document 01 just met and just passed, on the library and on the plain implementation.
+//! Each limit of docs/REFERENCE.md just met and just passed, on the library and on the plain implementation.
 mod harness;
 mod plain;
 

@@ -181,7 +181,7 @@ fn errors_have_line_and_column() {
     assert_eq!(parse(&many).unwrap_err().to_string(), "line 257, column 8: a 257th string");
 }
 
-/// The first line is the customer's own example.
+/// The first line is the example of request 01.
 #[test]
 fn cells_are_hexadecimal() {
     assert_eq!(HEADING, "step object key value receiver descriptor sheet");

@@ -57,7 +57,7 @@ fn row_of(line: &str) -> String {
 }
 
 #[test]
-fn the_customers_example() {
+fn the_example_of_request_01() {
     let input = b"step object key value receiver descriptor sheet\n01 00 - 010000000000000000 - - -";
     let expected = "line outcome number answers calls value\n1 1 0 0 0 070000000000000000\n";
     assert_eq!(output(input), expected);

@@ -1,4 +1,4 @@
--- Document 01's proved rows hold of the definitions. Assumes nothing.
+-- The proved rows of docs/REFERENCE.md hold of the definitions. Assumes nothing.
 use mathlib.Core.Path.{_≡_, refl}
 use Rattle.demands.specs.Rows.{rows, givens, outcomes}
 

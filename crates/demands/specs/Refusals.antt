@@ -21,7 +21,7 @@ use Rattle.steps.specs.Response.{Ending, refused, result, typeError, thrown, Re
 use Rattle.steps.specs.Step.{contextOf, recordTests, outputHolds, refusing, ran, runWith, callsMade, step}
 use Rattle.steps.specs.StringEntry.{enterString}
 
--- document 01's refusals, by their numbers: each condition says why
+-- the refusals of docs/REFERENCE.md, by their numbers: each condition says why
 pub data Refusal (ω : World) (bytes sheet output : List ℕ) : ℕ → Type 0 where
   -- 1 to 4 over the step, then 1 to 3 over the sheet: the first test that fails
   inadmissible : {n : ℕ} → firstFailing (recordTests ω bytes sheet) ≡ some n → Refusal ω bytes sheet output n
@@ -37,10 +37,10 @@ pub data Refusal (ω : World) (bytes sheet output : List ℕ) : ℕ → Type 0 w
   unreadable : {rest : List Answer} {calls : ℕ} (used : List Answer) (a : Answer) (r : Reading) → firstFailing (recordTests ω bytes sheet) ≡ none → sheetOf sheet ≡ used ++ (a ∷ rest)
       → isUnreadable r a ≡ true → ran ω bytes sheet ≡ failed (Refused 9) (state rest calls)
       → ((v : Value) → runWith ω bytes maximumProperties (used ++ (throw v ∷ rest)) maximumCalls ≡ failed (Thrown v) (state rest calls)) → Refusal ω bytes sheet output 9
-  -- 10: a 2,049th call would begin: no call is left, and with any larger budget the same step makes more than 2,048
+  -- 10: no call is left, and with any larger budget the same step makes more than 2,048
   exhausted : firstFailing (recordTests ω bytes sheet) ≡ none → callsMade maximumCalls (ran ω bytes sheet) ≡ maximumCalls
       → ((more : ℕ) → 0 < more → maximumCalls < callsMade (maximumCalls + more) (runWith ω bytes maximumProperties (sheetOf sheet) (maximumCalls + more))) → Refusal ω bytes sheet output 10
-  -- 11: the output cannot hold 9 bytes for each key
+  -- 11: the keys take 9 bytes each, and the output has fewer
   short : {a : Result × Store} {s : State} → firstFailing (recordTests ω bytes sheet) ≡ none → ran ω bytes sheet ≡ done a s → outputHolds (a .0) output ≡ false → Refusal ω bytes sheet output 11
 
 -- a result, a TypeError by one of the 31 messages, or a throw

@@ -1,4 +1,4 @@
--- Document 01's "Proved rows": one table, each row with what the definitions compute and what the document says. Assumes nothing.
+-- The proved rows of docs/REFERENCE.md: one table, each row with what the definitions compute and what it must be. Assumes nothing.
 use Prim.Native.Nat.{ℕ, zero, suc}
 use mathlib.Core.Bool.{Bool, true, false}
 use mathlib.Core.Option.{Option, none, some}

@@ -16,7 +16,7 @@ use Rattle.descriptor_entries.specs.declared.operations.Verdict.the-vari
 use Rattle.descriptor_entries.specs.Records.{descriptorOf, oneRefusal, twoRefusal}
 use Rattle.descriptor_entries.specs.Operations.{completeRecord, validateRecords, mergeRecords}
 
--- 5: it is generic, or lacks a field that its kind needs
+-- 5: it has neither all fields of a data property nor all of an accessor
 abbrev pub lacksIn : DescriptorKind → Bool
 lacksIn Generic = true
 lacksIn (Data v w) = not (has v) || not (hasFlag w)

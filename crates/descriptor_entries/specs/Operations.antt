@@ -29,7 +29,7 @@ completeRecord n bytes = completed (descriptorOf bytes) (oneRefusal n bytes)
 abbrev pub judged : OwnProperty → Validation → Verdict
 judged current v = verdict.Verdict (isAccepted v) (settled current v)
 
--- refusal 5: the current descriptor is generic or lacks a field that its kind needs
+-- refusal 5: the current descriptor has not all fields of a data or of an accessor property
 abbrev pub validatedOver : Bool → PropertyDescriptor → Option Property → Verdict
 validatedOver extensible d none = verdict.Refused 5
 validatedOver extensible d (some p) = judged (Present p) (validate extensible d (Present p))

@@ -1,4 +1,4 @@
--- ECMA-262 10.5 Proxy Object Internal Methods and Internal Slots, with document 01's message numbers.
+-- ECMA-262 10.5 Proxy Object Internal Methods and Internal Slots, with the message numbers of docs/REFERENCE.md.
 -- Steps 1 to 5, the same in each, are `dispatch`, the proxy's fields and its trap mask. Assumes nothing.
 use Prim.Native.Nat.{ℕ, _/_, _%_, _^_}
 use mathlib.Core.Bool.{Bool, true, false, not, _&&_, _||_, Bool·beq, cond}

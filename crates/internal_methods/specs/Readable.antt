@@ -82,7 +82,7 @@ isObjectOrFunction (value.Symbol s) = false
 isObjectOrFunction (value.Object o) = true
 isObjectOrFunction (value.Function f) = true
 
--- 'an object or function in place of a descriptor or key list, a descriptor or list anywhere else, a function as a prototype'
+-- descriptors and lists are for who asks for them; who does cannot read an object or a function; a prototype is no function
 abbrev pub isUnreadable : Reading → Answer → Bool
 isUnreadable anyValue (answer.value v) = false
 isUnreadable anyValue (answer.descriptor d) = true

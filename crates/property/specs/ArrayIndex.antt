@@ -6,7 +6,7 @@ use mathlib.Core.List.{List, [], _∷_}
 use lib.Dec.{eqb, leb, ltb}
 use lib.ListN.{length}
 
--- a code unit from 48 to 57 is a digit
+-- the digits are the code units 48 to 57
 abbrev pub isDigit : ℕ → Bool
 isDigit c = leb 48 c && leb c 57
 
@@ -23,7 +23,7 @@ abbrev pub zeroIndex : List ℕ → Option ℕ
 zeroIndex [] = some 0
 zeroIndex (c ∷ cs) = none
 
--- "0", or 1 to 10 digits without leading zero, at most 4294967294
+-- "0" alone, or up to ten digits, the first not 0, of a number up to 4294967294
 unfoldable pub arrayIndex : List ℕ → Option ℕ
 arrayIndex [] = none
 arrayIndex (c ∷ cs) = cond (eqb c 48) (zeroIndex cs) (cond (ltb (length cs) 10) (withinIndex (decimal 0 (c ∷ cs))) none)

@@ -1,4 +1,4 @@
--- Numbers and values in bytes, little-endian: document 01, "A step arrives". Assumes nothing.
+-- Numbers and values in bytes, little-endian: docs/REFERENCE.md, Values. Assumes nothing.
 use Prim.Native.Nat.{ℕ, zero, suc, _+_, _*_, _/_, _%_}
 use mathlib.Core.Bool.{Bool, true, _&&_, cond}
 use mathlib.Core.List.{List, [], _∷_}
@@ -25,7 +25,7 @@ unfoldable pub areZero : List ℕ → ℕ → ℕ → Bool
 areZero bytes i zero = true
 areZero bytes i (suc n) = eqb (byteAt bytes i) 0 && areZero bytes (suc i) n
 
--- a value is 9 bytes: a kind, then an 8-byte payload
+-- one byte for the kind, eight for the payload
 abbrev pub valueSize : ℕ
 valueSize = 9
 

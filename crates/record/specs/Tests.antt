@@ -20,7 +20,7 @@ use Rattle.record.specs.declared.Refusal.the-variants.{Passed, Failed}
 abbrev pub Counts : Type 0
 Counts = counts.Counts
 
--- 2: an object number was never made
+-- refusal 2 unless the object that a value names is there
 unfoldable pub isMade : Counts → Value → Bool
 isMade n Undefined = true
 isMade n Null = true
@@ -32,7 +32,7 @@ isMade n (Symbol s) = true
 isMade n (Object o) = ltb o (n .objects)
 isMade n (Function f) = true
 
--- 3: a string was not entered, or a symbol or function number exceeds 255
+-- refusal 3 unless a string is in the table, and a symbol or a function one of the 256
 unfoldable pub isKnown : Counts → Value → Bool
 isKnown n Undefined = true
 isKnown n Null = true
@@ -57,7 +57,7 @@ fieldPasses test (Present v) = test v
 abbrev pub descriptorPasses : (Value → Bool) → DescriptorObject → Bool
 descriptorPasses test d = fieldPasses test (d .value) && (fieldPasses test (d .get) && fieldPasses test (d .set))
 
--- 4: it mixes value or writable with get or set, or its get or set is neither undefined nor a function
+-- refusal 4 unless the fields of data and accessor are apart, and get and set can be called or are undefined
 unfoldable pub isDescriptor : DescriptorObject → Bool
 isDescriptor d = not (isMixed d) && (not (isUncallable (d .get)) && not (isUncallable (d .set)))
 

@@ -49,7 +49,7 @@ outcomeOf (thrown v) = outcome.Thrown v
 abbrev pub reportOf : Response → Report
 reportOf r = record { outcome = outcomeOf (r .ending); answers = r .answers; calls = r .calls }
 
--- document 01's numbers: 0 refused, 1 result, 2 TypeError, 3 thrown
+-- the outcome's number in docs/REFERENCE.md
 abbrev pub outcomeNumber : Outcome → ℕ
 outcomeNumber (outcome.Refused n) = 0
 outcomeNumber (outcome.Result c) = 1

@@ -32,7 +32,7 @@ fn decimal_index(units: &[u16]) -> ArrayIndex
     }
 }
 
-// "0", or 1 to 10 digits without leading zero, at most 4294967294
+// "0" alone, or up to ten digits, the first not 0, of a number up to 4294967294
 pub fn array_index(units: &[u16]) -> ArrayIndex
     ensures { λ r. ⌜ r ≡ indexAnswer (arrayIndex (now (units .entry))) ⌝ }
 {

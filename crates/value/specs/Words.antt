@@ -1,4 +1,4 @@
--- A value as its kind and its payload, both numbers: document 01's value record. Assumes nothing.
+-- A value as its kind and its payload, both numbers: the value record of docs/REFERENCE.md. Assumes nothing.
 use Prim.Native.Nat.{ℕ, _^_}
 use mathlib.Core.Bool.{Bool, true, false, not, cond}
 use lib.Dec.{eqb, ltb}

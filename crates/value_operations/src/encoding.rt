@@ -1,4 +1,4 @@
-// A value as its words, a kind and a payload, and back: document 01's value record.
+// A value as its words, a kind and a payload, and back: the value record of docs/REFERENCE.md.
 ghost use mathlib.Core.Path.{_≡_};
 ghost use mathlib.Core.Bool.{true};
 ghost use Prim.Native.Nat.{_<_, _^_};

@@ -1,6 +1,6 @@
 //! Descriptors, ordinary objects and proxies of ECMA-262 (2024) over a store of 32 objects, written plainly with Vec, Option and Result.
 //!
-//! The library is held against this. It was written from document 01 and the standard's numbered steps and shares no code with the
+//! The library is held against this. It follows docs/REFERENCE.md and the standard's numbered steps and shares no code with the
 //! library or with the crate's own encoding.
 #![allow(dead_code)]
 
