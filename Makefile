@@ -31,7 +31,7 @@ edits:
 # The store beside a Vec of structs in Rust, then steps beside the engines that are installed, in ns, with docs/benchmarks.svg: docs/BENCHMARKS.md.
 # It needs rustc and node.
 bench:
-	rt staticlib store_export
+	rt staticlib benchmark_store
 	rustc --edition 2021 -O -C target-cpu=x86-64 -L target/staticlib -o target/bench bench/bench.rs
 	target/bench
 	rt staticlib demnyaluz
@@ -89,11 +89,17 @@ lib:
 	mkdir -p target/lib
 	cp target/staticlib/libdemnyaluz.a target/lib/libdemnyaluz.a
 
-# The library through its header, by two C programs. It needs gcc.
+# The library through its header, by four C programs, one of them as C++ too and one under valgrind too. It needs gcc, g++ and valgrind, which is not
+# asked for undefined values: it takes the sign of a word for undefined where other bits of the word are padding. The library has no other names.
 c-test: lib
-	for program in sealed text; do \
-		gcc -Wall -Wextra -Werror -std=c11 -O1 -Iinclude -o target/lib/$$program tests/c/$$program.c target/lib/libdemnyaluz.a && target/lib/$$program || exit 1; \
+	for program in sealed text records null; do \
+		gcc -Wall -Wextra -Wpedantic -Werror -std=c11 -O1 -fsanitize=undefined -fno-sanitize-recover=undefined -Iinclude \
+			-o target/lib/$$program tests/c/$$program.c target/lib/libdemnyaluz.a && target/lib/$$program || exit 1; \
 	done
+	g++ -Wall -Wextra -Werror -std=c++17 -O1 -Iinclude -o target/lib/records-c++ -x c++ tests/c/records.c -x none target/lib/libdemnyaluz.a
+	target/lib/records-c++
+	valgrind --quiet --undef-value-errors=no --error-exitcode=1 target/lib/null
+	! nm -g --defined-only target/lib/libdemnyaluz.a | grep ' [A-Z] ' | grep -v ' T demnyaluz_'
 
 # The Rust crate's tests, against a plain implementation, and its documentation; then its formatting and clippy, where they are installed. It needs
 # cargo, and no network.

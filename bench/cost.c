@@ -14,33 +14,18 @@ struct memory {
 
 static struct memory memory;
 
-struct part {
-    uint8_t bytes[DEMNYALUZ_DESCRIPTOR_BYTES];
-};
-
-static struct part value(uint8_t kind, uint64_t payload) {
-    struct part part = {{kind}};
-    for (int i = 0; i < 8; i++) part.bytes[1 + i] = (uint8_t)(payload >> (8 * i));
-    return part;
-}
-
 /* A data descriptor with all its fields. */
-static struct part descriptor(uint8_t booleans, uint64_t integer) {
-    struct part part = {{15, booleans}};
-    memcpy(part.bytes + 2, value(DEMNYALUZ_KIND_INTEGER32, integer).bytes, DEMNYALUZ_VALUE_BYTES);
-    return part;
+static struct demnyaluz_descriptor descriptor(uint8_t booleans, int32_t integer) {
+    return (struct demnyaluz_descriptor){.mask = 15, .booleans = booleans, .value = demnyaluz_from_integer32(integer)};
 }
 
 struct step {
     uint8_t bytes[DEMNYALUZ_STEP_BYTES];
 };
 
-static struct step step(uint8_t code, uint8_t object, struct part key, struct part v, struct part receiver, struct part d) {
-    struct step s = {{code, object}};
-    memcpy(s.bytes + 2, key.bytes, DEMNYALUZ_VALUE_BYTES);
-    memcpy(s.bytes + 11, v.bytes, DEMNYALUZ_VALUE_BYTES);
-    memcpy(s.bytes + 20, receiver.bytes, DEMNYALUZ_VALUE_BYTES);
-    memcpy(s.bytes + 29, d.bytes, DEMNYALUZ_DESCRIPTOR_BYTES);
+static struct step step(struct demnyaluz_step_parts parts) {
+    struct step s;
+    demnyaluz_write_step(s.bytes, &parts);
     return s;
 }
 
@@ -49,13 +34,17 @@ struct sheet {
     size_t size;
 };
 
-/* Zeros are no part, and a sheet of no answers. */
-static const struct part none;
 static const struct sheet empty = {{0}, 1};
 
-static struct sheet answer(uint8_t tag, struct part part, size_t size) {
-    struct sheet s = {{1, tag}, 2 + size};
-    memcpy(s.bytes + 2, part.bytes, size);
+static struct sheet value_answer(struct demnyaluz_value value) {
+    struct sheet s = {{1, DEMNYALUZ_ANSWER_VALUE}, 2 + DEMNYALUZ_VALUE_BYTES};
+    demnyaluz_write_value(s.bytes + 2, value);
+    return s;
+}
+
+static struct sheet descriptor_answer(struct demnyaluz_descriptor d) {
+    struct sheet s = {{1, DEMNYALUZ_ANSWER_DESCRIPTOR}, 2 + DEMNYALUZ_DESCRIPTOR_BYTES};
+    demnyaluz_write_descriptor(s.bytes + 2, &d);
     return s;
 }
 
@@ -81,25 +70,27 @@ static void enter(const char *name, int number) {
     demnyaluz_enter_string(memory.strings, DEMNYALUZ_STRING_CELLS, units, (size_t)size, memory.report);
 }
 
-static struct part string(uint64_t n) {
-    return value(DEMNYALUZ_KIND_STRING, n);
+static struct demnyaluz_value string(uint64_t n) {
+    return demnyaluz_make_value(DEMNYALUZ_KIND_STRING, n);
 }
 
 static void make(void) {
-    must(step(DEMNYALUZ_CODE_MAKE_OBJECT, 0, none, value(DEMNYALUZ_KIND_NULL, 0), none, none), empty);
+    must(step((struct demnyaluz_step_parts){.code = DEMNYALUZ_CODE_MAKE_OBJECT, .value = {DEMNYALUZ_KIND_NULL, 0}}), empty);
 }
 
 static void proxy(uint8_t target, uint64_t traps) {
-    must(step(DEMNYALUZ_CODE_MAKE_PROXY, target, none, value(DEMNYALUZ_KIND_INTEGER32, traps), none, none), empty);
+    must(step((struct demnyaluz_step_parts){.code = DEMNYALUZ_CODE_MAKE_PROXY, .object = target, .value = {DEMNYALUZ_KIND_INTEGER32, traps}}), empty);
 }
 
 /* A property of object 0. */
-static struct step define(uint64_t key, uint8_t booleans, uint64_t integer) {
-    return step(DEMNYALUZ_CODE_DEFINE_OWN_PROPERTY, 0, string(key), none, none, descriptor(booleans, integer));
+static struct step define(uint64_t key, uint8_t booleans, int32_t integer) {
+    return step((struct demnyaluz_step_parts){
+        .code = DEMNYALUZ_CODE_DEFINE_OWN_PROPERTY, .key = string(key), .descriptor = descriptor(booleans, integer)});
 }
 
 static struct step get(uint8_t object, uint64_t key) {
-    return step(DEMNYALUZ_CODE_GET, object, string(key), none, value(DEMNYALUZ_KIND_OBJECT, object), none);
+    return step((struct demnyaluz_step_parts){
+        .code = DEMNYALUZ_CODE_GET, .object = object, .key = string(key), .receiver = {DEMNYALUZ_KIND_OBJECT, object}});
 }
 
 enum { FROZEN = DEMNYALUZ_FIELD_ENUMERABLE, OPEN = 7 };
@@ -111,7 +102,7 @@ static int prepare(const char *work, struct step steps[2], struct sheet sheets[2
     for (int i = 0; i < DEMNYALUZ_MAXIMUM_STRINGS; i++) enter("key", i);
     make();
     if (strcmp(work, "get") == 0 || strcmp(work, "get-hop") == 0) {
-        for (uint64_t i = 0; i < 17; i++) must(define(i, OPEN, i), empty);
+        for (int i = 0; i < 17; i++) must(define((uint64_t)i, OPEN, i), empty);
         uint8_t hops = strcmp(work, "get-hop") == 0;
         if (hops) proxy(0, 0);
         steps[0] = get(hops, 16);
@@ -125,36 +116,36 @@ static int prepare(const char *work, struct step steps[2], struct sheet sheets[2
             for (; last < 9; last++) proxy(last, 0);
         }
         steps[0] = get(last, 0);
-        sheets[0] = answer(DEMNYALUZ_ANSWER_VALUE, value(DEMNYALUZ_KIND_INTEGER32, 70000), DEMNYALUZ_VALUE_BYTES);
+        sheets[0] = value_answer(demnyaluz_from_integer32(70000));
         return 1;
     }
     if (strcmp(work, "descriptor-trap") == 0) {
         must(define(0, FROZEN, 70000), empty);
         proxy(0, DEMNYALUZ_TRAP(DEMNYALUZ_CODE_GET_OWN_PROPERTY));
-        steps[0] = step(DEMNYALUZ_CODE_GET_OWN_PROPERTY, 1, string(0), none, none, none);
-        sheets[0] = answer(DEMNYALUZ_ANSWER_DESCRIPTOR, descriptor(FROZEN, 70000), DEMNYALUZ_DESCRIPTOR_BYTES);
+        steps[0] = step((struct demnyaluz_step_parts){.code = DEMNYALUZ_CODE_GET_OWN_PROPERTY, .object = 1, .key = string(0)});
+        sheets[0] = descriptor_answer(descriptor(FROZEN, 70000));
         return 1;
     }
     if (strcmp(work, "extensible-trap") == 0) {
         proxy(0, DEMNYALUZ_TRAP(DEMNYALUZ_CODE_IS_EXTENSIBLE));
-        steps[0] = step(DEMNYALUZ_CODE_IS_EXTENSIBLE, 1, none, none, none, none);
-        sheets[0] = answer(DEMNYALUZ_ANSWER_VALUE, value(DEMNYALUZ_KIND_BOOLEAN, 1), DEMNYALUZ_VALUE_BYTES);
+        steps[0] = step((struct demnyaluz_step_parts){.code = DEMNYALUZ_CODE_IS_EXTENSIBLE, .object = 1});
+        sheets[0] = value_answer(demnyaluz_make_value(DEMNYALUZ_KIND_BOOLEAN, 1));
         return 1;
     }
     if (strcmp(work, "define-delete") == 0) {
         must(define(0, OPEN, 7), empty);
         steps[0] = define(1, OPEN, 1);
-        steps[1] = step(DEMNYALUZ_CODE_DELETE, 0, string(1), none, none, none);
+        steps[1] = step((struct demnyaluz_step_parts){.code = DEMNYALUZ_CODE_DELETE, .key = string(1)});
         return 2;
     }
     if (strcmp(work, "keys-trap") == 0) {
-        for (uint64_t i = 0; i < 144; i++) must(define(i, OPEN, i), empty);
+        for (int i = 0; i < 144; i++) must(define((uint64_t)i, OPEN, i), empty);
         proxy(0, DEMNYALUZ_TRAP(DEMNYALUZ_CODE_OWN_PROPERTY_KEYS));
-        steps[0] = step(DEMNYALUZ_CODE_OWN_PROPERTY_KEYS, 1, none, none, none, none);
+        steps[0] = step((struct demnyaluz_step_parts){.code = DEMNYALUZ_CODE_OWN_PROPERTY_KEYS, .object = 1});
         struct sheet *keys = &sheets[0];
         *keys = (struct sheet){{1, DEMNYALUZ_ANSWER_KEYS, 0, 1}, 4}; /* 256 keys */
         uint8_t *at = keys->bytes + 4;
-        for (uint64_t i = 0; i < DEMNYALUZ_MAXIMUM_KEYS; i++, at += DEMNYALUZ_VALUE_BYTES) memcpy(at, string(i).bytes, DEMNYALUZ_VALUE_BYTES);
+        for (uint64_t i = 0; i < DEMNYALUZ_MAXIMUM_KEYS; i++, at += DEMNYALUZ_VALUE_BYTES) demnyaluz_write_value(at, string(i));
         keys->size = (size_t)(at - keys->bytes);
         return 1;
     }

@@ -1,12 +1,13 @@
-// The library libstore_export.a: what crates/store_export/src/lib.rt exports, and the words that it is lent.
+// The library libbenchmark_store.a, which the benchmark alone links: what crates/benchmark_store/src/lib.rt exports, and the
+// words that it is lent.
 use crate::vec::{Key, Kind, Property, Value};
 
-#[link(name = "store_export", kind = "static")]
+#[link(name = "benchmark_store", kind = "static")]
 extern "C" {
-    fn store_find(words: *const u64, size: usize, o: u64, key: u64) -> u64;
-    fn store_own_keys(words: *const u64, size: usize, strings: *const u16, cells: usize, o: u64, out: *mut u64, room: usize) -> u64;
-    fn store_append(words: *mut u64, size: usize, o: u64, key: u64, row: *const [u64; 5]) -> u64;
-    fn store_remove(words: *mut u64, size: usize, o: u64, key: u64) -> u64;
+    fn benchmark_store_find(words: *const u64, size: usize, o: u64, key: u64) -> u64;
+    fn benchmark_store_own_keys(words: *const u64, size: usize, strings: *const u16, cells: usize, o: u64, out: *mut u64, room: usize) -> u64;
+    fn benchmark_store_append(words: *mut u64, size: usize, o: u64, key: u64, row: *const [u64; 5]) -> u64;
+    fn benchmark_store_remove(words: *mut u64, size: usize, o: u64, key: u64) -> u64;
 }
 
 pub const NOWHERE: u64 = 256;
@@ -26,20 +27,20 @@ impl Store {
     }
 
     pub fn find(&self, o: u64, key: Key) -> u64 {
-        unsafe { store_find(self.words.as_ptr(), self.words.len(), o, key.word()) }
+        unsafe { benchmark_store_find(self.words.as_ptr(), self.words.len(), o, key.word()) }
     }
 
     pub fn own_keys(&self, cells: &[u16], o: u64, out: &mut [u64]) -> u64 {
         let (words, size) = (self.words.as_ptr(), self.words.len());
-        unsafe { store_own_keys(words, size, cells.as_ptr(), cells.len(), o, out.as_mut_ptr(), out.len()) }
+        unsafe { benchmark_store_own_keys(words, size, cells.as_ptr(), cells.len(), o, out.as_mut_ptr(), out.len()) }
     }
 
     pub fn append(&mut self, o: u64, key: Key, row: &[u64; 5]) -> u64 {
-        unsafe { store_append(self.words.as_mut_ptr(), self.words.len(), o, key.word(), row) }
+        unsafe { benchmark_store_append(self.words.as_mut_ptr(), self.words.len(), o, key.word(), row) }
     }
 
     pub fn remove(&mut self, o: u64, key: Key) -> u64 {
-        unsafe { store_remove(self.words.as_mut_ptr(), self.words.len(), o, key.word()) }
+        unsafe { benchmark_store_remove(self.words.as_mut_ptr(), self.words.len(), o, key.word()) }
     }
 
     pub fn count(&self) -> usize {

@@ -10,13 +10,14 @@
  *   output    where the keys of an [[OwnPropertyKeys]] result go, 9 bytes each; DEMNYALUZ_OUTPUT_BYTES hold every list
  *   report    ten words
  * Memory that is all zeros is an empty store and an empty table; demnyaluz_empty_store and demnyaluz_empty_strings make memory of any content so.
- * Each pointer is good for its length, also where that is 0 (it is then not null, but is never read). What a call writes overlaps
- * nothing else that it is lent. A step of 2,048 nested calls runs in a stack of 1 MB.
+ * Each pointer is good for its length. Where a length is 0 its pointer is neither read nor written through, and may be null; a report and a
+ * result have no length and are never null. What a call writes overlaps nothing else that it is lent. A step of 2,048 nested calls
+ * runs in a stack of 1 MB.
  *
  * A store or table of another length, or whose counts exceed what it can hold, is refused as 1, and so is a record of a wrong length. A
  * refusal changes nothing. Only a result changes the store.
  *
- * Records are bytes, integers little-endian.
+ * Records are bytes, integers little-endian. Inline functions below write them from structs.
  *   value       9: a kind, then a payload of 8 with unused bytes zero
  *   descriptor 29: a presence mask, a byte of booleans at the mask's first three bits, then value, get and set; absent parts are zero
  *   step       58: code and object (1 each), key (9), value (9), receiver (9), descriptor (29); parts that a code does not use are zero
@@ -36,6 +37,7 @@
 #include <stdbool.h>
 #include <stddef.h>
 #include <stdint.h>
+#include <string.h>
 
 #ifdef __cplusplus
 extern "C" {
@@ -63,6 +65,25 @@ enum {
     DEMNYALUZ_MAXIMUM_CALLS = 2048
 };
 
+/* Where the parts of a step begin. */
+enum demnyaluz_step_offset {
+    DEMNYALUZ_STEP_CODE = 0,
+    DEMNYALUZ_STEP_OBJECT = 1,
+    DEMNYALUZ_STEP_KEY = 2,
+    DEMNYALUZ_STEP_VALUE = 11,
+    DEMNYALUZ_STEP_RECEIVER = 20,
+    DEMNYALUZ_STEP_DESCRIPTOR = 29
+};
+
+/* Where the parts of a descriptor begin. */
+enum demnyaluz_descriptor_offset {
+    DEMNYALUZ_DESCRIPTOR_MASK = 0,
+    DEMNYALUZ_DESCRIPTOR_BOOLEANS = 1,
+    DEMNYALUZ_DESCRIPTOR_VALUE = 2,
+    DEMNYALUZ_DESCRIPTOR_GET = 11,
+    DEMNYALUZ_DESCRIPTOR_SET = 20
+};
+
 /* Kinds of values, and what the payload is. */
 enum demnyaluz_kind {
     DEMNYALUZ_KIND_UNDEFINED = 0,
@@ -76,7 +97,11 @@ enum demnyaluz_kind {
     DEMNYALUZ_KIND_FUNCTION = 8   /* 0 to 255 */
 };
 
-/* Fields of a descriptor: the presence mask; the first three are also the places of the booleans. */
+/*
+ * Fields of a descriptor: the presence mask; the first three are also the places of the booleans.
+ * WARNING: a property in a report has other bits, DEMNYALUZ_FLAG_*, so that 2 is configurable here and writable there.
+ * demnyaluz_property_descriptor goes from one to the other.
+ */
 enum demnyaluz_field {
     DEMNYALUZ_FIELD_ENUMERABLE = 1,
     DEMNYALUZ_FIELD_CONFIGURABLE = 2,
@@ -116,7 +141,7 @@ enum demnyaluz_answer {
 };
 
 /* The words of a report. What is not used is 0. */
-enum demnyaluz_report {
+enum demnyaluz_report_word {
     DEMNYALUZ_REPORT_OUTCOME = 0,
     DEMNYALUZ_REPORT_NUMBER = 1,  /* of the refusal or of the message */
     DEMNYALUZ_REPORT_ANSWERS = 2, /* used */
@@ -145,7 +170,7 @@ enum demnyaluz_form {
     DEMNYALUZ_FORM_KEYS = 4
 };
 
-/* The flags of a property. */
+/* The flags of a property. WARNING: these are not the bits of a descriptor, DEMNYALUZ_FIELD_*. */
 enum demnyaluz_flag {
     DEMNYALUZ_FLAG_ACCESSOR = 1,
     DEMNYALUZ_FLAG_WRITABLE = 2,
@@ -201,6 +226,151 @@ enum demnyaluz_message_number {
     DEMNYALUZ_MESSAGE_NOT_KEY = 30,
     DEMNYALUZ_MESSAGE_KEYS_NOT_OBJECT = 31
 };
+
+/*
+ * Records as structs. One of zeros has no parts. What is written is what the struct holds, in absent and unused parts too, and nothing is tested
+ * before the library tests the bytes.
+ */
+struct demnyaluz_value {
+    uint8_t kind; /* DEMNYALUZ_KIND_* */
+    uint64_t payload;
+};
+
+struct demnyaluz_descriptor {
+    uint8_t mask;     /* DEMNYALUZ_FIELD_*: the fields that are present */
+    uint8_t booleans; /* DEMNYALUZ_FIELD_ENUMERABLE, _CONFIGURABLE and _WRITABLE: those of them that are true */
+    struct demnyaluz_value value, get, set;
+};
+
+struct demnyaluz_step_parts {
+    uint8_t code; /* DEMNYALUZ_CODE_* */
+    uint8_t object;
+    struct demnyaluz_value key, value, receiver;
+    struct demnyaluz_descriptor descriptor;
+};
+
+/* A property: get and set are undefined where it is data, value is undefined and writable false where it is an accessor. */
+struct demnyaluz_property {
+    bool accessor, writable, enumerable, configurable;
+    struct demnyaluz_value value, get, set;
+};
+
+/* A report. What its form does not have is zero. */
+struct demnyaluz_report {
+    uint64_t outcome; /* DEMNYALUZ_OUTCOME_* */
+    uint64_t number;  /* DEMNYALUZ_REFUSAL_* where it is refused, DEMNYALUZ_MESSAGE_* where it is a TypeError */
+    uint64_t answers, calls;
+    uint64_t form;                      /* DEMNYALUZ_FORM_* */
+    struct demnyaluz_value value;       /* DEMNYALUZ_FORM_VALUE */
+    struct demnyaluz_property property; /* DEMNYALUZ_FORM_PROPERTY */
+    uint64_t keys;                      /* DEMNYALUZ_FORM_KEYS: how many are in the output */
+};
+
+static inline struct demnyaluz_value demnyaluz_make_value(uint8_t kind, uint64_t payload)
+{
+    struct demnyaluz_value value;
+    value.kind = kind;
+    value.payload = payload;
+    return value;
+}
+
+static inline struct demnyaluz_value demnyaluz_from_integer32(int32_t integer)
+{
+    return demnyaluz_make_value(DEMNYALUZ_KIND_INTEGER32, (uint32_t)integer);
+}
+
+static inline struct demnyaluz_value demnyaluz_from_float64(double number)
+{
+    uint64_t bits;
+    memcpy(&bits, &number, sizeof bits);
+    return demnyaluz_make_value(DEMNYALUZ_KIND_FLOAT64, bits);
+}
+
+/* The Number of a value of kind Integer32 or Float64. */
+static inline double demnyaluz_to_number(struct demnyaluz_value value)
+{
+    double number;
+    if (value.kind == DEMNYALUZ_KIND_INTEGER32)
+        return value.payload < 0x80000000u ? (double)value.payload : (double)value.payload - 4294967296.0;
+    memcpy(&number, &value.payload, sizeof number);
+    return number;
+}
+
+static inline void demnyaluz_write_value(uint8_t bytes[DEMNYALUZ_VALUE_BYTES], struct demnyaluz_value value)
+{
+    bytes[0] = value.kind;
+    for (int i = 0; i < 8; i++)
+        bytes[1 + i] = (uint8_t)(value.payload >> (8 * i));
+}
+
+/* A value of a record: key i of an output begins at output + DEMNYALUZ_VALUE_BYTES * i. */
+static inline struct demnyaluz_value demnyaluz_read_value(const uint8_t bytes[DEMNYALUZ_VALUE_BYTES])
+{
+    uint64_t payload = 0;
+    for (int i = 0; i < 8; i++)
+        payload |= (uint64_t)bytes[1 + i] << (8 * i);
+    return demnyaluz_make_value(bytes[0], payload);
+}
+
+static inline void demnyaluz_write_descriptor(uint8_t bytes[DEMNYALUZ_DESCRIPTOR_BYTES], const struct demnyaluz_descriptor *descriptor)
+{
+    bytes[DEMNYALUZ_DESCRIPTOR_MASK] = descriptor->mask;
+    bytes[DEMNYALUZ_DESCRIPTOR_BOOLEANS] = descriptor->booleans;
+    demnyaluz_write_value(bytes + DEMNYALUZ_DESCRIPTOR_VALUE, descriptor->value);
+    demnyaluz_write_value(bytes + DEMNYALUZ_DESCRIPTOR_GET, descriptor->get);
+    demnyaluz_write_value(bytes + DEMNYALUZ_DESCRIPTOR_SET, descriptor->set);
+}
+
+static inline void demnyaluz_write_step(uint8_t bytes[DEMNYALUZ_STEP_BYTES], const struct demnyaluz_step_parts *parts)
+{
+    bytes[DEMNYALUZ_STEP_CODE] = parts->code;
+    bytes[DEMNYALUZ_STEP_OBJECT] = parts->object;
+    demnyaluz_write_value(bytes + DEMNYALUZ_STEP_KEY, parts->key);
+    demnyaluz_write_value(bytes + DEMNYALUZ_STEP_VALUE, parts->value);
+    demnyaluz_write_value(bytes + DEMNYALUZ_STEP_RECEIVER, parts->receiver);
+    demnyaluz_write_descriptor(bytes + DEMNYALUZ_STEP_DESCRIPTOR, &parts->descriptor);
+}
+
+static inline struct demnyaluz_report demnyaluz_read_report(const uint64_t words[DEMNYALUZ_REPORT_WORDS])
+{
+    const struct demnyaluz_value none = demnyaluz_make_value(DEMNYALUZ_KIND_UNDEFINED, 0);
+    const struct demnyaluz_value first = demnyaluz_make_value((uint8_t)words[DEMNYALUZ_REPORT_KIND], words[DEMNYALUZ_REPORT_PAYLOAD]);
+    const struct demnyaluz_value second =
+        demnyaluz_make_value((uint8_t)words[DEMNYALUZ_REPORT_SETTER_KIND], words[DEMNYALUZ_REPORT_SETTER_PAYLOAD]);
+    const bool is_property = words[DEMNYALUZ_REPORT_FORM] == DEMNYALUZ_FORM_PROPERTY;
+    const uint64_t flags = is_property ? words[DEMNYALUZ_REPORT_DETAIL] : 0;
+    struct demnyaluz_report report;
+    report.outcome = words[DEMNYALUZ_REPORT_OUTCOME];
+    report.number = words[DEMNYALUZ_REPORT_NUMBER];
+    report.answers = words[DEMNYALUZ_REPORT_ANSWERS];
+    report.calls = words[DEMNYALUZ_REPORT_CALLS];
+    report.form = words[DEMNYALUZ_REPORT_FORM];
+    report.value = report.form == DEMNYALUZ_FORM_VALUE ? first : none;
+    report.property.accessor = (flags & DEMNYALUZ_FLAG_ACCESSOR) != 0;
+    report.property.writable = (flags & DEMNYALUZ_FLAG_WRITABLE) != 0;
+    report.property.enumerable = (flags & DEMNYALUZ_FLAG_ENUMERABLE) != 0;
+    report.property.configurable = (flags & DEMNYALUZ_FLAG_CONFIGURABLE) != 0;
+    report.property.value = is_property && !report.property.accessor ? first : none;
+    report.property.get = report.property.accessor ? first : none;
+    report.property.set = report.property.accessor ? second : none;
+    report.keys = report.form == DEMNYALUZ_FORM_KEYS ? words[DEMNYALUZ_REPORT_DETAIL] : 0;
+    return report;
+}
+
+/* The descriptor of a property: flags become fields. */
+static inline struct demnyaluz_descriptor demnyaluz_property_descriptor(struct demnyaluz_property property)
+{
+    struct demnyaluz_descriptor descriptor;
+    descriptor.mask = property.accessor
+                          ? DEMNYALUZ_FIELD_ENUMERABLE | DEMNYALUZ_FIELD_CONFIGURABLE | DEMNYALUZ_FIELD_GET | DEMNYALUZ_FIELD_SET
+                          : DEMNYALUZ_FIELD_ENUMERABLE | DEMNYALUZ_FIELD_CONFIGURABLE | DEMNYALUZ_FIELD_WRITABLE | DEMNYALUZ_FIELD_VALUE;
+    descriptor.booleans = (uint8_t)((property.enumerable ? DEMNYALUZ_FIELD_ENUMERABLE : 0) | (property.configurable ? DEMNYALUZ_FIELD_CONFIGURABLE : 0)
+                                    | (property.writable ? DEMNYALUZ_FIELD_WRITABLE : 0));
+    descriptor.value = property.value;
+    descriptor.get = property.get;
+    descriptor.set = property.set;
+    return descriptor;
+}
 
 /*
  * One step. Traps, getters and setters take the sheet's answers in their order; a sheet without answers is one zero byte. The keys of a

@@ -2,11 +2,11 @@
 //
 //     node tests/vectors.mjs > crates/vectors/stdin
 //
-// Each record is 192 bytes: an operation, its inputs, and what JavaScript answers. The engine answers SameValue (Object.is), ToBoolean
+// Each record is 192 bytes: an operation, its inputs, and the expected answer. The engine answers SameValue (Object.is), ToBoolean
 // (Boolean), array indices (does an Array's length follow the key?), and descriptors completed, validated and merged
-// (Reflect.defineProperty on an object made for it, then Object.getOwnPropertyDescriptor). The tests of steps and sheets, operations 6
-// and 7, are document 01's refusals 1 to 4, written here a second time, since no engine has them. The generator is
-// seeded: a second run gives the same bytes.
+// (Reflect.defineProperty on an object made for it, then Object.getOwnPropertyDescriptor). This script answers what no engine has:
+// the tests of steps and sheets, operations 6 and 7, are refusals 1 to 4, written here a second time, and operation 9 is refusal 6, of
+// merging. The generator is seeded: a second run gives the same bytes.
 
 const size = 192;
 const records = [];
@@ -331,7 +331,7 @@ for (let i = 0; i < 1500; i++) {
   emit(at([7, counts.objects, counts.strings, sheet.length, ...sheet], 180), sheetRefusal(sheet, counts));
 }
 
-// 8: merging: 0 merged, 6 one data and one accessor (5 is the current one's, in the tests of the entry)
+// 8: merging, answered 0 and the property; 9: refused as 6, one data and one accessor (5 is the current one's, in the tests of the entry)
 for (let i = 0; i < 300; i++) {
   const accessor = random(2);
   const current = descriptor(accessor ? 51 : 15);
@@ -341,7 +341,7 @@ for (let i = 0; i < 300; i++) {
   const object = {};
   Reflect.defineProperty(object, "k", descriptorJs(current));
   Reflect.defineProperty(object, "k", descriptorJs(d));
-  emit(8, descriptorBytes(current), descriptorBytes(d), other ? 6 : 0, other ? Array(29).fill(0) : propertyBytes(object).slice(1));
+  emit(other ? 9 : 8, descriptorBytes(current), descriptorBytes(d), other ? 6 : 0, other ? Array(29).fill(0) : propertyBytes(object).slice(1));
 }
 
 process.stdout.write(Buffer.concat(records));

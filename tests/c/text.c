@@ -178,6 +178,17 @@ static void put(const char *words_of_line)
     text_length += strlen(words_of_line);
 }
 
+static void put_value(struct demnyaluz_value value)
+{
+    uint8_t bytes[DEMNYALUZ_VALUE_BYTES];
+    demnyaluz_write_value(bytes, value);
+    for (size_t i = 0; i < sizeof bytes; i++) {
+        char digits[3];
+        snprintf(digits, sizeof digits, "%02x", bytes[i]);
+        put(digits);
+    }
+}
+
 /* A line of a length: a making with a sheet of zero bytes, which is no sheet and refused as 1 where the line is read. */
 static void put_long(const char *begin, size_t length)
 {
@@ -322,11 +333,8 @@ int main(void)
     feed((const uint8_t *)names, strlen(names));
     text_length = 0;
     put("0e 01 - - - - 01030001");
-    for (int i = 0; i < 256; i++) {
-        char key[19];
-        snprintf(key, sizeof key, "06%02x%014d", i, 0);
-        put(key);
-    }
+    for (uint64_t i = 0; i < 256; i++)
+        put_value(demnyaluz_make_value(DEMNYALUZ_KIND_SYMBOL, i));
     put("\n");
     size_t so_far = all_length;
     check(feed(text, text_length) == text_length && all_length - so_far == 10 + 256 * 18 + 1, "256 keys");

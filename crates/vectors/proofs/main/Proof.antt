@@ -4,10 +4,10 @@ use Rattle.vectors.proofs.main.Statement.{statement}
 use Rattle.vectors.proofs.main.Tie as tie
 
 abbrev Inv-loop : tie.InvT-loop
-Inv-loop passed₀ failed₀ turns₀ t4 t5 t6 t7 t8 t9 t10 t11 passed failed turns = turns ≤ 1000000
+Inv-loop passed₀ failed₀ turns₀ t4 t5 t6 t7 t8 t9 t10 t11 t12 passed failed turns = turns ≤ 1000000
 
 abbrev μ-loop : tie.MeasureT-loop
-μ-loop passed₀ failed₀ turns₀ t4 t5 t6 t7 t8 t9 t10 t11 passed failed turns = turns
+μ-loop passed₀ failed₀ turns₀ t4 t5 t6 t7 t8 t9 t10 t11 t12 passed failed turns = turns
 
 pub main-spec : {M : Type 1} → statement M
 main-spec =
@@ -20,6 +20,10 @@ main-spec =
     (λ c. search needs)
     (λ c. search needs)
     (λ c. search needs)
+    (λ c. search needs)
+    (λ c. search needs)
+    (λ c. search needs)
+    (λ c κs. search needs)
     (λ c. search needs)
     (λ c. search needs)
     (λ c. search needs)

@@ -20,7 +20,7 @@ use Rattle.store.specs.OwnKeys.{ordinaryOwnPropertyKeys}
 use Rattle.store.specs.Words.{isStore, storeOf, wordAt, withNewRow, withoutRow}
 use Rattle.store_read.specs.Answers.{Listed, keyFromWord, keyToWord}
 use Rattle.store_write.specs.Write.{Joins, New, numberIn}
-use Rattle.store_export.specs.Export.{isListable, isJoined, isAbsent, isNew, isAddable, isRemovable, rowProperty, keyWordsOf, listAnswer, listed, added, addAnswer, removed, removeAnswer}
+use Rattle.benchmark_store.specs.Export.{isListable, isJoined, isAbsent, isNew, isAddable, isRemovable, rowProperty, keyWordsOf, listAnswer, listed, added, addAnswer, removed, removeAnswer}
 
 -- Own keys -------------------------------------------------------------------------------
 

@@ -1,8 +1,8 @@
 use mathlib.Core.Path.{sym, _∙_}
-use Rattle.store_export.specs.Export.{isListable}
+use Rattle.benchmark_store.specs.Export.{isListable}
 use borrow.Author.Needs.{needs}
-use Rattle.store_export.proofs.conditions.is_listable.Statement.{statement}
-use Rattle.store_export.proofs.conditions.is_listable.Tie as tie
+use Rattle.benchmark_store.proofs.conditions.is_listable.Statement.{statement}
+use Rattle.benchmark_store.proofs.conditions.is_listable.Tie as tie
 
 returns : tie.Need-returns
 unfolding isListable

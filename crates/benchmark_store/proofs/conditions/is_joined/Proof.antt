@@ -1,7 +1,7 @@
 use borrow.Author.Tests.{lt-ltb, le-ltb}
-use Rattle.store_export.specs.Export.{isJoined}
-use Rattle.store_export.proofs.conditions.is_joined.Statement.{statement}
-use Rattle.store_export.proofs.conditions.is_joined.Tie as tie
+use Rattle.benchmark_store.specs.Export.{isJoined}
+use Rattle.benchmark_store.proofs.conditions.is_joined.Statement.{statement}
+use Rattle.benchmark_store.proofs.conditions.is_joined.Tie as tie
 
 returns : tie.Need-returns
 unfolding isJoined

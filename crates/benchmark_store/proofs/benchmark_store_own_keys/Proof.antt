@@ -1,9 +1,9 @@
 use mathlib.Core.Path.{sym, _∙_}
-use Rattle.store_export.proofs.ExportLaws.{listable, list-count, list-words}
-use Rattle.store_export.specs.Export.{listed, listAnswer}
+use Rattle.benchmark_store.proofs.ExportLaws.{listable, list-count, list-words}
+use Rattle.benchmark_store.specs.Export.{listed, listAnswer}
 use borrow.Author.Needs.{needs}
-use Rattle.store_export.proofs.store_own_keys.Statement.{statement}
-use Rattle.store_export.proofs.store_own_keys.Tie as tie
+use Rattle.benchmark_store.proofs.benchmark_store_own_keys.Statement.{statement}
+use Rattle.benchmark_store.proofs.benchmark_store_own_keys.Tie as tie
 
 list-own-keys-requires : tie.Need-list-own-keys-requires
 list-own-keys-requires c κs =
@@ -19,6 +19,6 @@ returns-2 : tie.Need-returns-2
 unfolding listed listAnswer
 returns-2 c = let t = sym (c .before .is-listable .ensures) ∙ c .if1 .left in (rw t, rw t)
 
-pub store-own-keys-spec : {M : Type 1} → statement M
-store-own-keys-spec =
+pub benchmark-store-own-keys-spec : {M : Type 1} → statement M
+benchmark-store-own-keys-spec =
     tie.close (tie.spec (λ c κs. search needs) list-own-keys-requires (λ c. search needs) returns returns-2)

@@ -1,8 +1,8 @@
 use mathlib.Core.Path.{sym, _∙_}
-use Rattle.store_export.specs.Export.{findAnswer}
+use Rattle.benchmark_store.specs.Export.{findAnswer}
 use borrow.Author.Needs.{needs}
-use Rattle.store_export.proofs.store_find.Statement.{statement}
-use Rattle.store_export.proofs.store_find.Tie as tie
+use Rattle.benchmark_store.proofs.benchmark_store_find.Statement.{statement}
+use Rattle.benchmark_store.proofs.benchmark_store_find.Tie as tie
 
 find-requires : tie.Need-find-requires
 find-requires c κs = sym (c .before .before .is-store .ensures) ∙ c .before .if1 .taken
@@ -15,8 +15,8 @@ returns-2 : tie.Need-returns-2
 unfolding findAnswer
 returns-2 c = rw (sym (c .before .is-store .ensures) ∙ c .if1 .left)
 
-pub store-find-spec : {M : Type 1} → statement M
-store-find-spec =
+pub benchmark-store-find-spec : {M : Type 1} → statement M
+benchmark-store-find-spec =
     tie.close
     (tie.spec
     (λ c κs. search needs)

@@ -2,10 +2,10 @@ use mathlib.Core.Path.{sym, _∙_}
 use native.Mathlib.Omega.{arith}
 use borrow.Author.Tests.{lt-ltb, le-ltb}
 use Rattle.store.proofs.WordLaws.{sized}
-use Rattle.store_export.specs.Export.{isAddable}
+use Rattle.benchmark_store.specs.Export.{isAddable}
 use borrow.Author.Needs.{needs}
-use Rattle.store_export.proofs.conditions.is_addable.Statement.{statement}
-use Rattle.store_export.proofs.conditions.is_addable.Tie as tie
+use Rattle.benchmark_store.proofs.conditions.is_addable.Statement.{statement}
+use Rattle.benchmark_store.proofs.conditions.is_addable.Tie as tie
 
 shared-slice-read-if2 : tie.Need-shared-slice-read-if2
 shared-slice-read-if2 c = let s = sized _ (sym (c .before .before .is-store .ensures) ∙ c .before .if1 .taken) in omega arith

@@ -1,10 +1,10 @@
-// What the store's exports ask of what they are lent.
+// What the exported functions ask of what they are lent.
 use store_read::Place;
 use store_read::finding;
 ghost use mathlib.Core.Path.{_≡_};
 ghost use mathlib.Core.Bool.{true};
 ghost use Rattle.store.specs.Words.{isStore};
-ghost use Rattle.store_export.specs.Export.{isJoined, isNew, isListable, isAddable, isRemovable};
+ghost use Rattle.benchmark_store.specs.Export.{isJoined, isNew, isListable, isAddable, isRemovable};
 
 pub fn is_listable(words: &[u64], strings: &[u16], size: usize) -> bool
     ensures { λ r. ⌜ r ≡ isListable (now (words .entry)) (now (strings .entry)) size ⌝ }

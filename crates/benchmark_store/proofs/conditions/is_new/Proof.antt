@@ -1,9 +1,9 @@
 use mathlib.Core.Path.{sym, _∙_}
 use Rattle.store_read.proofs.ReadLaws.{own-found, own-missed}
-use Rattle.store_export.specs.Export.{isNew}
+use Rattle.benchmark_store.specs.Export.{isNew}
 use borrow.Author.Needs.{needs}
-use Rattle.store_export.proofs.conditions.is_new.Statement.{statement}
-use Rattle.store_export.proofs.conditions.is_new.Tie as tie
+use Rattle.benchmark_store.proofs.conditions.is_new.Statement.{statement}
+use Rattle.benchmark_store.proofs.conditions.is_new.Tie as tie
 
 returns : tie.Need-returns
 unfolding isNew

@@ -1,11 +1,11 @@
 use mathlib.Core.Path.{sym, _∙_}
 use native.Mathlib.Omega.{arith}
 use Rattle.store.proofs.WordLaws.{sized}
-use Rattle.store_export.proofs.ExportLaws.{addable, add-words, add-count}
-use Rattle.store_export.specs.Export.{added, addAnswer}
+use Rattle.benchmark_store.proofs.ExportLaws.{addable, add-words, add-count}
+use Rattle.benchmark_store.specs.Export.{added, addAnswer}
 use borrow.Author.Needs.{needs}
-use Rattle.store_export.proofs.store_append.Statement.{statement}
-use Rattle.store_export.proofs.store_append.Tie as tie
+use Rattle.benchmark_store.proofs.benchmark_store_append.Statement.{statement}
+use Rattle.benchmark_store.proofs.benchmark_store_append.Tie as tie
 
 add-property-requires : tie.Need-add-property-requires
 add-property-requires c κs =
@@ -24,8 +24,8 @@ returns-2 : tie.Need-returns-2
 unfolding added addAnswer
 returns-2 c = let t = sym (c .before .is-addable .ensures) ∙ c .if1 .left in (rw t, rw t)
 
-pub store-append-spec : {M : Type 1} → statement M
-store-append-spec =
+pub benchmark-store-append-spec : {M : Type 1} → statement M
+benchmark-store-append-spec =
     tie.close
     (tie.spec
     (λ c κs. search needs)

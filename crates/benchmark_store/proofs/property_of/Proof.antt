@@ -1,9 +1,9 @@
 use Rattle.store.specs.Words.{propertyOf}
 use Rattle.store_read.proofs.ReadLaws.{odd-flag, even-flag}
-use Rattle.store_export.specs.Export.{rowProperty}
+use Rattle.benchmark_store.specs.Export.{rowProperty}
 use borrow.Author.Needs.{needs}
-use Rattle.store_export.proofs.property_of.Statement.{statement}
-use Rattle.store_export.proofs.property_of.Tie as tie
+use Rattle.benchmark_store.proofs.property_of.Statement.{statement}
+use Rattle.benchmark_store.proofs.property_of.Tie as tie
 
 returns : tie.Need-returns
 unfolding rowProperty propertyOf

@@ -1,5 +1,6 @@
-// The store for C and Rust to link. A key is a word: string s is 2 s, and symbol s is 2 s + 1. Each function tests what
-// it is lent; where it refuses, it changes nothing and answers 257.
+// Linked by the benchmark alone (bench/store.rs); no entry of the library. These functions write to the store without the
+// checks of a step: remove takes a property away even where it is not configurable. A key is a word: string s is 2 s, and
+// symbol s is 2 s + 1. Each function tests what it is lent; where it refuses, it changes nothing and answers 257.
 // conditions: those tests.
 use property::Property;
 use store_read::Place;
@@ -9,7 +10,7 @@ use store_write::properties;
 use store_write::removal;
 use value_operations::encoding;
 ghost use mathlib.Core.Path.{_≡_};
-ghost use Rattle.store_export.specs.Export.{placeNumber, rowProperty, findAnswer, listed, listAnswer, added, addAnswer, removed, removeAnswer};
+ghost use Rattle.benchmark_store.specs.Export.{placeNumber, rowProperty, findAnswer, listed, listAnswer, added, addAnswer, removed, removeAnswer};
 
 mod conditions;
 
@@ -28,7 +29,7 @@ fn place_number(place: Place) -> u64
 
 // The place of a property, or 256 where there is none.
 #[no_mangle]
-pub extern "C" fn store_find(words: &[u64], o: u64, key: u64) -> u64
+pub extern "C" fn benchmark_store_find(words: &[u64], o: u64, key: u64) -> u64
     ensures { λ r. ⌜ r ≡ findAnswer (now (words .entry)) o key ⌝ }
 {
     if store_read::is_store(words) {
@@ -40,7 +41,12 @@ pub extern "C" fn store_find(words: &[u64], o: u64, key: u64) -> u64
 
 // Lists the own keys of an object, and answers how many they are. It asks for room for 256.
 #[no_mangle]
-pub extern "C" fn store_own_keys(words: &[u64], strings: &[u16], o: u64, out: &mut [u64]) -> u64
+pub extern "C" fn benchmark_store_own_keys(
+    words: &[u64],
+    strings: &[u16],
+    o: u64,
+    out: &mut [u64],
+) -> u64
     ensures { λ r. ⌜ r ≡ listAnswer (now (words .entry)) (now (strings .entry)) o (now (out .entry)) ⌝ }
     ensures { λ _. ⌜ now (out .exit) ≡ listed (now (words .entry)) (now (strings .entry)) o (now (out .entry)) ⌝ }
 {
@@ -71,7 +77,7 @@ fn property_of(row: &[u64; 5]) -> Property
 
 // Adds a new property as the last, and answers how many there are.
 #[no_mangle]
-pub extern "C" fn store_append(words: &mut [u64], o: u64, key: u64, row: &[u64; 5]) -> u64
+pub extern "C" fn benchmark_store_append(words: &mut [u64], o: u64, key: u64, row: &[u64; 5]) -> u64
     ensures { λ r. ⌜ r ≡ addAnswer (now (words .entry)) o key (now (row .entry)) ⌝ }
     ensures { λ _. ⌜ now (words .exit) ≡ added (now (words .entry)) o key (now (row .entry)) ⌝ }
 {
@@ -85,7 +91,7 @@ pub extern "C" fn store_append(words: &mut [u64], o: u64, key: u64, row: &[u64; 
 
 // Removes a property, if there is one, and answers how many are left.
 #[no_mangle]
-pub extern "C" fn store_remove(words: &mut [u64], o: u64, key: u64) -> u64
+pub extern "C" fn benchmark_store_remove(words: &mut [u64], o: u64, key: u64) -> u64
     ensures { λ r. ⌜ r ≡ removeAnswer (now (words .entry)) o key ⌝ }
     ensures { λ _. ⌜ now (words .exit) ≡ removed (now (words .entry)) o key ⌝ }
 {

@@ -1,8 +1,8 @@
 use mathlib.Core.Path.{sym, _∙_}
-use Rattle.store_export.specs.Export.{isRemovable}
+use Rattle.benchmark_store.specs.Export.{isRemovable}
 use borrow.Author.Needs.{needs}
-use Rattle.store_export.proofs.conditions.is_removable.Statement.{statement}
-use Rattle.store_export.proofs.conditions.is_removable.Tie as tie
+use Rattle.benchmark_store.proofs.conditions.is_removable.Statement.{statement}
+use Rattle.benchmark_store.proofs.conditions.is_removable.Tie as tie
 
 returns : tie.Need-returns
 unfolding isRemovable

@@ -1,11 +1,11 @@
 use mathlib.Core.Path.{sym, _∙_}
 use native.Mathlib.Omega.{arith}
 use Rattle.store.proofs.WordLaws.{sized}
-use Rattle.store_export.proofs.ExportLaws.{removable, remove-words, remove-count}
-use Rattle.store_export.specs.Export.{removed, removeAnswer}
+use Rattle.benchmark_store.proofs.ExportLaws.{removable, remove-words, remove-count}
+use Rattle.benchmark_store.specs.Export.{removed, removeAnswer}
 use borrow.Author.Needs.{needs}
-use Rattle.store_export.proofs.store_remove.Statement.{statement}
-use Rattle.store_export.proofs.store_remove.Tie as tie
+use Rattle.benchmark_store.proofs.benchmark_store_remove.Statement.{statement}
+use Rattle.benchmark_store.proofs.benchmark_store_remove.Tie as tie
 
 remove-property-requires : tie.Need-remove-property-requires
 remove-property-requires c κs =
@@ -24,8 +24,8 @@ returns-2 : tie.Need-returns-2
 unfolding removed removeAnswer
 returns-2 c = let t = sym (c .before .is-removable .ensures) ∙ c .if1 .left in (rw t, rw t)
 
-pub store-remove-spec : {M : Type 1} → statement M
-store-remove-spec =
+pub benchmark-store-remove-spec : {M : Type 1} → statement M
+benchmark-store-remove-spec =
     tie.close
     (tie.spec
     (λ c κs. search needs)

@@ -1,6 +1,6 @@
 use borrow.Author.Needs.{needs}
-use Rattle.store_export.proofs.place_number.Statement.{statement}
-use Rattle.store_export.proofs.place_number.Tie as tie
+use Rattle.benchmark_store.proofs.place_number.Statement.{statement}
+use Rattle.benchmark_store.proofs.place_number.Tie as tie
 
 returns : tie.Need-returns
 returns c = rw (c .before .place .given .1)
