@@ -10,8 +10,8 @@ use lib.ListN.{length, set}
 use lib.Seq.{sets}
 use borrow.Author.Tests.{ne-eqb, eqb-true, eqb-false}
 use Rattle.value.specs.declared.Value.{Value}
-use Rattle.value.specs.Words.{payloadOf}
 use Rattle.record.specs.Bytes.{byteAt, numberAt, bytesOf, areZero, valueBytes}
+use Rattle.record.proofs.RoundTrip.{length-value}
 
 pub short-of : (b : List ℕ) (i : ℕ) → numberAt b i 2 ≡ byteAt b i + 256 * byteAt b (i + 1)
 unfolding numberAt
@@ -62,15 +62,6 @@ store-step l i k x h =
 pub store-end : (l : List ℕ) (i k x : ℕ) → 8 ≤ k → sets l (i + k) (bytesOf (8 - k) x) ≡ l
 unfolding bytesOf
 store-end l i k x h = let z : 8 - k ≡ 0 = omega arith in rw z
-
-pub length-bytes : (n x : ℕ) → length (bytesOf n x) ≡ n
-unfolding bytesOf
-length-bytes zero x = refl
-length-bytes (suc n) x = ap suc (length-bytes n (x / 256))
-
-pub length-value : (v : Value) → length (valueBytes v) ≡ 9
-unfolding valueBytes
-length-value v = ap suc (length-bytes 8 (payloadOf v))
 
 -- what is stored in two runs
 pub sets-append : (a l : List ℕ) (i : ℕ) (b : List ℕ) → sets l i (a ++ b) ≡ sets (sets l i a) (i + length a) b

@@ -4,14 +4,11 @@ use mathlib.Core.Path.{_≡_, refl, sym, ap, _∙_, subst}
 use mathlib.Core.Bool.{true}
 use mathlib.Core.List.{List, [], _∷_, map}
 use lib.ListN.{length}
-use Rattle.value.proofs.Bools.{and-true, and-both}
-use Rattle.text.specs.Table.{isTable, stringsOf}
+use Rattle.text.specs.Table.{stringsOf}
 use Rattle.store.specs.Store.{World, empty}
-use Rattle.store.specs.Words.{isStore, storeOf, worldOf}
-use Rattle.steps.specs.declared.Outcome.{Outcome}
-use Rattle.steps.specs.declared.Outcome.the-variants.{Refused, Result, TypeError, Thrown}
+use Rattle.store.specs.Words.{storeOf, worldOf}
 use Rattle.steps.specs.declared.Report.{Report}
-use Rattle.steps.specs.Response.{Response, Effect, reportOf}
+use Rattle.steps.specs.Response.{Response, reportOf}
 use Rattle.steps.specs.Run.{Call, Event, effect, runFrom, run, worldFrom}
 use Rattle.steps.specs.Run as call
 use Rattle.demands.specs.Lasting.{Lasting}
@@ -22,7 +19,8 @@ use Rattle.demands.proofs.FurtherHold.{further}
 use Rattle.demands.proofs.Decided.{step-decided, entry-decided}
 use Rattle.steps.proofs.Outputs.{output-is}
 use Rattle.reporting.specs.Seen.{responseSeen}
-use Rattle.reporting.specs.Memory.{Shown, shownBy, isMemory, stepOver, enterOver, WordsAfter}
+use Rattle.reporting.specs.Memory.{Shown, isMemory}
+use Rattle.reporting.proofs.ContractLaws.{step-shows, step-memory, entry-shows, entry-memory}
 use Rattle.entries.specs.Entries.{Memory, Called, stepped, entered, Calls, none, more, reported, written, eventsSeen, Kept}
 
 abbrev world : Memory → World
@@ -36,42 +34,25 @@ record Does (m : Memory) (c : Call) (r : Report) (out : List ℕ) (n : Memory) :
   after : world n ≡ effect (world m) c .world
   memory : isMemory (n .words) (n .cells) ≡ true
 
-still : (o : Outcome) (before after : List ℕ) → isStore before ≡ true → WordsAfter o before after → isStore after ≡ true
-still (Refused n) before after h w = rw w h
-still (Result c) before after h w = w .kept
-still (TypeError n) before after h w = rw w h
-still (Thrown v) before after h w = rw w h
-
-over : (m : Memory) (bytes sheet output : List ℕ) → isMemory (m .words) (m .cells) ≡ true
-    → stepOver (m .words) (m .cells) bytes sheet output ≡ effect (world m) (call.step bytes sheet output)
-unfolding stepOver effect
-over m bytes sheet output h = rw h
-
-over-entry : (m : Memory) (units : List ℕ) → isTable (m .cells) ≡ true → enterOver (storeOf (m .words)) (m .cells) units ≡ effect (world m) (call.enter units)
-unfolding enterOver effect
-over-entry m units h = rw h
-
 does : (m : Memory) → isMemory (m .words) (m .cells) ≡ true → {n : Memory} {c : Call} {r : Report} {out : List ℕ} → Called m c r out n → Does m c r out n
-unfolding isMemory effect
+unfolding effect
 does m h (stepped bytes sheet output r after out k) =
-    let p = and-true (isStore (m .words)) (isTable (m .cells)) h in
-    let s = k .shows ∙ ap (λ (e : Effect). shownBy e) (over m bytes sheet output h) in
+    let s = step-shows (m .words) (m .cells) h k in
     record {
       report = ap (λ (x : Shown). x .report) s;
       response = ap (λ (x : Shown). x .response) s;
       output = ap (λ (x : Shown). x .output) s ∙ output-is (world m) bytes sheet output;
       after = ap (λ (x : Shown). x .world) s;
-      memory = and-both _ _ (still (r .outcome) (m .words) after (p .0) (k .writes)) (p .1);
+      memory = step-memory (m .words) (m .cells) h k;
     }
 does m h (entered units r after k) =
-    let p = and-true (isStore (m .words)) (isTable (m .cells)) h in
-    let s = k .shows (storeOf (m .words)) ∙ ap (λ (e : Effect). shownBy e) (over-entry m units (p .1)) in
+    let s = entry-shows (m .words) (m .cells) h k in
     record {
       report = ap (λ (x : Shown). x .report) s;
       response = ap (λ (x : Shown). x .response) s;
       output = refl;
       after = ap (λ (x : Shown). x .world) s;
-      memory = and-both _ _ (p .0) (k .table ∙ p .1);
+      memory = entry-memory (m .words) (m .cells) h k;
     }
 
 record Follows (m : Memory) (cs : List Call) (rs : List Report) (outs : List (List ℕ)) (n : Memory) : Type 0 where

@@ -17,7 +17,8 @@ use Rattle.text_form.proofs.ReaderLaws.{read-append, ended-reads}
 use Rattle.text_form.proofs.WholeText.{whole}
 use Rattle.text_form.proofs.TextLaws.{text-kept}
 use Rattle.text_reader.specs.declared.Progress.{Progress}
-use Rattle.text_reader.specs.Memory.{phaseIn, readerOf, isReader, maximumCount, rowRoom, isAccepted, takenOf, Untouched}
+use Rattle.text_line.specs.Lines.{rowRoom}
+use Rattle.text_reader.specs.Memory.{phaseIn, readerOf, isReader, maximumCount, isAccepted, takenOf, Untouched}
 use Rattle.entries.specs.Texts.{ReaderMemory, Begun, FeedCalled, afterEnd, Feeds, fed, ended, feed-refused, end-refused, TextFed, Advances, RefusedForRoom}
 
 -- What is taken ------------------------------------------------------------------------------

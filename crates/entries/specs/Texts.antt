@@ -9,7 +9,8 @@ use Rattle.text_form.specs.Reader.{isEnded}
 use Rattle.text_form.specs.Text.{runText}
 use Rattle.text_form.specs.Texts.{TextKept}
 use Rattle.text_reader.specs.declared.Progress.{Progress}
-use Rattle.text_reader.specs.Memory.{phaseIn, rowRoom, Started, Fed, Ended}
+use Rattle.text_line.specs.Lines.{rowRoom}
+use Rattle.text_reader.specs.Memory.{phaseIn, Started, Fed, Ended}
 
 -- the store's words, the string table's cells, the reader's state, and the bytes of the line that has begun
 pub record ReaderMemory : Type 0 where

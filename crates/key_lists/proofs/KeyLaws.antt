@@ -14,7 +14,6 @@ use borrow.Author.Tests.{ne-eqb, eqb-true, eqb-false, ltb-true}
 use Rattle.value.specs.declared.Value.{Value}
 use Rattle.value.specs.declared.Value.the-variants as value
 use Rattle.value.specs.declared.PropertyKey.{PropertyKey}
-use Rattle.value.specs.declared.PropertyKey.the-variants.{String, Symbol}
 use Rattle.value.specs.PropertyKey.{keyOf, keyValue}
 use Rattle.value.specs.Words.{pick, valueOf}
 use Rattle.internal_methods.specs.Answers.{consKey, keysOf}
@@ -22,7 +21,8 @@ use Rattle.record.specs.Bytes.{byteAt, numberAt, valueAt, valueBytes}
 use Rattle.record.specs.Tests.{isKnown}
 use Rattle.record.specs.Step.{isSome}
 use Rattle.record.specs.Sheet.{valuesAt, valuesPass}
-use Rattle.byte_records.proofs.ByteLaws.{length-value}
+use Rattle.record.proofs.RoundTrip.{length-value}
+use Rattle.steps.proofs.Outputs.{length-keys}
 use Rattle.store_read.specs.Answers.{keyFromWord, Listed}
 use Rattle.store_read.proofs.ListLaws.{map-append, Listing, listing-start, listing-more, listing-end}
 use Rattle.steps.specs.Step.{keysBytes}
@@ -244,11 +244,6 @@ unfolding keysBytes
 bytes-append [] ls = refl
 bytes-append (k ∷ ks) ls = ap (λ (r : List ℕ). valueBytes (keyValue k) ++ r) (bytes-append ks ls) ∙ sym (append-assoc (valueBytes (keyValue k)) (keysBytes ks) (keysBytes ls))
 
-pub length-bytes : (ks : List PropertyKey) → length (keysBytes ks) ≡ 9 * length ks
-unfolding keysBytes
-length-bytes [] = refl
-length-bytes (k ∷ ks) = length-append (valueBytes (keyValue k)) (keysBytes ks) ∙ rw (length-value (keyValue k), length-bytes ks) (omega arith)
-
 -- the output once the keys of the first i words are written
 abbrev pub written : List ℕ → List ℕ → ℕ → List ℕ
 written list out i = keysBytes (map keyFromWord (take i list)) ++ drop (9 * i) out
@@ -262,7 +257,7 @@ module _ (list out : List ℕ) (i : ℕ) (h : i < length list) (room : 9 * i + 9
   now-written = keysBytes (map keyFromWord (take i list))
 
   written-length : length now-written ≡ 9 * i
-  written-length = length-bytes (map keyFromWord (take i list)) ∙ rw (length-map, length-take-le i list (omega arith))
+  written-length = length-keys (map keyFromWord (take i list)) ∙ rw (length-map, length-take-le i list (omega arith))
 
   next-bytes : keysBytes (map keyFromWord (take (i + 1) list)) ≡ now-written ++ valueBytes (keyValue (keyFromWord (getD list i 0)))
   unfolding keysBytes

@@ -1,14 +1,20 @@
 -- What the entries ensure determines the report, what the memory holds, and every output byte. Assumes nothing.
 use Prim.Native.Nat.{ℕ}
 use mathlib.Core.Path.{_≡_, sym, ap, _∙_, subst}
+use mathlib.Core.Bool.{true}
 use mathlib.Core.List.{List}
+use Rattle.value.proofs.Bools.{and-true, and-both}
 use Rattle.store.specs.Store.{Store}
-use Rattle.store.specs.Words.{worldOf}
-use Rattle.text.specs.Table.{stringsOf}
+use Rattle.store.specs.Words.{isStore, storeOf, worldOf}
+use Rattle.text.specs.Table.{isTable, stringsOf}
+use Rattle.steps.specs.declared.Outcome.{Outcome}
+use Rattle.steps.specs.declared.Outcome.the-variants.{Refused, Result, TypeError, Thrown}
 use Rattle.steps.specs.declared.Report.{Report}
 use Rattle.steps.specs.Response.{reportOf}
+use Rattle.steps.specs.Step.{step}
+use Rattle.steps.specs.StringEntry.{enterString}
 use Rattle.reporting.specs.ReportWords.{reportWords, reportFrom}
-use Rattle.reporting.specs.Memory.{Shown, stepOver, enterOver, Stepped, StringEntered, StepExported, StringExported}
+use Rattle.reporting.specs.Memory.{Shown, shown, shownBy, shownEntry, isMemory, stepOver, enterOver, WordsAfter, Stepped, StringEntered, StepExported, StringExported}
 
 module _ {words cells bytes sheet output : List ℕ} {r : Report} {after out : List ℕ} (h : Stepped words cells bytes sheet output r after out) where
   pub step-report : r ≡ reportOf (stepOver words cells bytes sheet output .response)
@@ -26,6 +32,40 @@ module _ {cells units : List ℕ} {r : Report} {after : List ℕ} (h : StringEnt
 
   pub entry-strings : stringsOf after ≡ enterOver σ cells units .world .strings
   entry-strings = ap (λ (x : Shown). x .world .strings) (h .shows σ)
+
+-- over memory that is a store and a table: the step and the string entry themselves; and it stays such memory
+module _ (words cells : List ℕ) (m : isMemory words cells ≡ true) where
+  store-is : isStore words ≡ true
+  unfolding isMemory
+  store-is = and-true (isStore words) (isTable cells) m .0
+
+  table-is : isTable cells ≡ true
+  unfolding isMemory
+  table-is = and-true (isStore words) (isTable cells) m .1
+
+  stays : (o : Outcome) (after : List ℕ) → WordsAfter o words after → isStore after ≡ true
+  stays (Refused n) after w = rw w store-is
+  stays (Result c) after w = w .kept
+  stays (TypeError n) after w = rw w store-is
+  stays (Thrown v) after w = rw w store-is
+
+  module _ {bytes sheet output : List ℕ} {r : Report} {after out : List ℕ} (h : Stepped words cells bytes sheet output r after out) where
+    pub step-shows : shown r after cells out ≡ shownBy (step (worldOf words cells) bytes sheet output)
+    unfolding stepOver
+    step-shows = h .shows ∙ rw m
+
+    pub step-memory : isMemory after cells ≡ true
+    unfolding isMemory
+    step-memory = and-both _ _ (stays (r .outcome) after (h .writes)) table-is
+
+  module _ {units : List ℕ} {r : Report} {after : List ℕ} (h : StringEntered cells units r after) where
+    pub entry-shows : shownEntry r (storeOf words) after ≡ shownBy (enterString (worldOf words cells) units)
+    unfolding enterOver
+    entry-shows = h .shows (storeOf words) ∙ rw table-is
+
+    pub entry-memory : isMemory words after ≡ true
+    unfolding isMemory
+    entry-memory = and-both _ _ store-is (h .table ∙ table-is)
 
 -- of a report that ten words tell
 pub step-exported : {words cells bytes sheet output report after out : List ℕ} {r : Report} → (report ≡ reportWords r) × (reportFrom report ≡ r) → Stepped words cells bytes sheet output r after out

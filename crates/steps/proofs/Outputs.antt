@@ -1,7 +1,7 @@
 -- The output after a step: the keys of a key list stand at its start, 9 bytes each, and every other byte stays. Assumes nothing.
 use Prim.Native.Nat.{ℕ, zero, suc, _+_, _*_}
 use native.Mathlib.Omega.{arith}
-use mathlib.Core.Path.{_≡_, refl, sym, ap, _∙_}
+use mathlib.Core.Path.{_≡_, refl, ap, _∙_}
 use mathlib.Core.Bool.{false≢true}
 use mathlib.Core.Option.{some}
 use mathlib.Core.List.{List, [], _∷_, _++_, append-assoc}
@@ -27,6 +27,11 @@ behind zero i [] m e = ap (λ (j : ℕ). drop j m) (let q : zero + i ≡ i = ome
 behind (suc n) i [] m e = absurd (false≢true cc)
 behind zero i (x ∷ l) m e = absurd (false≢true cc)
 behind (suc n) i (x ∷ l) m e = ap (λ (j : ℕ). drop j (x ∷ (l ++ m))) (let q : suc n + i ≡ suc (n + i) = omega arith in q) ∙ behind n i l m (let q : length l ≡ n = cc in q)
+
+pub length-keys : (ks : List PropertyKey) → length (keysBytes ks) ≡ valueSize * length ks
+unfolding keysBytes
+length-keys [] = refl
+length-keys (k ∷ ks) = omega (arith, length-append (valueBytes (keyValue k)) (keysBytes ks), length-value (keyValue k), length-keys ks)
 
 -- the i-th key stands at the i-th place
 pub key-stands : (ks : List PropertyKey) (rest : List ℕ) (i : ℕ) (k : PropertyKey) → getElem? ks i ≡ some k → take valueSize (drop (valueSize * i) (keysBytes ks ++ rest)) ≡ valueBytes (keyValue k)

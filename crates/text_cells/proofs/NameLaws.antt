@@ -5,7 +5,7 @@ use native.Mathlib.Numerals.{add-one}
 use mathlib.Core.Path.{_≡_, refl, sym, ap, _∙_}
 use mathlib.Core.Bool.{true, false}
 use mathlib.Core.Option.{Option, none, some}
-use mathlib.Core.List.{List, [], _∷_, _++_, map, append-nil, append-assoc}
+use mathlib.Core.List.{List, [], _∷_, map, append-nil}
 use lib.Dec.{eqb}
 use lib.ListN.{length, getD, take, drop, set, drop-of-length-le}
 use lib.Seq.{drop-cons, take-all, take-suc-set, ext-getD}
@@ -19,6 +19,7 @@ use Rattle.text.proofs.TableLaws.{length-tabulate, getD-tabulate}
 use Rattle.text_form.specs.Cells.{cellsOf}
 use Rattle.text_form.specs.Lines.{maximumLine, names, withColumn, allOf, columnsOf, joined}
 use Rattle.text_cells.specs.Answers.{columnTold}
+use Rattle.text_cells.proofs.JoinLaws.{joined-nothing, joined-twice}
 
 -- the search for a name in n cells
 
@@ -35,14 +36,9 @@ search-start cells u n h =
 pub column-some : (o : Option ℕ) (i : ℕ) → i < 7 → Number i ≡ found o → columnTold i ≡ o
 column-some o i h e = rw (lt-ltb i 7 h) (sym (found-some i o e))
 
-join-none : (o : Option (List ℕ)) → o ≡ joined (some []) o
-join-none none = refl
-join-none (some columns) = refl
-
-join-one : (front : List ℕ) (column : ℕ) (o : Option (List ℕ))
-    → joined (some front) (withColumn (some column) o) ≡ joined (some (front ++ (column ∷ []))) o
-join-one front column none = refl
-join-one front column (some columns) = ap some (sym (append-assoc front (column ∷ []) columns))
+one-column : (column : ℕ) (o : Option (List ℕ)) → withColumn (some column) o ≡ joined (some (column ∷ [])) o
+one-column column none = refl
+one-column column (some columns) = refl
 
 -- the columns of the first i names, then those of the others
 module _ (number : List ℕ → Option ℕ) (texts : List (List ℕ)) where
@@ -50,7 +46,7 @@ module _ (number : List ℕ → Option ℕ) (texts : List (List ℕ)) where
   columnsFrom columns i = joined (some (take i columns)) (allOf (map number (drop i texts)))
 
   pub columns-start : (columns : List ℕ) → allOf (map number texts) ≡ columnsFrom columns 0
-  columns-start columns = join-none (allOf (map number texts))
+  columns-start columns = joined-nothing (allOf (map number texts))
 
   pub columns-end : (columns : List ℕ) (i : ℕ) → length texts ≤ i → length columns ≤ i → columnsFrom columns i ≡ some columns
   unfolding allOf
@@ -67,7 +63,7 @@ module _ (number : List ℕ → Option ℕ) (texts : List (List ℕ)) where
     unfolding allOf
     columns-step l g =
         let n : some column ≡ number (getD texts i []) = rw (lt-ltb column 7 g) at e in
-        rw (add-one i, drop-cons texts i [], sym n, take-suc-set columns i column) (join-one (take i columns) column (allOf (map number (drop (suc i) texts))))
+        rw (add-one i, drop-cons texts i [], sym n, take-suc-set columns i column) (ap (joined (some (take i columns))) (one-column column (allOf (map number (drop (suc i) texts)))) ∙ joined-twice (take i columns) (column ∷ []) (allOf (map number (drop (suc i) texts))))
 
 pub columns-seven : (line : List ℕ) → length line ≤ maximumLine → eqb (length (cellsOf line)) 7 ≡ true → columnsOf line ≡ allOf (map (numberOf (cellsOf line)) names)
 unfolding columnsOf

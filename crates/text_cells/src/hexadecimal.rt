@@ -2,9 +2,9 @@
 use value_operations::bits::wide;
 ghost use mathlib.Core.Path.{_≡_};
 ghost use mathlib.Core.Option.{some};
-ghost use Prim.Native.Nat.{_+_, _*_, _<_, _≤_};
+ghost use Prim.Native.Nat.{_+_, _*_, _≤_};
 ghost use lib.ListN.{length, replicate};
-ghost use Rattle.text_form.specs.Cells.{digitOf, bytesIn, unitsOf, isDash, someBytesIn, partIn, sheetIn};
+ghost use Rattle.text_form.specs.Cells.{digitOf, bytesIn, unitsOf, isDash, someBytesIn, partIn};
 ghost use Rattle.text_cells.specs.Answers.{digitTold, told, decoded, Within};
 
 // How many bytes a cell is, if it is any.
@@ -97,18 +97,6 @@ pub fn put_some(cell: &[u8], bytes: &mut [u8]) -> Decoded
         return Decoded::Bytes(size);
     }
     Decoded::Broken
-}
-
-// An answer sheet; a dash is the sheet of no answers.
-pub fn put_sheet(cell: &[u8], bytes: &mut [u8]) -> Decoded
-    requires { ⌜ (length (now cell) ≤ 2 * length (now bytes)) × (0 < length (now bytes)) ⌝ }
-    ensures { λ r. ⌜ (decoded r (now (bytes .exit)) ≡ sheetIn (now (cell .entry))) × Within r (length (now (bytes .entry))) ⌝ }
-{
-    if is_dash(cell) {
-        bytes[0] = 0;
-        return Decoded::Bytes(1);
-    }
-    put_some(cell, bytes)
 }
 
 // The code units that bytes are, the high byte first.

@@ -1,3 +1,2 @@
 pub mod ReadLaws
 pub mod StateLaws
-pub mod LineLaws

@@ -4,21 +4,21 @@ use native.Mathlib.Nat.{le-refl}
 use native.Mathlib.Numerals.{add-one}
 use native.Mathlib.Omega.{arith}
 use mathlib.Core.Path.{_≡_, refl, sym, ap, _∙_, subst}
-use mathlib.Core.Bool.{Bool, true, false, _&&_, cond, false≢true}
+use mathlib.Core.Bool.{Bool, true, false, cond, false≢true}
 use mathlib.Core.Option.{Option, none, some}
 use mathlib.Core.List.{List, [], _∷_, _++_, append-nil}
 use lib.Dec.{leb, ltb, eqb}
 use lib.ListN.{length, getD, take, drop, set, length-append, length-drop, length-set, drop-of-length-le}
 use lib.Seq.{sets, sets-eq, paste, take-at, drop-at, take-length, length-take-le, take-all, drop-set-lt}
-use borrow.Author.Tests.{lt-ltb, le-ltb, le-leb, lt-leb, eq-eqb, ne-eqb, eqb-true, eqb-false, ltb-true, leb-true, leb-false}
-use Rattle.value.proofs.Bools.{and-true, and-both}
+use borrow.Author.Tests.{lt-ltb, le-ltb, le-leb, lt-leb, eq-eqb, ne-eqb, eqb-true, eqb-false, ltb-true, leb-true}
+use Rattle.value.proofs.Bools.{and-true}
 use Rattle.store.specs.Words.{worldOf}
 use Rattle.reporting.specs.Memory.{isMemory}
 use Rattle.text_cells.specs.Answers.{AreColumns}
 use Rattle.text_form.specs.Cells.{until}
 use Rattle.text_form.specs.Lines.{maximumLine, columnsOf, callIn}
 use Rattle.text_form.specs.Rows.{lineFeed, heading, row}
-use Rattle.text_form.specs.Reader.{Phase, first, later, ended, Reader, reader, Read, read, isEnded, added, kept, Fits, columnsIn, lineCall, lineEffect, hasBegun, lastLine, close, endInput, endLine, readBytes}
+use Rattle.text_form.specs.Reader.{first, later, ended, Reader, reader, Read, read, isEnded, added, kept, Fits, columnsIn, lineCall, lineEffect, hasBegun, lastLine, close, endInput, endLine, readBytes}
 use Rattle.text_form.proofs.NameLaws.{names-once}
 use Rattle.text_form.proofs.ReaderLaws.{piece-kept, piece-ends}
 use Rattle.byte_records.proofs.ByteLaws.{sets-append}
@@ -26,9 +26,9 @@ use Rattle.steps.specs.Response.{refusal, reportOf}
 use Rattle.steps.specs.declared.Report.{Report}
 use Rattle.steps.specs.Run.{Call}
 use Rattle.text_rows.specs.ReportRows.{reportRow, maximumRow}
+use Rattle.text_line.specs.Lines.{rowRoom, LineDone}
 use Rattle.text_reader.proofs.StateLaws.{part-to-end}
-use Rattle.text_reader.specs.declared.Progress.{Progress}
-use Rattle.text_reader.specs.Memory.{stateSize, columnWords, phaseOf, phaseIn, lineOf, readerOf, areBelow, maximumCount, isState, isReader, rowRoom, takenOf, isAccepted, LineDone, LineEnded, NamesPut}
+use Rattle.text_reader.specs.Memory.{stateSize, columnWords, phaseOf, phaseIn, lineOf, readerOf, areBelow, maximumCount, isState, isReader, takenOf, isAccepted, LineEnded, NamesPut}
 
 -- The state ----------------------------------------------------------------------------
 

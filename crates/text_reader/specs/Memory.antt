@@ -1,20 +1,19 @@
 -- A reader in lent memory: the store's words, the string table's cells, ten words of state and the bytes of the line that has begun. Assumes nothing.
-use Prim.Native.Nat.{ℕ, suc, _+_, _*_, _≤_, _<_}
+use Prim.Native.Nat.{ℕ, suc, _≤_, _<_}
 use mathlib.Core.Path.{_≡_}
 use mathlib.Core.Bool.{Bool, true, false, _&&_, cond}
 use mathlib.Core.Option.{Option, none, some}
 use mathlib.Core.List.{List, [], _∷_}
 use lib.Dec.{eqb, leb, ltb}
 use lib.ListN.{length, getD, take, drop}
-use lib.Seq.{sets}
 use Rattle.text.specs.Table.{tableSize}
 use Rattle.store.specs.Words.{storeSize, worldOf}
-use Rattle.steps.specs.Run.{Call}
 use Rattle.reporting.specs.Memory.{isMemory}
 use Rattle.text_form.specs.Cells.{until}
 use Rattle.text_form.specs.Lines.{maximumLine}
-use Rattle.text_form.specs.Rows.{lineFeed, row}
-use Rattle.text_form.specs.Reader.{Phase, first, later, ended, Reader, reader, Read, read, isEnded, columnsIn, lineEffect, start, endLine, readBytes, endInput, lastLine}
+use Rattle.text_form.specs.Rows.{lineFeed}
+use Rattle.text_form.specs.Reader.{Phase, first, later, ended, Reader, reader, Read, read, isEnded, columnsIn, start, endLine, readBytes, endInput, lastLine}
+use Rattle.text_line.specs.Lines.{rowRoom}
 use Rattle.text_reader.specs.declared.Progress.{Progress}
 
 -- words of state: the phase, the lines so far, the bytes of the line that has begun, then the seven columns
@@ -52,22 +51,10 @@ isState state = eqb (length state) stateSize && (areBelow 7 (columnWords state) 
 unfoldable pub isReader : List ℕ → List ℕ → List ℕ → List ℕ → Bool
 isReader words cells state line = isMemory words cells && (isState state && eqb (length line) maximumLine)
 
--- room for the heading and the longest row
-abbrev pub rowRoom : ℕ
-rowRoom = 4800
-
 -- what is taken of a piece: all up to and with its first line feed, and nothing once reading has ended
 abbrev pub takenOf : Bool → List ℕ → ℕ
 takenOf true piece = 0
 takenOf false piece = cond (ltb (until lineFeed piece) (length piece)) (suc (until lineFeed piece)) (length piece)
-
--- one line done: its row from the start on, and what the memory holds then
-pub record LineDone (words cells rows : List ℕ) (number : ℕ) (call : Option Call) (words′ cells′ rows′ : List ℕ) (size : ℕ) : Type 0 where
-  pub shows : rows′ ≡ sets rows 0 (row number (lineEffect (worldOf words cells) call .response))
-  pub sized : size ≡ length (row number (lineEffect (worldOf words cells) call .response))
-  pub fits : size ≤ length rows
-  pub leaves : worldOf words′ cells′ ≡ lineEffect (worldOf words cells) call .world
-  pub memory : isMemory words′ cells′ ≡ true
 
 -- a line is complete, of this size
 pub record LineEnded (words cells state line rows : List ℕ) (size : ℕ) (words′ cells′ state′ rows′ : List ℕ) (written : ℕ) : Type 0 where

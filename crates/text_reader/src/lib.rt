@@ -1,5 +1,4 @@
 // Steps from a text, in pieces of any size: rows come out as lines are complete.
-// line: one line performed, and its row.
 use text_cells::cells;
 use text_cells::names;
 ghost use mathlib.Core.Path.{_≡_};
@@ -10,9 +9,8 @@ ghost use lib.Seq.{paste};
 ghost use Rattle.reporting.specs.Memory.{isMemory};
 ghost use Rattle.text_form.specs.Lines.{maximumLine};
 ghost use Rattle.text_form.specs.Reader.{added, isEnded};
-ghost use Rattle.text_reader.specs.Memory.{stateSize, phaseIn, lineOf, areBelow, isState, rowRoom, isAccepted, LineEnded, Started, Fed, Ended, NamesPut, PieceRead, LastRead};
-
-pub mod line;
+ghost use Rattle.text_line.specs.Lines.{rowRoom};
+ghost use Rattle.text_reader.specs.Memory.{stateSize, phaseIn, lineOf, areBelow, isState, isAccepted, LineEnded, Started, Fed, Ended, NamesPut, PieceRead, LastRead};
 
 // Bytes taken of a piece and bytes of rows written; none where the call is refused.
 pub struct Progress {
@@ -189,9 +187,9 @@ fn end_later(
     state[2] = 0;
     if size <= MAXIMUM_LINE {
         let end = size as usize;
-        return line::perform_line(words, strings, &state[3..], &line[..end], number, rows);
+        return text_line::perform_line(words, strings, &state[3..], &line[..end], number, rows);
     }
-    line::refuse(words, strings, number, rows)
+    text_line::refuse(words, strings, number, rows)
 }
 
 fn end_line(

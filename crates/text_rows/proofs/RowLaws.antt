@@ -8,7 +8,8 @@ use lib.ListN.{length, getD, set, drop, length-append, drop-of-length-le}
 use lib.Seq.{sets, sets-eq, drop-cons}
 use Rattle.property.specs.declared.DescriptorObject.{DescriptorObject}
 use Rattle.record.specs.Descriptor.{descriptorBytes}
-use Rattle.byte_records.proofs.ByteLaws.{sets-append, length-value}
+use Rattle.record.proofs.RoundTrip.{length-value}
+use Rattle.byte_records.proofs.ByteLaws.{sets-append}
 use Rattle.text_form.specs.Cells.{space}
 use Rattle.text_form.specs.Rows.{decimal, hexadecimal, lineFeed, rowOf}
 use Rattle.text_rows.specs.Written.{Written, lastCell}

@@ -1,7 +1,7 @@
 use native.Mathlib.Omega.{arith}
 use mathlib.Core.Path.{sym}
 use Rattle.record.specs.Bytes.{valueBytes}
-use Rattle.byte_records.proofs.ByteLaws.{length-value}
+use Rattle.record.proofs.RoundTrip.{length-value}
 use Rattle.text_rows.proofs.RowLaws.{widen, filled-written}
 use borrow.Author.Needs.{needs}
 use Rattle.text_rows.proofs.put_value.Statement.{statement}

@@ -9,16 +9,9 @@ use lib.Dec.{eqb}
 use lib.ListN.{length, getD, take, drop, length-append, length-replicate, take-append-drop}
 use lib.Seq.{sets, take-at, length-take-le}
 use borrow.Author.Tests.{leb-true, le-leb, eq-eqb, ne-eqb}
-use Rattle.value.specs.declared.PropertyKey.{PropertyKey}
-use Rattle.value.specs.PropertyKey.{keyValue}
-use Rattle.value.proofs.Bools.{and-true, and-both}
-use Rattle.text.specs.Table.{isTable}
 use Rattle.store.specs.Store.{World}
-use Rattle.store.specs.Words.{isStore, storeOf, worldOf}
-use Rattle.record.specs.Bytes.{valueSize, valueBytes, areZero}
-use Rattle.record.proofs.RoundTrip.{length-value}
-use Rattle.steps.specs.declared.Outcome.{Outcome}
-use Rattle.steps.specs.declared.Outcome.the-variants.{Refused, Result, TypeError, Thrown}
+use Rattle.store.specs.Words.{worldOf}
+use Rattle.record.specs.Bytes.{valueSize, areZero}
 use Rattle.steps.specs.declared.Report.{Report}
 use Rattle.steps.specs.Perform as result
 use Rattle.steps.specs.Response.{Effect, refusal, completionOf, outcomeOf, outcomeNumber, refusalOrMessage, reportOf}
@@ -28,7 +21,9 @@ use Rattle.steps.specs.Run.{Call, effect}
 use Rattle.steps.specs.Run as call
 use Rattle.steps.proofs.Steps.{Ends, inadmissible, refuses, errs, throws, short, results, ends, EntryEnds, enters, entry-ends}
 use Rattle.steps.proofs.Steps as entry
-use Rattle.reporting.specs.Memory.{Shown, shown, shownBy, isMemory, stepOver, enterOver, WordsAfter, Stepped, StringEntered}
+use Rattle.steps.proofs.Outputs.{length-keys}
+use Rattle.reporting.specs.Memory.{Shown, shown, shownBy, isMemory, Stepped, StringEntered}
+use Rattle.reporting.proofs.ContractLaws.{step-shows, step-memory, entry-shows, entry-memory}
 use Rattle.text_form.specs.Cells.{cellsOf, isDash, someBytesIn, unitsOf, unitsIn, sheetIn, textIn, withUnit}
 use Rattle.text_form.specs.Lines.{keyRoom, cellUnder, recordIn, stepWith, entryOf, callIn}
 use Rattle.text_form.specs.Rows.{resultBytes, endingBytes, rowOf, row}
@@ -37,12 +32,7 @@ use Rattle.text_rows.specs.ReportRows.{completionBytes, outcomeBytes, reportRow
 use Rattle.text_cells.specs.declared.hexadecimal.Decoded.{Decoded}
 use Rattle.text_cells.specs.declared.hexadecimal.Decoded.the-variants.{Broken, Bytes}
 use Rattle.text_cells.specs.Answers.{told, decoded, Within, Located}
-use Rattle.text_reader.specs.Memory.{LineDone}
-
-length-keys : (ks : List PropertyKey) → length (keysBytes ks) ≡ valueSize * length ks
-unfolding keysBytes
-length-keys [] = refl
-length-keys (k ∷ ks) = omega (arith, length-append (valueBytes (keyValue k)) (keysBytes ks), length-value (keyValue k), length-keys ks)
+use Rattle.text_line.specs.Lines.{LineDone}
 
 -- a result's keys stand in the output, which has room for at most 256
 result-told : (r : result.Result) (output : List ℕ) → length output ≤ 2304 → outputHolds r output ≡ true
@@ -79,26 +69,7 @@ written rows rows′ n size r out x e t w =
     let z : 0 + length (reportRow n r out) ≡ length (reportRow n r out) = omega arith in
     (w .0 ∙ ap (sets rows 0) f, w .1 ∙ z ∙ ap length f)
 
--- what a result leaves is a store still
-still : (o : Outcome) (before after : List ℕ) → isStore before ≡ true → WordsAfter o before after → isStore after ≡ true
-still (Refused n) before after h w = rw w h
-still (Result c) before after h w = w .kept
-still (TypeError n) before after h w = rw w h
-still (Thrown v) before after h w = rw w h
-
 module _ (words cells : List ℕ) (m : isMemory words cells ≡ true) where
-  store-is : isStore words ≡ true
-  unfolding isMemory
-  store-is = and-true (isStore words) (isTable cells) m .0
-
-  table-is : isTable cells ≡ true
-  unfolding isMemory
-  table-is = and-true (isStore words) (isTable cells) m .1
-
-  memory-with : (words′ cells′ : List ℕ) → isStore words′ ≡ true → isTable cells′ ≡ true → isMemory words′ cells′ ≡ true
-  unfolding isMemory
-  memory-with words′ cells′ s t = and-both _ _ s t
-
   pub refused-done : (rows rows′ : List ℕ) (n size : ℕ) (r : Report) → r ≡ reportOf (refusal 12) → (rows′ ≡ sets rows 0 (reportRow n r [])) × (size ≡ 0 + length (reportRow n r [])) → size ≤ length rows
       → LineDone words cells rows n none words cells rows′ size
   refused-done rows rows′ n size r e w f =
@@ -106,34 +77,31 @@ module _ (words cells : List ℕ) (m : isMemory words cells ≡ true) where
       record { shows = p .0; sized = p .1; fits = f; leaves = refl; memory = m }
 
   module _ (bytes sheet output : List ℕ) (room : length output ≤ 2304) (r : Report) (after out : List ℕ) (h : Stepped words cells bytes sheet output r after out) where
-    step-shows : shown r after cells out ≡ shownBy (step (worldOf words cells) bytes sheet output)
-    unfolding stepOver
-    step-shows = h .shows ∙ rw m
+    shows : shown r after cells out ≡ shownBy (step (worldOf words cells) bytes sheet output)
+    shows = step-shows words cells m h
 
     pub step-held : Held (r .outcome) out
-    step-held = subst (λ (y : Shown). Held (y .report .outcome) (y .output)) (sym step-shows) (step-told room (ends (worldOf words cells) bytes sheet output) .held)
+    step-held = subst (λ (y : Shown). Held (y .report .outcome) (y .output)) (sym shows) (step-told room (ends (worldOf words cells) bytes sheet output) .held)
 
     pub step-done : (rows rows′ : List ℕ) (n size : ℕ) → (rows′ ≡ sets rows 0 (reportRow n r out)) × (size ≡ 0 + length (reportRow n r out)) → size ≤ length rows
         → LineDone words cells rows n (some (call.step bytes sheet output)) after cells rows′ size
     unfolding effect
     step-done rows rows′ n size w f =
-        let p = written rows rows′ n size r out (step (worldOf words cells) bytes sheet output) (ap (λ (y : Shown). reportRow n (y .report) (y .output)) step-shows) (step-told room (ends (worldOf words cells) bytes sheet output)) w in
+        let p = written rows rows′ n size r out (step (worldOf words cells) bytes sheet output) (ap (λ (y : Shown). reportRow n (y .report) (y .output)) shows) (step-told room (ends (worldOf words cells) bytes sheet output)) w in
         record {
           shows = p .0;
           sized = p .1;
           fits = f;
-          leaves = ap (λ (y : Shown). y .world) step-shows;
-          memory = memory-with after cells (still (r .outcome) words after store-is (h .writes)) table-is;
+          leaves = ap (λ (y : Shown). y .world) shows;
+          memory = step-memory words cells m h;
         }
 
   module _ (units : List ℕ) (r : Report) (after : List ℕ) (h : StringEntered cells units r after) where
     entry-report : r ≡ reportOf (enterString (worldOf words cells) units .response)
-    unfolding enterOver
-    entry-report = ap (λ (y : Shown). y .report) (h .shows (storeOf words)) ∙ rw table-is
+    entry-report = ap (λ (y : Shown). y .report) (entry-shows words cells m h)
 
     entry-world : worldOf words after ≡ enterString (worldOf words cells) units .world
-    unfolding enterOver
-    entry-world = ap (λ (y : Shown). y .world) (h .shows (storeOf words)) ∙ rw table-is
+    entry-world = ap (λ (y : Shown). y .world) (entry-shows words cells m h)
 
     entry-output : enterString (worldOf words cells) units .output ≡ []
     entry-output = go (entry-ends (worldOf words cells) units)
@@ -151,7 +119,7 @@ module _ (words cells : List ℕ) (m : isMemory words cells ≡ true) where
     entry-done rows rows′ n size w f =
         let x = enterString (worldOf words cells) units in
         let p = written rows rows′ n size r [] x (ap (λ (y : Report). reportRow n y []) entry-report ∙ ap (reportRow n (reportOf (x .response))) (sym entry-output)) (entry-told (entry-ends (worldOf words cells) units)) w in
-        record { shows = p .0; sized = p .1; fits = f; leaves = entry-world; memory = memory-with words after store-is (h .table ∙ table-is) }
+        record { shows = p .0; sized = p .1; fits = f; leaves = entry-world; memory = entry-memory words cells m h }
 
 pub key-room : length keyRoom ≤ 2304
 key-room = omega (arith, length-replicate {A = ℕ} 2304 0)
@@ -216,6 +184,15 @@ front-length n written rest e = rw (take-at written rest n e) (sym e)
 
 pub front-units : (n : ℕ) (written rest : List ℕ) {o : Option (List ℕ)} → length written ≡ n → o ≡ some written → some (take n (written ++ rest)) ≡ o
 front-units n written rest e h = rw (take-at written rest n e) (sym h)
+
+-- the sheet in a cell
+pub dash-sheet : (cell : List ℕ) → isDash cell ≡ true → some (0 ∷ []) ≡ sheetIn cell
+unfolding sheetIn
+dash-sheet cell h = rw h
+
+pub some-sheet : (cell : List ℕ) {o : Option (List ℕ)} → isDash cell ≡ false → o ≡ someBytesIn cell → o ≡ sheetIn cell
+unfolding sheetIn
+some-sheet cell h e = rw h e
 
 -- the text in a cell
 pub dash-text : (cell : List ℕ) → isDash cell ≡ true → unitsOf [] ≡ textIn cell

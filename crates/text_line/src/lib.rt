@@ -17,7 +17,7 @@ ghost use Rattle.reporting.specs.Memory.{isMemory};
 ghost use Rattle.text_cells.specs.Answers.{AreColumns};
 ghost use Rattle.text_form.specs.Cells.{sheetIn, textIn, unitsOf};
 ghost use Rattle.text_form.specs.Lines.{keyRoom, stepWith, entryOf, callIn};
-ghost use Rattle.text_reader.specs.Memory.{rowRoom, LineDone};
+ghost use Rattle.text_line.specs.Lines.{rowRoom, LineDone};
 
 // Refusal 12.
 pub fn refuse(words: &[u64], strings: &[u16], number: u64, rows: &mut [u8]) -> usize
@@ -44,7 +44,7 @@ fn perform_step(
     text_rows::put_row(rows, 0, number, report, &output)
 }
 
-// A step whose sheet stands in a cell.
+// A step whose sheet stands in a cell; a dash is the sheet of no answers.
 fn step_line(
     words: &mut [u64],
     strings: &[u16],
@@ -56,8 +56,12 @@ fn step_line(
     requires { ⌜ (isMemory (now words) (now strings) ≡ true) × ((rowRoom ≤ length (now rows)) × (length (now cell) ≤ 16384)) ⌝ }
     ensures { λ r. ⌜ LineDone (now (words .entry)) (now (strings .entry)) (now (rows .entry)) number (stepWith (now (bytes .entry)) (sheetIn (now (cell .entry)))) (now (words .exit)) (now (strings .entry)) (now (rows .exit)) r ⌝ }
 {
+    if hexadecimal::is_dash(cell) {
+        let sheet = [0u8; 1];
+        return perform_step(words, strings, bytes, &sheet, number, rows);
+    }
     let mut sheet = [0u8; 8192];
-    match hexadecimal::put_sheet(cell, &mut sheet) {
+    match hexadecimal::put_some(cell, &mut sheet) {
         Decoded::Broken => refuse(words, strings, number, rows),
         Decoded::Bytes(n) => perform_step(words, strings, bytes, &sheet[..n], number, rows),
     }
