@@ -1,5 +1,5 @@
 // 10.1.1 and 10.5.1 [[GetPrototypeOf]].
-// setting, setting_trap: 10.1.2 and 10.5.2 [[SetPrototypeOf]]. chain: the walk of 10.1.2.1 step 7.
+// set_prototype, set_prototype_trap: 10.1.2 and 10.5.2 [[SetPrototypeOf]]. chain: the walk of 10.1.2.1 step 7.
 use calls::BooleanOut;
 use calls::Entered;
 use calls::Progress;
@@ -17,10 +17,10 @@ ghost use Rattle.internal_methods.specs.Internal.{methods};
 ghost use Rattle.calls.specs.Outs.{Readable, context, stateOf, outValue};
 
 mod chain;
-mod setting;
-mod setting_trap;
+mod set_prototype;
+mod set_prototype_trap;
 
-pub use setting::set_prototype_of;
+pub use set_prototype::set_prototype_of;
 
 // 10.1.1.1 OrdinaryGetPrototypeOf ( O )
 fn ordinary_get_prototype_of(object: OrdinaryObject) -> Value

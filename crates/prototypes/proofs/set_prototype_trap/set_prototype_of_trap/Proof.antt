@@ -4,8 +4,8 @@ use Rattle.internal_methods.specs.Monad.{pure, fails, next, _>>=_, throwIf, if_
 use Rattle.internal_methods.specs.Proxy.{proxySetPrototypeOf}
 use Rattle.extensibility.proofs.WriteLaws.{nothing-fits}
 use borrow.Author.Needs.{needs}
-use Rattle.prototypes.proofs.setting_trap.set_prototype_of_trap.Statement.{statement}
-use Rattle.prototypes.proofs.setting_trap.set_prototype_of_trap.Tie as tie
+use Rattle.prototypes.proofs.set_prototype_trap.set_prototype_of_trap.Statement.{statement}
+use Rattle.prototypes.proofs.set_prototype_trap.set_prototype_of_trap.Tie as tie
 
 returns : tie.Need-returns
 unfolding pure fails next _>>=_ throwIf if_then_else_ proxySetPrototypeOf

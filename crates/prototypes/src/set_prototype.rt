@@ -1,6 +1,6 @@
 // 10.1.2 and 10.5.2 [[SetPrototypeOf]].
 use crate::chain;
-use crate::setting_trap;
+use crate::set_prototype_trap;
 use calls::Entered;
 use calls::Progress;
 use calls::WriteOut;
@@ -103,7 +103,7 @@ fn proxy_exotic_set_prototype_of(
 {
     let target = p.target;
     if calls::has_trap(p, 1) {
-        setting_trap::set_prototype_of_trap(words, strings, allowance, sheet, p, v, depth, s)
+        set_prototype_trap::set_prototype_of_trap(words, strings, allowance, sheet, p, v, depth, s)
     } else {
         set_prototype_of(words, strings, allowance, sheet, target, v, depth, s) // 6
     }

@@ -3,8 +3,8 @@ use mathlib.Core.Path.{sym, _∙_}
 use Rattle.internal_methods.specs.Ordinary.{ordinarySetPrototypeOf}
 use Rattle.extensibility.proofs.WriteLaws.{nothing-fits, object-fits}
 use borrow.Author.Needs.{needs}
-use Rattle.prototypes.proofs.setting.ordinary_set_prototype_of.Statement.{statement}
-use Rattle.prototypes.proofs.setting.ordinary_set_prototype_of.Tie as tie
+use Rattle.prototypes.proofs.set_prototype.ordinary_set_prototype_of.Statement.{statement}
+use Rattle.prototypes.proofs.set_prototype.ordinary_set_prototype_of.Tie as tie
 
 returns : tie.Need-returns
 unfolding ordinarySetPrototypeOf

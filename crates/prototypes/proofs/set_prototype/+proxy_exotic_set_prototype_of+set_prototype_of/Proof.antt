@@ -9,21 +9,21 @@ use Rattle.calls.proofs.Cycle.{at, below}
 use Rattle.calls.proofs.EnterLaws.{set-prototype-of-goes-on, is-below}
 use Prim.Native.Nat.{ℕ}
 use borrow.Fn.PlainCycle.{Measures}
-use Rattle.prototypes.proofs.setting.proxy_exotic_set_prototype_of.Reads as proxy-exotic-set-prototype-of
-use Rattle.prototypes.proofs.setting.proxy_exotic_set_prototype_of.Kinds as proxy-exotic-set-prototype-of-kinds
-use Rattle.prototypes.proofs.setting.+proxy_exotic_set_prototype_of+set_prototype_of.Lts-proxy_exotic_set_prototype_of as proxy-exotic-set-prototype-of-lts
-use Rattle.prototypes.proofs.setting.set_prototype_of.Reads as set-prototype-of
-use Rattle.prototypes.proofs.setting.set_prototype_of.Kinds as set-prototype-of-kinds
-use Rattle.prototypes.proofs.setting.+proxy_exotic_set_prototype_of+set_prototype_of.Lts-set_prototype_of as set-prototype-of-lts
+use Rattle.prototypes.proofs.set_prototype.proxy_exotic_set_prototype_of.Reads as proxy-exotic-set-prototype-of
+use Rattle.prototypes.proofs.set_prototype.proxy_exotic_set_prototype_of.Kinds as proxy-exotic-set-prototype-of-kinds
+use Rattle.prototypes.proofs.set_prototype.+proxy_exotic_set_prototype_of+set_prototype_of.Lts-proxy_exotic_set_prototype_of as proxy-exotic-set-prototype-of-lts
+use Rattle.prototypes.proofs.set_prototype.set_prototype_of.Reads as set-prototype-of
+use Rattle.prototypes.proofs.set_prototype.set_prototype_of.Kinds as set-prototype-of-kinds
+use Rattle.prototypes.proofs.set_prototype.+proxy_exotic_set_prototype_of+set_prototype_of.Lts-set_prototype_of as set-prototype-of-lts
 use Rattle.calls.proofs.enter.Reads as enter-reads
 use Rattle.calls.proofs.ordinary_at.Reads as ordinary-at-reads
 use Rattle.calls.proofs.has_trap.Reads as has-trap-reads
-use Rattle.prototypes.proofs.setting.ordinary_set_prototype_of.Reads as ordinary-set-prototype-of-reads
-use Rattle.prototypes.proofs.setting_trap.set_prototype_of_trap.Reads as set-prototype-of-trap-reads
-use Rattle.prototypes.proofs.setting.+proxy_exotic_set_prototype_of+set_prototype_of.{
+use Rattle.prototypes.proofs.set_prototype.ordinary_set_prototype_of.Reads as ordinary-set-prototype-of-reads
+use Rattle.prototypes.proofs.set_prototype_trap.set_prototype_of_trap.Reads as set-prototype-of-trap-reads
+use Rattle.prototypes.proofs.set_prototype.+proxy_exotic_set_prototype_of+set_prototype_of.{
   statement,
 }
-use Rattle.prototypes.proofs.setting.+proxy_exotic_set_prototype_of+set_prototype_of.Tie.{
+use Rattle.prototypes.proofs.set_prototype.+proxy_exotic_set_prototype_of+set_prototype_of.Tie.{
   close,
 }
 
