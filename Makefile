@@ -1,15 +1,12 @@
 # rt is Rattle's command: it proves the crates of crates.txt and runs their programs.
-.PHONY: run page test text-check day-check edits bench bench-text cost vectors messages engines engine-check engine-damage install-engines lib c-test bindings example fuzz
+.PHONY: run test text-check day-check edits bench bench-text cost vectors messages engines engine-check engine-damage install-engines lib c-test bindings example fuzz
 
-# A day of steps and string entries over one store, as a text of cells: a row for each.
+# A day of steps and string entries over one store, performed by the proved program: each call and what came of it. It needs cargo.
 run:
-	rt check text_steps
-	target/bin/text_steps < crates/text_steps/stdin
-
-# The same for reading: each step of bindings/rust/examples/day.steps and what came of it. It needs cargo.
-page: lib
-	rt check text_steps
-	target/bin/text_steps < crates/text_steps/stdin | (cd bindings/rust && cargo run --quiet --offline --bin steps -- --rows examples/day.steps)
+	@tests/install.sh cargo
+	@tests/progress.sh rt check text_steps
+	@tests/progress.sh $(MAKE) --no-print-directory lib
+	@target/bin/text_steps < crates/text_steps/stdin | (cd bindings/rust && cargo run --quiet --offline --bin steps -- --rows examples/day.steps)
 
 # The gate. It starts from nothing and ends in 'N passed, 0 failed'.
 test:

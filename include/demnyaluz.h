@@ -435,8 +435,8 @@ bool demnyaluz_text_start(uint64_t *words, size_t words_length, uint16_t *string
  * The next piece of the text. It is taken up to its first line feed and with it, or whole where it has none; where a line ended, its row is written, and
  * the heading for the first line. result: how many bytes of the piece were taken, how many bytes of rows were written. The caller
  * hands in the rest of the piece until all is taken. Once reading has ended, by a broken first line or by demnyaluz_text_end, nothing is
- * taken any more. Lengths other than those above, counts of store or table that exceed what it can hold, or a state that no call leaves: false,
- * the result is 0 and 0, and nothing else changes.
+ * taken any more. Lengths other than those above, counts of store or table that exceed what it can hold, a state that names a column above the
+ * seventh, or one that has counted 2^64 - 1 lines: false, the result is 0 and 0, and nothing else changes.
  */
 bool demnyaluz_text_feed(uint64_t *words, size_t words_length, uint16_t *strings, size_t strings_length, uint64_t *state, size_t state_length,
                          uint8_t *line, size_t line_length, const uint8_t *piece, size_t piece_length, uint8_t *rows, size_t rows_length,

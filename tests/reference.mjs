@@ -1,6 +1,6 @@
 // Whether docs/REFERENCE.md and include/demnyaluz.h name the same numbers: every constant of the header's enums stands in exactly one table row,
-// its number in the first cell and its name, without DEMNYALUZ_, in the second; the row of a message has in its last cell the text that
-// crates/message has. Prints each difference, and fails if there is one.
+// its number in the first cell and its name, without DEMNYALUZ_, in the second; and the texts of the messages, each in a line behind its number, are
+// those of crates/message. Prints each difference, and fails if there is one.
 //
 //     node tests/reference.mjs [REFERENCE.md [demnyaluz.h]]
 import { readFileSync } from "node:fs";
@@ -44,11 +44,17 @@ for (const [i, line] of content.split("\n").entries()) {
     else rows.set(name, i + 1);
     if (number === undefined) differences.push(`${where}: the header has no such name`);
     else if (number !== Number(cells[0])) differences.push(`${where}: ${cells[0]}, the header has ${number}`);
-    if (!name.startsWith("MESSAGE_") || number === undefined) continue;
-    const text = cells.at(-1).replace(/^`(.*)`$/, "$1");
-    if (text !== texts[number]) differences.push(`${where}: '${text}', crates/message has '${texts[number]}'`);
 }
 for (const name of numbers.keys()) if (!rows.has(name)) differences.push(`${name}: no row`);
+
+// The texts of the messages in the document, in their order.
+const section = content.split(/^## /m).find((part) => part.startsWith("Messages\n")) ?? "";
+const told = [...section.matchAll(/^ {4}(\d+) (.*)$/gm)];
+for (const [i, [, number, text]] of told.entries()) {
+    if (Number(number) !== i + 1) differences.push(`the text of message ${number}: stands where that of ${i + 1} is expected`);
+    if (text !== texts[number]) differences.push(`the text of message ${number}: '${text}', crates/message has '${texts[number]}'`);
+}
+if (told.length !== texts.length - 1) differences.push(`the document has ${told.length} texts of messages, crates/message ${texts.length - 1}`);
 
 // Names outside of the tables.
 const groups = [...new Set([...numbers.keys()].map((name) => name.split("_")[0]))].join("|");

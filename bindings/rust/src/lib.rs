@@ -29,6 +29,7 @@
 mod descriptor;
 pub mod lent;
 pub mod notation;
+mod page;
 pub mod raw;
 pub mod readable;
 mod report;

@@ -1,8 +1,9 @@
 //! The C interface as it is: `include/demnyaluz.h` in the repository says what each function does. [`lent`](crate::lent) has the same over slices.
 //!
 //! # Safety
-//! Every function takes memory of any content and length. Each pointer must be good for its length, a report for
-//! [`REPORT_WORDS`](crate::REPORT_WORDS) words and a result for two, and nothing that is written may overlap anything else that is lent.
+//! Every function takes memory of any content and length. Each pointer must be good for its length, and may be null where that is 0; a
+//! report must be good for [`REPORT_WORDS`](crate::REPORT_WORDS) words and a result for two. Nothing that is written may overlap anything else
+//! that is lent.
 //!
 //! ```
 //! use demnyaluz::raw;

@@ -177,6 +177,10 @@ pub fn report(r: &Report, strings: &Strings) -> String {
         Err(failure @ Failure::Refused(_)) => return failure.to_string(),
         Err(failure) => failure.to_string(),
     };
-    let plural = |n: u32, what: &str| format!("{n} {what}{}", if n == 1 { "" } else { "s" });
     format!("{outcome} ({}, {})", plural(r.answers, "answer"), plural(r.calls, "call"))
+}
+
+/// `1 call`, `2 calls`.
+pub(crate) fn plural(n: u32, what: &str) -> String {
+    format!("{n} {what}{}", if n == 1 { "" } else { "s" })
 }

@@ -1,6 +1,7 @@
 //! The rows that [`TextReader`](crate::TextReader) writes, read back.
 use crate::descriptor::{Property, PropertyDescriptor};
-use crate::notation::{Call, Line, Strings};
+use crate::notation::{Call, Line};
+use crate::page::Page;
 use crate::readable;
 use crate::report::{self, Completion, Failure, Message, Refusal, Report};
 use crate::step::Step;
@@ -253,10 +254,11 @@ impl std::error::Error for Error {
     }
 }
 
-/// Reads the rows of the calls, under their heading, and writes each beside its call:
+/// Reads the rows of the calls, under their heading, and writes each beside its call; lines alike are one line:
 ///
 /// ```text
-/// 20: get o1 "visits" receiver o1 answers: 4464 -> TypeError 17: Proxy trap returned unexpected data descriptor (1 answer, 2 calls)
+/// 20: get o1 "visits", handler answers 4464: TypeError 17, Proxy trap returned unexpected data descriptor (1 answer, 2 calls)
+/// 97 to 120: object: o8 to o31 (0 answers, 0 calls)
 /// ```
 ///
 /// # Errors
@@ -269,39 +271,37 @@ impl std::error::Error for Error {
 /// let calls = notation::parse("object")?;
 /// let mut shown = Vec::new();
 /// rows::show(&calls, format!("{}\n1 1 0 0 0 070000000000000000\n", rows::HEADING).as_bytes(), &mut shown)?;
-/// assert_eq!(shown, b"1: object -> o0 (0 answers, 0 calls)\n");
+/// assert_eq!(shown, b"1: object: o0 (0 answers, 0 calls)\n");
 /// # Ok::<(), Box<dyn std::error::Error>>(())
 /// ```
 pub fn show(calls: &[Line], mut rows: impl BufRead, shown: &mut impl Write) -> Result<(), Error> {
-    match next(&mut rows)? {
+    let mut page = Page::default();
+    let done = show_on(&mut page, calls, &mut rows, shown);
+    let flushed = page.flush(shown).map_err(Error::Write);
+    done.and(flushed)
+}
+
+fn show_on(page: &mut Page, calls: &[Line], rows: &mut impl BufRead, shown: &mut impl Write) -> Result<(), Error> {
+    match next(rows)? {
         Some(line) if line == HEADING => {}
         found => return Err(Error::Heading { found }),
     }
-    let mut strings = Strings::new();
     for (line, Line { call, .. }) in (1..).zip(calls) {
-        let told = readable::call(call, &strings);
-        let Some(row) = next(&mut rows)? else {
-            return Err(Error::Missing { line, call: told, calls: calls.len() });
+        let told = || readable::call(call, page.strings());
+        let Some(row) = next(rows)? else {
+            return Err(Error::Missing { line, call: told(), calls: calls.len() });
         };
         if row == "0 0 12 0 0 -" {
             return Err(Error::Names);
         }
         let report = match Row::parse(&row, call) {
             Ok(read) if read.line == line => read.report,
-            Ok(_) => return Err(Error::OtherLine { line, call: told, row }),
-            Err(source) => return Err(Error::Malformed { line, call: told, row, source }),
+            Ok(_) => return Err(Error::OtherLine { line, call: told(), row }),
+            Err(source) => return Err(Error::Malformed { line, call: told(), row, source }),
         };
-        let report = match (call, &report.outcome) {
-            // an entry makes no calls
-            (Call::Enter(_), Ok(Completion::Value(v))) => v.to_string(),
-            _ => readable::report(&report, &strings),
-        };
-        if let Call::Enter(units) = call {
-            strings.enter(units);
-        }
-        writeln!(shown, "{line}: {told} -> {report}").map_err(Error::Write)?;
+        page.write(line, call, &report, shown).map_err(Error::Write)?;
     }
-    match next(&mut rows)? {
+    match next(rows)? {
         None => Ok(()),
         Some(row) => Err(Error::LeftOver { calls: calls.len(), row }),
     }

@@ -313,6 +313,34 @@ impl Step {
     /// How many bytes the record of a step has.
     pub const SIZE: usize = 58;
 
+    /// The object that the step is on, the target where it makes a proxy; none where it makes an ordinary object.
+    ///
+    /// ```
+    /// use demnyaluz::{ObjectId, Step};
+    ///
+    /// assert_eq!(Step::IsExtensible { object: ObjectId(1) }.object(), Some(ObjectId(1)));
+    /// assert_eq!(Step::MakeObject { prototype: None }.object(), None);
+    /// ```
+    #[must_use]
+    pub fn object(&self) -> Option<ObjectId> {
+        match *self {
+            Step::MakeObject { .. } => None,
+            Step::MakeProxy { target: object, .. }
+            | Step::Revoke { proxy: object }
+            | Step::GetPrototypeOf { object }
+            | Step::SetPrototypeOf { object, .. }
+            | Step::IsExtensible { object }
+            | Step::PreventExtensions { object }
+            | Step::GetOwnProperty { object, .. }
+            | Step::DefineOwnProperty { object, .. }
+            | Step::HasProperty { object, .. }
+            | Step::Get { object, .. }
+            | Step::Set { object, .. }
+            | Step::Delete { object, .. }
+            | Step::OwnPropertyKeys { object } => Some(object),
+        }
+    }
+
     /// The code: the first byte of its record.
     #[must_use]
     pub fn code(&self) -> u8 {

@@ -126,20 +126,20 @@ fn rows_are_shown_beside_their_calls() {
         "14 0 12 0 0 -".to_string(),
     ];
     let shown = [
-        "1: object -> o0 (0 answers, 0 calls)",
-        "2: string \"a\" -> s0",
-        "3: has o0 \"a\" -> false (0 answers, 2 calls)",
-        "4: string \"\\u0007\\\"\" -> s1",
-        "5: string \"a\" -> s0",
-        "6: get o0 s7 receiver o0 -> refused 3: a string was not entered or is too long, or a part has a kind that cannot be used",
-        "7: proxy o0 traps has, get -> o1 (0 answers, 0 calls)",
-        "8: get o1 \"a\" receiver o1 answers: 1, throw y3, [\"a\", -0.0] -> thrown \"a\" (2 answers, 3 calls)",
-        "9: getOwnPropertyDescriptor o0 \"a\" -> {value: \"\\u0007\\\"\", writable: true, enumerable: true, configurable: false} (0 answers, 1 call)",
-        "10: string \"b\" -> s2",
-        "11: getOwnPropertyDescriptor o0 \"b\" -> absent (0 answers, 1 call)",
-        "12: ownKeys o0 -> [\"a\", y3] (0 answers, 1 call)",
-        "13: ownKeys o1 -> [] (64 answers, 2048 calls)",
-        "14: set o0 y1 Infinity receiver o0 -> refused 12: the line breaks its form or is too long",
+        "1: object: o0 (0 answers, 0 calls)",
+        "2: string \"a\": s0",
+        "3: has o0 \"a\": false (0 answers, 2 calls)",
+        "4: string \"\\u0007\\\"\": s1",
+        "5: string \"a\": s0",
+        "6: get o0 s7: refused 3, a string was not entered or is too long, or a part has a kind that cannot be used",
+        "7: proxy o0 traps has, get: o1 (0 answers, 0 calls)",
+        "8: get o1 \"a\", handler answers 1, then throw y3, then [\"a\", -0.0]: thrown \"a\" (2 answers, 3 calls)",
+        "9: getOwnPropertyDescriptor o0 \"a\": {value: \"\\u0007\\\"\", writable: true, enumerable: true, configurable: false} (0 answers, 1 call)",
+        "10: string \"b\": s2",
+        "11: getOwnPropertyDescriptor o0 \"b\": absent (0 answers, 1 call)",
+        "12: ownKeys o0: [\"a\", y3] (0 answers, 1 call)",
+        "13: ownKeys o1: [] (64 answers, 2048 calls)",
+        "14: set o0 y1 Infinity: refused 12, the line breaks its form or is too long",
     ];
     let file = Steps::new("shown", &text);
     let ran = file.rows(&format!("{ROWS}{}\n", rows.join("\n")));
@@ -337,4 +337,58 @@ fn the_example_runs() {
         assert!(told.lines().any(|l| l == line), "{line}");
     }
     assert!(told.ends_with("   70000 (0 answers, 2 calls)\n"));
+}
+
+/// Lines alike are one line: the same call with the same outcome, or with the next object each time. Answers alike are told together.
+#[test]
+fn lines_alike_are_shown_as_one() {
+    let answers = vec!["1"; 65].join(", ");
+    let text = [
+        "object",
+        "object",
+        "object",
+        "object o0",
+        "object o0",
+        "proxy o0 traps isExtensible",
+        "revoke o5",
+        "revoke o5",
+        "revoke o5",
+        "get o0 y0 answers: 1, 1, 1",
+        "get o0 y0 answers: 1, 1, 1",
+        "get o0 y0 answers: 1, 1, 2",
+        &format!("isExtensible o5 answers: {answers}"),
+        "set o0 y0 1 receiver o1",
+    ]
+    .join("\n");
+    let rows = [
+        "1 1 0 0 0 070000000000000000",
+        "2 1 0 0 0 070100000000000000",
+        "3 1 0 0 0 070200000000000000",
+        "4 1 0 0 0 070300000000000000",
+        "5 1 0 0 0 070300000000000000", // the same object
+        "6 1 0 0 0 070500000000000000",
+        "7 1 0 0 0 020100000000000000",
+        "8 1 0 0 0 020100000000000000",
+        "9 1 0 0 0 020000000000000000", // another outcome
+        "10 1 0 3 2 030100000000000000",
+        "11 1 0 3 3 030100000000000000", // another count of calls
+        "12 1 0 3 3 030100000000000000", // another call
+        "13 0 1 0 0 -",
+        "14 0 7 0 0 -",
+    ];
+    let shown = [
+        "1 to 3: object: o0 to o2 (0 answers, 0 calls)",
+        "4 to 5: object o0: o3 (0 answers, 0 calls)",
+        "6: proxy o0 traps isExtensible: o5 (0 answers, 0 calls)",
+        "7 to 8: revoke o5: true (0 answers, 0 calls)",
+        "9: revoke o5: false (0 answers, 0 calls)",
+        "10: get o0 y0, answers 1, then 1, then 1: 1 (3 answers, 2 calls)",
+        "11: get o0 y0, answers 1, then 1, then 1: 1 (3 answers, 3 calls)",
+        "12: get o0 y0, answers 1, then 1, then 2: 1 (3 answers, 3 calls)",
+        "13: isExtensible o5, handler answers 65 times 1: refused 1, a record is malformed",
+        "14: set o0 y0 1 receiver o1: refused 7, there is no room",
+    ];
+    let ran = Steps::new("alike", &text).rows(&format!("{ROWS}{}\n", rows.join("\n")));
+    assert_eq!(text_of(ran.stderr), "");
+    assert_eq!(text_of(ran.stdout).lines().collect::<Vec<_>>(), shown);
 }

@@ -765,23 +765,32 @@ fn the_day_is_a_page_that_can_be_read() {
     let program = root("target/bin/text_steps");
     let rows = if program.is_file() { piped(&mut Command::new(program), &cells) } else { run_text(&cells) };
     let page = String::from_utf8(piped(Command::new(steps).args(["--rows", DAY]), &rows)).unwrap();
-    let calls = parse(&std::fs::read_to_string(DAY).unwrap()).unwrap();
-    assert_eq!(page.lines().count(), calls.len());
     let fixed = "{value: 70000, writable: false, enumerable: true, configurable: false}";
     for line in [
-        "1: string \"visits\" -> s0".to_string(),
-        format!("9: defineProperty o0 \"visits\" {fixed} -> true (0 answers, 3 calls)"),
-        "13: ownKeys o0 -> [\"7\", \"10\", \"visits\", y3] (0 answers, 1 call)".to_string(),
-        format!("14: getOwnPropertyDescriptor o0 \"visits\" -> {fixed} (0 answers, 1 call)"),
-        "20: get o1 \"visits\" receiver o1 answers: 4464 -> TypeError 17: Proxy trap returned unexpected data descriptor (1 answer, 2 calls)"
-            .to_string(),
-        "28: setPrototypeOf o1 o0 answers: throw \"name\" -> thrown \"name\" (1 answer, 1 call)".to_string(),
-        "54: getOwnPropertyDescriptor o1 \"name\" answers: undefined -> absent (1 answer, 2 calls)".to_string(),
-        "90: get o1 \"visits\" receiver o1 -> refused 8: the sheet has no next answer".to_string(),
-        "121: object -> refused 7: there is no room".to_string(),
+        "1: string \"visits\": s0".to_string(),
+        format!("9: defineProperty o0 \"visits\" {fixed}: true (0 answers, 3 calls)"),
+        "13: ownKeys o0: [\"7\", \"10\", \"visits\", y3] (0 answers, 1 call)".to_string(),
+        format!("14: getOwnPropertyDescriptor o0 \"visits\": {fixed} (0 answers, 1 call)"),
+        "20: get o1 \"visits\", handler answers 4464: TypeError 17, Proxy trap returned unexpected data descriptor (1 answer, 2 calls)".to_string(),
+        "28: setPrototypeOf o1 o0, handler answers throw \"name\": thrown \"name\" (1 answer, 1 call)".to_string(),
+        "54: getOwnPropertyDescriptor o1 \"name\", handler answers undefined: absent (1 answer, 2 calls)".to_string(),
+        "90: get o1 \"visits\": refused 8, the sheet has no next answer".to_string(),
+        "97 to 120: object: o8 to o31 (0 answers, 0 calls)".to_string(),
+        "121: object: refused 7, there is no room".to_string(),
     ] {
         assert!(page.lines().any(|l| l == line), "{line}");
     }
-    assert!(page.ends_with(&format!("122: getOwnPropertyDescriptor o0 \"visits\" -> {fixed} (0 answers, 1 call)\n")));
+    assert!(page.ends_with(&format!("122: getOwnPropertyDescriptor o0 \"visits\": {fixed} (0 answers, 1 call)\n")));
+    // every line of the day is shown, those alike together
+    let shown: Vec<(usize, usize)> = page.lines().map(|l| l.split_once(':').unwrap().0).map(numbers).collect();
+    assert!(shown.windows(2).all(|w| w[0].1 + 1 == w[1].0));
+    let calls = parse(&std::fs::read_to_string(DAY).unwrap()).unwrap();
+    assert_eq!((shown[0].0, shown[shown.len() - 1].1), (1, calls.len()));
     assert_eq!(rows::HEADING, HEADING);
+}
+
+/// `8`, or `97 to 120`.
+fn numbers(text: &str) -> (usize, usize) {
+    let (from, to) = text.split_once(" to ").unwrap_or((text, text));
+    (from.parse().unwrap(), to.parse().unwrap())
 }

@@ -1,0 +1,129 @@
+//! Calls and what came of them, as lines that a person reads: `20: get o1 "visits", handler answers 4464: TypeError 17, ...`. Lines alike are one.
+use crate::notation::{Call, Strings};
+use crate::readable;
+use crate::report::{Completion, Failure, Report};
+use crate::step::{Answer, Step};
+use crate::value::{ObjectId, Value};
+use std::io::{self, Write};
+
+/// What is known of the calls so far, and the last lines, which are written once another kind of line comes.
+#[derive(Default)]
+pub(crate) struct Page {
+    strings: Strings,
+    proxies: Vec<ObjectId>,
+    last: Option<Lines>,
+}
+
+/// Lines alike, from one number to another: the same call, and each time the same outcome or the next object.
+struct Lines {
+    from: u64,
+    to: u64,
+    call: String,
+    first: Outcome,
+    last: Outcome,
+}
+
+#[derive(Clone, PartialEq)]
+struct Outcome {
+    told: String,
+    /// The object that was made.
+    object: Option<ObjectId>,
+    /// Answers and calls, where they are told.
+    spent: String,
+}
+
+impl Page {
+    /// The strings that were entered so far.
+    pub(crate) fn strings(&self) -> &Strings {
+        &self.strings
+    }
+
+    /// The next line.
+    pub(crate) fn write(&mut self, line: u64, call: &Call, report: &Report, output: &mut impl Write) -> io::Result<()> {
+        let (told, outcome) = (self.call(call), self.outcome(call, report));
+        match call {
+            Call::Enter(units) => {
+                self.strings.enter(units);
+            }
+            Call::Step { step: Step::MakeProxy { .. }, .. } => self.proxies.extend(outcome.object),
+            Call::Step { .. } => {}
+        }
+        if let Some(lines) = &mut self.last {
+            if lines.call == told && lines.goes_on_with(&outcome) {
+                (lines.to, lines.last) = (line, outcome);
+                return Ok(());
+            }
+        }
+        self.flush(output)?;
+        self.last = Some(Lines { from: line, to: line, call: told, first: outcome.clone(), last: outcome });
+        Ok(())
+    }
+
+    /// Writes the last lines.
+    pub(crate) fn flush(&mut self, output: &mut impl Write) -> io::Result<()> {
+        self.last.take().map_or(Ok(()), |lines| lines.write(output))
+    }
+
+    /// A call; a receiver that is the object itself is left out.
+    fn call(&self, call: &Call) -> String {
+        let Call::Step { step, answers } = call else {
+            return readable::call(call, &self.strings);
+        };
+        let object = step.object();
+        let told = readable::step(step, &self.strings);
+        let own = object.map(|o| format!(" receiver {o}")).and_then(|r| told.strip_suffix(&r));
+        let who = if object.is_some_and(|o| self.proxies.contains(&o)) { "handler answers" } else { "answers" };
+        let answers = answers.chunk_by(|a, b| a == b).flat_map(|alike| self.answers(alike)).collect::<Vec<_>>();
+        let told = own.unwrap_or(&told);
+        if answers.is_empty() {
+            told.to_string()
+        } else {
+            format!("{told}, {who} {}", answers.join(", then "))
+        }
+    }
+
+    /// Answers alike, one by one or, where they are many, together.
+    fn answers(&self, alike: &[Answer]) -> Vec<String> {
+        let told = readable::answer(&alike[0], &self.strings);
+        match alike.len() {
+            n @ 0..=3 => vec![told; n],
+            n => vec![format!("{n} times {told}")],
+        }
+    }
+
+    fn outcome(&self, call: &Call, report: &Report) -> Outcome {
+        let told = match &report.outcome {
+            // a string by its number, which is what it is called from now on
+            Ok(Completion::Value(v @ Value::String(_))) if matches!(call, Call::Enter(_)) => v.to_string(),
+            Ok(c) => readable::completion(c, &self.strings),
+            Err(Failure::Refused(r)) => format!("refused {}, {r}", r.number()),
+            Err(Failure::TypeError(m)) => format!("TypeError {}, {m}", m.number()),
+            Err(Failure::Thrown(v)) => format!("thrown {}", readable::value(*v, &self.strings)),
+        };
+        let object = match (call, &report.outcome) {
+            (Call::Step { step: Step::MakeObject { .. } | Step::MakeProxy { .. }, .. }, Ok(Completion::Value(Value::Object(o)))) => Some(*o),
+            _ => None,
+        };
+        let spent = match (call, &report.outcome) {
+            (Call::Enter(_), _) | (_, Err(Failure::Refused(_))) => String::new(),
+            _ => format!(" ({}, {})", readable::plural(report.answers, "answer"), readable::plural(report.calls, "call")),
+        };
+        Outcome { told, object, spent }
+    }
+}
+
+impl Lines {
+    /// Whether another outcome of the same call is one more of these.
+    fn goes_on_with(&self, outcome: &Outcome) -> bool {
+        let next = |o: ObjectId| ObjectId(o.0.wrapping_add(1));
+        let counts = self.last.object.is_some() && self.last.object.map(next) == outcome.object && self.last.spent == outcome.spent;
+        counts || self.first == *outcome && self.last == *outcome
+    }
+
+    fn write(&self, output: &mut impl Write) -> io::Result<()> {
+        let Lines { from, to, call, first, last } = self;
+        let lines = if from == to { from.to_string() } else { format!("{from} to {to}") };
+        let told = if first == last { first.told.clone() } else { format!("{} to {}", first.told, last.told) };
+        writeln!(output, "{lines}: {call}: {told}{}", first.spent)
+    }
+}
