@@ -106,7 +106,7 @@ impl Page {
         };
         let spent = match (call, &report.outcome) {
             (Call::Enter(_), _) | (_, Err(Failure::Refused(_))) => String::new(),
-            _ => format!(" ({}, {})", readable::plural(report.answers, "answer"), readable::plural(report.calls, "call")),
+            _ => format!(" {}", readable::spent(report)),
         };
         Outcome { told, object, spent }
     }

@@ -177,10 +177,11 @@ pub fn report(r: &Report, strings: &Strings) -> String {
         Err(failure @ Failure::Refused(_)) => return failure.to_string(),
         Err(failure) => failure.to_string(),
     };
-    format!("{outcome} ({}, {})", plural(r.answers, "answer"), plural(r.calls, "call"))
+    format!("{outcome} {}", spent(r))
 }
 
-/// `1 call`, `2 calls`.
-pub(crate) fn plural(n: u32, what: &str) -> String {
-    format!("{n} {what}{}", if n == 1 { "" } else { "s" })
+/// What a step used and made: `(1 answer, 2 calls)`.
+pub(crate) fn spent(r: &Report) -> String {
+    let plural = |n: u32, what: &str| format!("{n} {what}{}", if n == 1 { "" } else { "s" });
+    format!("({}, {})", plural(r.answers, "answer"), plural(r.calls, "call"))
 }

@@ -376,23 +376,20 @@ impl Step {
         let mut bytes = [0; Self::SIZE];
         bytes[0] = self.code();
         let prototype = |p: Option<ObjectId>| p.map_or(Value::Null, Value::Object);
-        let (object, key, value, receiver, descriptor) = match *self {
-            Step::MakeObject { prototype: p } => (None, None, Some(prototype(p)), None, None),
-            Step::MakeProxy { target, traps } => (Some(target), None, Some(Value::Integer32(traps.mask().into())), None, None),
-            Step::SetPrototypeOf { object, prototype: p } => (Some(object), None, Some(prototype(p)), None, None),
-            Step::Revoke { proxy: object }
-            | Step::GetPrototypeOf { object }
-            | Step::IsExtensible { object }
-            | Step::PreventExtensions { object }
-            | Step::OwnPropertyKeys { object } => (Some(object), None, None, None, None),
-            Step::GetOwnProperty { object, key } | Step::HasProperty { object, key } | Step::Delete { object, key } => {
-                (Some(object), Some(key), None, None, None)
-            }
-            Step::DefineOwnProperty { object, key, descriptor } => (Some(object), Some(key), None, None, Some(descriptor)),
-            Step::Get { object, key, receiver } => (Some(object), Some(key), None, Some(receiver), None),
-            Step::Set { object, key, value, receiver } => (Some(object), Some(key), Some(value), Some(receiver), None),
+        let (key, value, receiver, descriptor) = match *self {
+            Step::MakeObject { prototype: p } | Step::SetPrototypeOf { prototype: p, .. } => (None, Some(prototype(p)), None, None),
+            Step::MakeProxy { traps, .. } => (None, Some(Value::Integer32(traps.mask().into())), None, None),
+            Step::Revoke { .. }
+            | Step::GetPrototypeOf { .. }
+            | Step::IsExtensible { .. }
+            | Step::PreventExtensions { .. }
+            | Step::OwnPropertyKeys { .. } => (None, None, None, None),
+            Step::GetOwnProperty { key, .. } | Step::HasProperty { key, .. } | Step::Delete { key, .. } => (Some(key), None, None, None),
+            Step::DefineOwnProperty { key, descriptor, .. } => (Some(key), None, None, Some(descriptor)),
+            Step::Get { key, receiver, .. } => (Some(key), None, Some(receiver), None),
+            Step::Set { key, value, receiver, .. } => (Some(key), Some(value), Some(receiver), None),
         };
-        bytes[1] = object.map_or(0, |o| o.0);
+        bytes[1] = self.object().map_or(0, |o| o.0);
         let parts = [(2, key.map(Value::from)), (11, value), (20, receiver)];
         for (start, part) in parts {
             bytes[start..start + 9].copy_from_slice(&part.unwrap_or(Value::Undefined).to_bytes());
