@@ -13,6 +13,8 @@ struct memory {
 };
 
 static struct memory memory;
+static uint64_t open_words[DEMNYALUZ_STORE_WORDS]; /* the store before a turn that can be done but once */
+static bool is_copied;                             /* whether each turn begins with it */
 
 /* A data descriptor with all its fields. */
 static struct demnyaluz_descriptor descriptor(uint8_t booleans, int32_t integer) {
@@ -93,6 +95,10 @@ static struct step get(uint8_t object, uint64_t key) {
         .code = DEMNYALUZ_CODE_GET, .object = object, .key = string(key), .receiver = {DEMNYALUZ_KIND_OBJECT, object}});
 }
 
+static struct step level(uint8_t code) {
+    return step((struct demnyaluz_step_parts){.code = code, .value = demnyaluz_from_integer32(DEMNYALUZ_LEVEL_FROZEN)});
+}
+
 enum { FROZEN = DEMNYALUZ_FIELD_ENUMERABLE, OPEN = 7 };
 
 /* The steps of one turn, over a store made for it; object 0 is ordinary. */
@@ -149,6 +155,14 @@ static int prepare(const char *work, struct step steps[2], struct sheet sheets[2
         keys->size = (size_t)(at - keys->bytes);
         return 1;
     }
+    if (strncmp(work, "freeze-", 7) == 0 || strncmp(work, "isFrozen-", 9) == 0) {
+        int properties = atoi(strchr(work, '-') + 1);
+        for (int i = 0; i < properties; i++) must(define((uint64_t)i, OPEN, i), empty);
+        is_copied = work[0] == 'f';
+        if (!is_copied) must(level(DEMNYALUZ_CODE_SET_INTEGRITY_LEVEL), empty);
+        steps[0] = level(is_copied ? DEMNYALUZ_CODE_SET_INTEGRITY_LEVEL : DEMNYALUZ_CODE_TEST_INTEGRITY_LEVEL);
+        return 1;
+    }
     return 0;
 }
 
@@ -157,11 +171,13 @@ int main(int count, char **words) {
     static struct sheet sheets[2];
     int each = count == 3 ? prepare(words[1], steps, sheets) : 0;
     if (each == 0) {
-        fputs("usage: cost get|get-hop|get-trap|get-forwarded|descriptor-trap|extensible-trap|define-delete|keys-trap TURNS\n", stderr);
+        fputs("usage: cost get|get-hop|get-trap|get-forwarded|descriptor-trap|extensible-trap|define-delete|keys-trap|freeze-N|isFrozen-N TURNS\n", stderr);
         return 2;
     }
+    memcpy(open_words, memory.words, sizeof open_words);
     for (int i = 0; i < each; i++) must(steps[i], sheets[i]);
     for (long turn = atol(words[2]); turn > 0; turn--) {
+        if (is_copied) memcpy(memory.words, open_words, sizeof open_words);
         for (int i = 0; i < each; i++) run(&steps[i], &sheets[i]);
     }
     return 0;

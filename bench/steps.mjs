@@ -44,4 +44,24 @@ const target = {};
 for (let i = 0; i < 144; i++) target[names[i]] = i;
 const listing = new Proxy(target, { ownKeys: () => names });
 line('ownKeys trap, 256 keys over 144', 300, () => Reflect.ownKeys(listing).length);
-if (kept === undefined) throw new Error('nothing was done');
+
+// Freezing can be done but once: 50 objects are made anew before each round's clock starts. Node's share a shape where they have 16 properties, before
+// and after it; those of 144 are dictionaries.
+const numbered = (count) => { const o = {}; for (let i = 0; i < count; i++) o[names[i]] = i; return o; };
+const anew = (name, count) => {
+  let least = Infinity;
+  for (let round = 0; round < 200; round++) {
+    const objects = Array.from({ length: 50 }, () => numbered(count));
+    const start = now();
+    for (let i = 0; i < 50; i++) kept = Object.freeze(objects[i]);
+    least = Math.min(least, (now() - start) / 50);
+    if (!Object.isFrozen(objects[49])) throw new Error('not frozen');
+  }
+  say(`${name}\t${least.toFixed(1)}`);
+};
+anew('freeze, 16 properties', 16);
+anew('freeze, 144 properties', 144);
+const few = Object.freeze(numbered(16)), many = Object.freeze(numbered(144));
+line('isFrozen, 16 properties', 5000, () => Object.isFrozen(few));
+line('isFrozen, 144 properties', 300, () => Object.isFrozen(many));
+if (kept !== true) throw new Error('nothing was done');

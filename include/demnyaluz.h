@@ -15,7 +15,7 @@
  * runs in a stack of 1 MB.
  *
  * A store or table of another length, or whose counts exceed what it can hold, is refused as 1, and so is a record of a wrong length. A
- * refusal changes nothing. Only a result changes the store.
+ * refusal changes nothing. Only a result changes the store, but for code 18, of which a TypeError or a throw leaves what was changed before it.
  *
  * Records are bytes, integers little-endian. Inline functions below write them from structs.
  *   value       9: a kind, then a payload of 8 with unused bytes zero
@@ -113,23 +113,34 @@ enum demnyaluz_field {
 
 /* Codes of steps, and the parts that each uses. */
 enum demnyaluz_code {
-    DEMNYALUZ_CODE_MAKE_OBJECT = 1,         /* value: the prototype, null or an object; answers the new object */
-    DEMNYALUZ_CODE_MAKE_PROXY = 2,          /* object: the target; value: Integer32, the traps; answers the new object */
-    DEMNYALUZ_CODE_REVOKE = 3,              /* object: a proxy; answers true */
-    DEMNYALUZ_CODE_GET_PROTOTYPE_OF = 4,    /* object */
-    DEMNYALUZ_CODE_SET_PROTOTYPE_OF = 5,    /* object; value: null or an object */
-    DEMNYALUZ_CODE_IS_EXTENSIBLE = 6,       /* object */
-    DEMNYALUZ_CODE_PREVENT_EXTENSIONS = 7,  /* object */
-    DEMNYALUZ_CODE_GET_OWN_PROPERTY = 8,    /* object, key */
-    DEMNYALUZ_CODE_DEFINE_OWN_PROPERTY = 9, /* object, key, descriptor */
-    DEMNYALUZ_CODE_HAS_PROPERTY = 10,       /* object, key */
-    DEMNYALUZ_CODE_GET = 11,                /* object, key, receiver */
-    DEMNYALUZ_CODE_SET = 12,                /* object, key, value, receiver */
-    DEMNYALUZ_CODE_DELETE = 13,             /* object, key */
-    DEMNYALUZ_CODE_OWN_PROPERTY_KEYS = 14   /* object */
+    DEMNYALUZ_CODE_MAKE_OBJECT = 1,          /* value: the prototype, null or an object; answers the new object */
+    DEMNYALUZ_CODE_MAKE_PROXY = 2,           /* object: the target; value: Integer32, the traps; answers the new object */
+    DEMNYALUZ_CODE_REVOKE = 3,               /* object: a proxy; answers true */
+    DEMNYALUZ_CODE_GET_PROTOTYPE_OF = 4,     /* object */
+    DEMNYALUZ_CODE_SET_PROTOTYPE_OF = 5,     /* object; value: null or an object */
+    DEMNYALUZ_CODE_IS_EXTENSIBLE = 6,        /* object */
+    DEMNYALUZ_CODE_PREVENT_EXTENSIONS = 7,   /* object */
+    DEMNYALUZ_CODE_GET_OWN_PROPERTY = 8,     /* object, key */
+    DEMNYALUZ_CODE_DEFINE_OWN_PROPERTY = 9,  /* object, key, descriptor */
+    DEMNYALUZ_CODE_HAS_PROPERTY = 10,        /* object, key */
+    DEMNYALUZ_CODE_GET = 11,                 /* object, key, receiver */
+    DEMNYALUZ_CODE_SET = 12,                 /* object, key, value, receiver */
+    DEMNYALUZ_CODE_DELETE = 13,              /* object, key */
+    DEMNYALUZ_CODE_OWN_PROPERTY_KEYS = 14,   /* object */
+    DEMNYALUZ_CODE_SET_INTEGRITY_LEVEL = 18, /* object; value: Integer32, the level */
+    DEMNYALUZ_CODE_TEST_INTEGRITY_LEVEL = 19 /* object; value: Integer32, the level */
 };
 
-/* The trap of a code, in a proxy's trap mask. */
+/*
+ * The levels of codes 18 and 19. Sealed: not extensible, and no own property is configurable. Frozen: besides, no own data is writable. Code 18
+ * answers false where extensions cannot be prevented; a definition that is answered with false is message 32, and no later key is tried.
+ */
+enum demnyaluz_level {
+    DEMNYALUZ_LEVEL_SEALED = 0,
+    DEMNYALUZ_LEVEL_FROZEN = 1
+};
+
+/* The trap of a code from 4 to 14, in a proxy's trap mask. */
 #define DEMNYALUZ_TRAP(code) (1u << ((code) - DEMNYALUZ_CODE_GET_PROTOTYPE_OF))
 
 /* Tags of answers. */
@@ -179,7 +190,7 @@ enum demnyaluz_flag {
 };
 
 enum demnyaluz_refusal {
-    DEMNYALUZ_REFUSAL_MALFORMED_RECORD = 1,    /* a wrong length, code, kind, mask, count or boolean, or a nonzero unused or absent part */
+    DEMNYALUZ_REFUSAL_MALFORMED_RECORD = 1,    /* a wrong length, code, kind, mask, level, count or boolean, or a nonzero unused or absent part */
     DEMNYALUZ_REFUSAL_OBJECT_NEVER_MADE = 2,
     DEMNYALUZ_REFUSAL_UNUSABLE_PART = 3,       /* a string not entered or too long, a number above 255, a kind that its step cannot use */
     DEMNYALUZ_REFUSAL_UNUSABLE_DESCRIPTOR = 4, /* mixed, or its get or set neither undefined nor a function */
@@ -224,7 +235,8 @@ enum demnyaluz_message_number {
     DEMNYALUZ_MESSAGE_SETTER_NOT_CALLABLE = 28,
     DEMNYALUZ_MESSAGE_MIXED_DESCRIPTOR = 29,
     DEMNYALUZ_MESSAGE_NOT_KEY = 30,
-    DEMNYALUZ_MESSAGE_KEYS_NOT_OBJECT = 31
+    DEMNYALUZ_MESSAGE_KEYS_NOT_OBJECT = 31,
+    DEMNYALUZ_MESSAGE_DEFINITION_REJECTED = 32
 };
 
 /*

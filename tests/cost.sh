@@ -1,6 +1,7 @@
 #!/bin/sh
 # The instructions of one turn of each work of bench/cost.c, counted under valgrind beside those of bench/cost.txt: the difference of a run with twice the
-# turns and one with the turns, divided by them. It fails where one is more than a tenth above what is stored. 'tests/cost.sh store' stores them.
+# turns and one with the turns, divided by them. It fails where one is more than a tenth above what is stored; a row that has none yet is counted alone.
+# 'tests/cost.sh store' stores them. A turn of freeze-N begins with the copying of the open store, 13,072 bytes, since it can be done but once.
 # It needs the library (make lib), gcc and valgrind.
 set -eu
 cd "$(dirname "$0")/.."
@@ -16,8 +17,12 @@ while read -r work turns stored; do
     once=$(instructions "$work" "$turns")
     twice=$(instructions "$work" $((turns * 2)))
     now=$(((twice - once) / turns))
-    printf '%-18s%14d%10d%8s\n' "$work" "$now" "$stored" "$(awk "BEGIN { printf \"%.2f\", $now / $stored }")"
     echo "$work $turns $now" >> "$table"
+    if [ -z "$stored" ]; then
+        printf '%-18s%14d\n' "$work" "$now"
+        continue
+    fi
+    printf '%-18s%14d%10d%8s\n' "$work" "$now" "$stored" "$(awk "BEGIN { printf \"%.2f\", $now / $stored }")"
     [ $((now * 10)) -le $((stored * 11)) ] || worse=$((worse + 1))
 done < bench/cost.txt
 if [ "${1:-}" = store ]; then

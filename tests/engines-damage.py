@@ -1,16 +1,17 @@
 #!/usr/bin/env python3
 """Shows that the comparison of crates/replay can fail: changes one part of one expectation of the fixed list at a time.
 
-    tests/engines-damage.py
+    tests/engines-damage.py [REPLAY]
 
 Each change must be counted as one difference, in that line and that part; a line that is broken must be noticed too. It reads
-crates/replay/stdin and runs target/bin/replay; tests/engines/1-records.js has the layout.
+crates/replay/stdin and runs target/bin/replay, or REPLAY; tests/engines/1-records.js has the layout.
 """
 import pathlib
 import subprocess
 import sys
 
 ROOT = pathlib.Path(__file__).resolve().parent.parent
+REPLAY = sys.argv[1] if len(sys.argv) > 1 else ROOT / "target/bin/replay"
 
 
 class Line:
@@ -19,7 +20,9 @@ class Line:
         self.kind, self.room = b[0], int.from_bytes(b[1:3], "little")
         record, sheet = (int.from_bytes(b[i:i + 2], "little") for i in (3, 5))
         self.begin = 9 + record + sheet
+        self.code = b[9] if self.kind == 1 and record > 0 else 0
         self.bytes = bytearray(b)
+        self.before = b""
         e = b[self.begin:]
         self.outcome, self.numbers = e[0], int.from_bytes(e[1:5], "little")
         self.completion = self.begin + 8
@@ -30,6 +33,11 @@ class Line:
 
     def value(self, at):
         return at + {0: 1, 1: 1, 2: 2, 4: 9}.get(self.bytes[at], 2)
+
+    # Whether the call changed objects, and left room for what they were before it.
+    def changed(self):
+        now = self.bytes[self.store:]
+        return now != self.before and len(now) == len(self.before)
 
     # Where the parts of the ordinary objects stand.
     def objects(self):
@@ -57,7 +65,9 @@ class Line:
 
 def flip(at, mask):
     def change(line):
-        line.bytes[at(line)] ^= mask
+        where = at(line)
+        for i in range(*where.indices(len(line.bytes))) if isinstance(where, slice) else [where]:
+            line.bytes[i] ^= mask
     return change
 
 
@@ -74,6 +84,21 @@ def swap_keys(line):
 def number(line):
     n = line.bytes[line.begin + 1:line.begin + 5]
     line.bytes[line.begin + 1:line.begin + 5] = (2 if n[0] != 2 else 4).to_bytes(4, "little")
+
+
+def undone(line):
+    line.bytes[line.store:] = line.before
+
+
+# A step of a code that ended so; message 32 has bit 0.
+def level(code, outcome, number=None):
+    def fits(line):
+        return line.code == code and line.outcome == outcome and (number is None or line.numbers == 1 << number % 32)
+    return fits
+
+
+def both(*tests):
+    return lambda line: all(test(line) for test in tests)
 
 
 def entry(line):
@@ -136,12 +161,39 @@ DAMAGES = [
     ("the order of own keys", "store", lambda l: any(len(k) > 1 for k in l.keys), swap_entries),
     ("the store after a refusal", "store", lambda l: l.kind == 1 and l.outcome == 0 and any(l.keys), flip(lambda l: entry(l) + 2, 4)),
     ("the store after a TypeError", "store", lambda l: l.outcome == 2 and any(l.keys), flip(lambda l: entry(l) + 2, 4)),
+    ("step 18: true told as false", "completion", lambda l: level(18, 1)(l) and l.bytes[l.completion + 2] == 1, flip(lambda l: l.completion + 2, 1)),
+    ("step 18: false told as true", "completion", lambda l: level(18, 1)(l) and l.bytes[l.completion + 2] == 0, flip(lambda l: l.completion + 2, 1)),
+    ("step 18: false told as message 32", "outcome", lambda l: level(18, 1)(l) and l.bytes[l.completion + 2] == 0, flip(lambda l: l.begin, 3)),
+    ("step 18: message 32 told as a result", "outcome", level(18, 2, 32), flip(lambda l: l.begin, 3)),
+    ("step 18: message 32 told as a throw", "outcome", level(18, 2, 32), flip(lambda l: l.begin, 1)),
+    ("step 18: message 32 told as another", "number", level(18, 2, 32), number),
+    ("step 18: message 32 told as every other", "number", level(18, 2, 32), flip(lambda l: slice(l.begin + 1, l.begin + 5), 255)),
+    ("step 18: another message told as 32", "number", lambda l: level(18, 2)(l) and not l.numbers & 1, lambda l: l.bytes.__setitem__(slice(l.begin + 1, l.begin + 5), bytes([1, 0, 0, 0]))),
+    ("step 18: refusal 1 told as 32", "number", level(18, 0, 1), lambda l: l.bytes.__setitem__(slice(l.begin + 1, l.begin + 5), bytes([1, 0, 0, 0]))),
+    ("step 18: a refusal of the level", "number", level(18, 0, 3), number),
+    ("step 18: an answer more, of message 32", "answers", level(18, 2, 32), flip(lambda l: l.begin + 5, 1)),
+    ("step 18: an answer more, of a throw", "answers", level(18, 3), flip(lambda l: l.begin + 5, 1)),
+    ("step 18: an answer more, of true", "answers", level(18, 1), flip(lambda l: l.begin + 5, 1)),
+    ("step 18: what true changed, undone", "store", both(level(18, 1), Line.changed), undone),
+    ("step 18: what was changed before message 32, undone", "store", both(level(18, 2, 32), Line.changed), undone),
+    ("step 18: what was changed before another TypeError, undone", "store", both(level(18, 2), Line.changed, lambda l: l.numbers != 1), undone),
+    ("step 18: what was changed before a throw, undone", "store", both(level(18, 3), Line.changed), undone),
+    ("step 18: a property after message 32", "store", both(level(18, 2, 32), lambda l: any(l.keys)), flip(lambda l: entry(l) + 2, 8)),
+    ("step 18: closed although the sheet was spent", "store", both(level(18, 0, 8), lambda l: any(l.bytes[x] for x in l.extensible)), flip(lambda l: next(x for x in l.extensible if l.bytes[x]), 1)),
+    ("step 18: closed although an answer was not read", "store", both(level(18, 0, 9), lambda l: any(l.bytes[x] for x in l.extensible)), flip(lambda l: next(x for x in l.extensible if l.bytes[x]), 1)),
+    ("step 18: an output byte", "output", lambda l: l.code == 18 and l.outcome == 1 and l.room > 0, flip(lambda l: l.output, 1)),
+    ("step 19: true told as false", "completion", lambda l: level(19, 1)(l) and l.bytes[l.completion + 2] == 1, flip(lambda l: l.completion + 2, 1)),
+    ("step 19: false told as true", "completion", lambda l: level(19, 1)(l) and l.bytes[l.completion + 2] == 0, flip(lambda l: l.completion + 2, 1)),
+    ("step 19: another message", "number", level(19, 2), number),
+    ("step 19: an answer more", "answers", level(19, 1), flip(lambda l: l.begin + 5, 1)),
+    ("step 19: a refusal of the level", "number", level(19, 0, 3), number),
+    ("step 19: the store", "store", both(level(19, 1), lambda l: any(l.keys)), flip(lambda l: entry(l) + 2, 8)),
 ]
 
 
 def replay(lines):
     text = "".join(line + "\n" for line in lines)
-    return subprocess.run([ROOT / "target/bin/replay"], input=text, capture_output=True, text=True, check=True).stdout.splitlines()
+    return subprocess.run([REPLAY], input=text, capture_output=True, text=True, check=True).stdout.splitlines()
 
 
 def main():
@@ -150,8 +202,13 @@ def main():
     if replay(lines)[-1] != f"{calls} calls, 0 differences":
         sys.exit("the fixed list differs as it is")
     bad = 0
+    parsed = [Line(text) for text in lines]
+    for last, line in zip(parsed, parsed[1:]):
+        line.before = bytes(last.bytes[last.store:])
     for name, part, fits, change in DAMAGES:
-        at, line = next((i, l) for i, l in ((i, Line(text)) for i, text in enumerate(lines)) if fits(l))
+        at = next(i for i, line in enumerate(parsed) if fits(line))
+        line = Line(lines[at])
+        line.before = parsed[at].before
         change(line)
         told = replay(lines[:at] + [line.bytes.hex()] + lines[at + 1:])
         ok = told[0].startswith(f"line {at + 1}: the {part} differs") and told[-1] == f"{calls} calls, 1 differences"

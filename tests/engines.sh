@@ -1,7 +1,7 @@
 #!/bin/sh
 # Runs calls on a JavaScript engine, and holds crates/replay against what the engine answers.
 #
-#     tests/engines.sh ENGINE SEED CALLS      ENGINE: node, gjs or jsc
+#     tests/engines.sh ENGINE SEED CALLS [REPLAY]      ENGINE: node, gjs or jsc; REPLAY: target/bin/replay, or another
 #
 # It fails unless all calls were compared, none differed, and every message and every refusal occurred. target/bin/replay is there after 'rt check replay'.
 set -e
@@ -9,7 +9,7 @@ cat tests/engines/*.js > target/engines.js
 case $1 in
     jsc) jsc target/engines.js -- "$2" "$3" ;;
     *) "$1" target/engines.js "$2" "$3" ;;
-esac | target/bin/replay > "target/engines-$1"
+esac | "${4:-target/bin/replay}" > "target/engines-$1"
 sed "s/^/$1: /" "target/engines-$1"
 grep -qx "$3 calls, 0 differences" "target/engines-$1"
 grep -qx "0 messages and 0 refusals missing" "target/engines-$1"

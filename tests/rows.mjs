@@ -85,7 +85,7 @@ function difference(number, row, expected) {
   const [line, outcome, message, answers, calls] = cells.map(Number), value = cells[5];
   if (line !== number) return 'line';
   if (outcome !== expected.outcome) return 'outcome';
-  if (expected.numbers === 0 ? message !== 0 : message > 31 || (expected.numbers >>> message & 1) === 0) return 'number';
+  if (expected.numbers === 0 ? message !== 0 : message > 32 || (expected.numbers >>> message & 1) === 0) return 'number';
   if (answers !== expected.answers) return 'answers';
   if (outcome === 0 && calls !== 0) return 'calls';
   return completionOf(value, expected) === expected.completion ? undefined : 'value';

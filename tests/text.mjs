@@ -21,7 +21,7 @@ const byte = (n) => n.toString(16).padStart(2, '0');
 
 class Refusal { constructor(number) { this.number = number; } }
 
-let objects, plain, strings, live, calls, answers, used, grow;
+let objects, plain, strings, live, calls, answers, used, grow, rejected;
 const SYMBOLS = Array.from({ length: 256 }, (_, n) => Symbol(n));
 const FUNCTIONS = Array.from({ length: 256 }, () => () => taken('function'));
 
@@ -35,14 +35,14 @@ function begin() {
 }
 
 // The next answer; `grow`, where it is there, makes one for whoever asks.
-function next(trap, target, key) {
-  if (used === answers.length && grow) grow(trap, target, key);
+function next(trap, target, key, more) {
+  if (used === answers.length && grow) grow(trap, target, key, more);
   if (used === answers.length) throw new Refusal(8);
   return answers[used++];
 }
 
-function taken(trap, target, key) {
-  const a = next(trap, target, key);
+function taken(trap, target, key, more) {
+  const a = next(trap, target, key, more);
   if ('thrown' in a) throw a.thrown;
   if (!('value' in a) || (trap === 'getPrototypeOf' && typeof a.value === 'function')) throw new Refusal(9);
   return a.value;
@@ -127,19 +127,48 @@ function ordinary(prototype) {
 
 const TRAPS = ['getPrototypeOf', 'setPrototypeOf', 'isExtensible', 'preventExtensions', 'getOwnPropertyDescriptor', 'defineProperty', 'has', 'get', 'set',
   'deleteProperty', 'ownKeys'];
-const revokers = new Map(), targets = new Map();
+const revokers = new Map(), targets = new Map(), masks = new Map(), revoked = new Set();
 
 function proxy(target, mask) {
   const handler = Object.create(null);
   TRAPS.forEach((trap, i) => {
     const form = { getOwnPropertyDescriptor: 'descriptor', ownKeys: 'list' }[trap];
-    const asked = (_, key) => (form ? takenAs(form, trap, target, key) : taken(trap, target, key));
+    const asked = (_, key, more) => {
+      const x = form ? takenAs(form, trap, target, key) : taken(trap, target, key, more);
+      if (!x && (trap === 'preventExtensions' || trap === 'defineProperty')) rejected ??= { trap, used };
+      return x;
+    };
     Object.defineProperty(handler, trap, { get() { begin(); return mask >> i & 1 ? asked : undefined; } });
   });
   const made = Proxy.revocable(target, handler);
   revokers.set(made.proxy, made.revoke);
   targets.set(made.proxy, target);
+  masks.set(made.proxy, mask);
   return made.proxy;
+}
+
+// All objects, and others made in their place: a step 18 that is refused midway has changed some, and node cannot take that back.
+function copied() {
+  const part = (x) => (objects.includes(x) ? { number: objects.indexOf(x) } : { value: x });
+  const own = (it, key) => [key, Object.entries(R.getOwnPropertyDescriptor(it, key)).map(([name, x]) => [name, part(x)])];
+  return objects.map((o) => {
+    const it = plain.get(o);
+    if (it === undefined) return { target: objects.indexOf(targets.get(o)), mask: masks.get(o), revoked: revoked.has(o) };
+    return { prototype: part(R.getPrototypeOf(it)), extensible: R.isExtensible(it), own: R.ownKeys(it).map((key) => own(it, key)) };
+  });
+}
+
+function restored(copies) {
+  objects = []; plain = new Map();
+  for (const { target, mask } of copies) objects.push(target === undefined ? ordinary(null) : proxy(objects[target], mask));
+  const whole = (part) => ('number' in part ? objects[part.number] : part.value);
+  copies.forEach((copy, n) => {
+    const it = plain.get(objects[n]);
+    if (it === undefined) { if (copy.revoked) performed(3, objects[n], {}); return; }
+    R.setPrototypeOf(it, whole(copy.prototype));
+    for (const [key, parts] of copy.own) R.defineProperty(it, key, Object.fromEntries(parts.map(([name, part]) => [name, whole(part)])));
+    if (!copy.extensible) R.preventExtensions(it);
+  });
 }
 
 function made(it) {
@@ -152,7 +181,7 @@ function performed(code, it, { key, value, receiver, descriptor }) {
   switch (code) {
     case 1: return made(ordinary(value));
     case 2: return made(proxy(it, value));
-    case 3: revokers.get(it)(); return true;
+    case 3: revokers.get(it)(); revoked.add(it); return true;
     case 4: return R.getPrototypeOf(it);
     case 5: return R.setPrototypeOf(it, value);
     case 6: return R.isExtensible(it);
@@ -163,6 +192,8 @@ function performed(code, it, { key, value, receiver, descriptor }) {
     case 11: return R.get(it, key, receiver);
     case 12: return R.set(it, key, value, receiver);
     case 13: return R.deleteProperty(it, key);
+    case 18: (value === 1 ? Object.freeze : Object.seal)(it); return true;
+    case 19: return (value === 1 ? Object.isFrozen : Object.isSealed)(it);
     default: return R.ownKeys(it);
   }
 }
@@ -228,10 +259,12 @@ function shorten(cells) {
 const broken = (line) => put(line, '0 12 0 0 -');
 const refused = (number, cells) => put(cellsLine(cells), `0 ${number} 0 0 -`);
 
-// A step, performed by node. `number` is the message that a TypeError has; false, and no line, where it is a TypeError and no number is given.
+// A step, performed by node. `number` is the message that a TypeError has; false, and no line, where it is a TypeError and no number is given. Step 18: Object.freeze
+// and Object.seal throw where it answers false, which is where the last answer was a false of the preventExtensions trap; a false of defineProperty is
+// message 32. Node says so too, and asks for nothing after it.
 function step(code, o, parts = {}, sheet = [], number = 0) {
-  const it = objects[o];
-  [calls, used, answers] = [0, 0, sheet];
+  const it = objects[o], copies = code === 18 ? copied() : null;
+  [calls, used, answers, rejected] = [0, 0, sheet, null];
   const cell = (name) => (name in parts ? valueHex(parts[name]) : zeros(9));
   const cells = { step: byte(code), object: byte(o), key: cell('key'), value: cell('value'), receiver: cell('receiver') };
   cells.descriptor = 'descriptor' in parts ? descriptorHex(parts.descriptor) : zeros(29);
@@ -240,17 +273,23 @@ function step(code, o, parts = {}, sheet = [], number = 0) {
     const x = performed(code, it, parts);
     const value = code === 14 ? x.map(valueHex).join('') || '-' : code !== 8 ? valueHex(x) : x === undefined ? '-' : descriptorHex(x);
     row = `1 0 ${used} ${calls} ${value}`;
+    if (copies && rejected) throw new Error(`line ${lines.length + 1}: node went on after a false`);
   } catch (e) {
     const isThrown = objects.includes(e) || typeof e !== 'object' || e === null;
     if (isThrown) row = `3 0 ${used} ${calls} ${valueHex(e)}`;
     else if (e instanceof Refusal) row = `0 ${e.number} 0 0 -`;
     else if (e instanceof RangeError && /call stack/.test(e.message)) row = '0 10 0 0 -';
     else if (!(e instanceof TypeError)) throw e;
-    else if (number === 0) return false;
+    else if (copies && rejected) {
+      if (rejected.used !== used || !e.message.startsWith(`'${rejected.trap}' on proxy: trap returned falsish`)) throw new Error(`line ${lines.length + 1}: node went on after a false`);
+      row = rejected.trap === 'preventExtensions' ? `1 0 ${used} ${calls} ${valueHex(false)}` : `2 32 ${used} ${calls} -`;
+    } else if (copies && /^'(preventExtensions|defineProperty)' on proxy: trap returned falsish/.test(e.message)) throw e;
+    else if (number === 0) { if (copies) restored(copies); return false; }
     else row = `2 ${number} ${used} ${calls + (/revoked/.test(e.message) ? 1 : 0)} -`;
   }
-  if (number !== 0 && row[0] !== '2') throw new Error(`line ${lines.length + 1}: message ${number} was meant, not ${row}`);
+  if (number !== 0 && !row.startsWith(`2 ${number} `)) throw new Error(`line ${lines.length + 1}: message ${number} was meant, not ${row}`);
   put(cellsLine(shorten({ ...cells, sheet: sheetHex(answers) })), row);
+  if (copies && row[0] === '0') restored(copies);
   return true;
 }
 
@@ -343,6 +382,13 @@ function brokenLines() {
 
   // 12 stands before 1 to 4: what else is wrong with the line does not show
   changed('receiver', '00', { step: '10' });
+  for (const code of ['12', '13']) {
+    for (const cell of ['', '0', '01', '03', level(1).slice(2), level(1) + '00', level(1).slice(1), '1', 'frozen', 'true', '0x' + level(1).slice(2)]) changed('value', cell, { step: code });
+    changed('receiver', '00', { step: code, value: level(2) });
+    changed('sheet', '000', { step: code, value: level(1) });
+  }
+  for (const code of ['18', '19']) changed('value', '1', { step: code });                // decimal
+  for (const cell of ['012', '1 2', '0012', 'x12', '12 ']) changed('step', cell, { value: level(1) });
   changed('receiver', '00', { step: '04', object: 'ff' });
   changed('receiver', '00', { step: '08', key: '05' + 'ff'.repeat(8) });
   changed('sheet', '000', { step: '3c' });
@@ -382,12 +428,16 @@ function longLines() {
   put(cellsLine({ step: '04', sheet: '00'.repeat(8185) }), '0 1 0 0 -');              // bytes that are no sheet
 }
 
+// The level of steps 18 and 19 as bytes.
+const level = (n) => '03' + little(n, 4) + zeros(4);
+
 // Refusals that follow from the bytes of a line alone; object 0 is ordinary, object 1 a proxy over it, and 9 and later were not made.
 function refusals() {
   const nil = '01' + zeros(8), visits = '05' + zeros(8), byteOf = (n, v) => v.slice(0, 2 * n) + 'ff' + v.slice(2 * n + 2);
   refused(1, {});                                                                     // dashes: step 0
   refused(1, { step: '00', object: '00', sheet: '00' });
-  for (const code of ['10', '12', '3c', '7f', '80', 'f0', 'ff']) refused(1, { step: code });
+  for (const code of ['10', '11', '14', '3c', '7f', '80', 'f0', 'ff']) refused(1, { step: code });
+  for (const code of ['10', '11', '14']) refused(1, { step: code, value: level(0) });
   refused(1, { step: '01', object: '01', value: nil });                               // a part that is not used
   refused(1, { step: '04', key: visits });
   refused(1, { step: '04', value: nil });
@@ -426,6 +476,31 @@ function refusals() {
   refused(4, { step: '09', key: visits, descriptor: '18' + '00' + zeros(27) });
   refused(4, { step: '09', key: visits, descriptor: '10' + '00' + zeros(9) + nil + zeros(9) });
   refused(4, { step: '09', key: visits, descriptor: '24' + '04' + zeros(27), sheet: '41' });   // before 1 over the sheet
+  // steps 18 and 19: the level, and parts that are not used
+  for (const code of ['12', '13']) {
+    for (const n of [2, 3, 255, 256, 65536, 16777216, 2147483648, 4294967295]) refused(1, { step: code, value: level(n) });
+    refused(1, { step: code, value: '03' + '01' + zeros(3) + '01' + zeros(3) });      // a fifth byte
+    refused(1, { step: code, value: '02' + '02' + zeros(7) });
+    refused(1, { step: code, value: '09' + zeros(8) });
+    refused(1, { step: code, value: byteOf(8, nil) });
+    for (const name of ['key', 'receiver']) refused(1, { step: code, value: level(1), [name]: nil });
+    refused(1, { step: code, value: level(1), descriptor: '02' + zeros(28) });
+    refused(1, { step: code, object: '09', value: level(2) });                        // before 2
+    refused(1, { step: code, key: visits, value: nil });                              // before 3
+    refused(2, { step: code, object: '09', value: level(0) });
+    refused(2, { step: code, object: 'ff', value: level(1) });
+    refused(2, { step: code, object: '09', value: nil });                             // before 3
+    refused(2, { step: code, value: '07' + '09' + zeros(7) });
+    refused(3, { step: code });                                                       // undefined
+    for (const v of [nil, '02' + '01' + zeros(7), '04' + zeros(8), '04' + float(1), visits, '05' + 'ff' + zeros(7), '06' + zeros(8), '07' + zeros(8), '08' + zeros(8)]) refused(3, { step: code, value: v });
+    refused(1, { step: code, value: level(1), sheet: '41' });
+    refused(2, { step: code, value: level(0), sheet: '01' + '01' + '07' + '09' + zeros(7) });
+    refused(3, { step: code, value: nil, sheet: '41' });                              // before 1 over the sheet
+    refused(8, { step: code, object: '01', value: level(0) });
+    refused(8, { step: code, object: '01', value: level(1), sheet: '00' });
+    refused(9, { step: code, object: '01', value: level(1), sheet: '01' + '03' + '0000' });
+    refused(9, { step: code, object: '01', value: level(0), sheet: '01' + '02' + zeros(29) });
+  }
   refused(8, { step: '0b', object: '01', key: visits });
   refused(8, { step: '0b', object: '01', key: visits, sheet: '00' });
 }
@@ -437,7 +512,7 @@ const pick = (from) => from[random(from.length)];
 const someValue = () => pick([undefined, null, true, false, 0, 1, -1, 70000, 4464, -0, 0.5, NaN, Infinity, 2147483648, pick(strings), SYMBOLS[random(256)],
   pick(objects), FUNCTIONS[random(3)]]);
 
-function someAnswer(trap, target, key) {
+function someAnswer(trap, target, key, more) {
   if (random(12) === 0) return;                                                       // refusal 8
   let it = target;
   while (targets.has(it)) it = targets.get(it);
@@ -446,6 +521,10 @@ function someAnswer(trap, target, key) {
     getPrototypeOf: () => value(R.getPrototypeOf(base)), isExtensible: () => value(R.isExtensible(base)), has: () => value(own !== undefined),
     getOwnPropertyDescriptor: () => (own === undefined ? value(undefined) : described(own)), get: () => value(own?.value),
     ownKeys: () => list(...R.ownKeys(base)),
+    ...leveling && {
+      preventExtensions: () => value(!R.isExtensible(base)),
+      defineProperty: () => value(own !== undefined && !own.configurable && !(more.writable === false && own.writable) && random(20) > 0),
+    },
   }[trap];
   answers.push(random(20) === 0 ? thrown(someValue()) : random(30) === 0 ? list() : truth && random(8) > 0 ? truth() : value(someValue()));
 }
@@ -457,17 +536,27 @@ function someDescriptor() {
 }
 
 function someStep() {
-  const code = pick([4, 5, 6, 7, 8, 8, 9, 9, 9, 10, 11, 11, 12, 12, 13, 13, 14]), o = random(objects.length);
+  const code = pick([4, 5, 6, 7, 8, 8, 9, 9, 9, 10, 11, 11, 12, 12, 13, 13, 14, 18, 19]), o = random(objects.length);
   const parts = code >= 8 && code <= 13 ? { key: random(4) ? pick(strings) : SYMBOLS[random(3)] } : {};
   if (code === 5) parts.value = pick([null, objects[0]]);
   if (code === 9) parts.descriptor = someDescriptor();
   if (code === 12) parts.value = someValue();
   if (code === 11 || code === 12) parts.receiver = random(3) ? objects[o] : pick([undefined, pick(objects), pick(strings)]);
   if (code === 5 && parts.value !== null && o === 0) parts.value = null;
-  if (code === 7 && random(4)) return;
+  if (code > 14) parts.value = random(2);
+  if ((code === 7 || code === 18) && random(4)) return;
+  leveled(code, o, parts);
+}
+
+// A step with answers that are made as they are asked for; `leveling` where it is 18 or 19.
+let leveling = false;
+
+function leveled(code, o, parts) {
   grow = someAnswer;
-  step(code, o, parts);
+  leveling = code > 14;
+  const done = step(code, o, parts);
   grow = null;
+  return done;
 }
 
 // The large text --------------------------------------------------------------------------
@@ -572,7 +661,24 @@ function large() {
   must(10, 8, { key: 'name' });
   must(5, 7, { value: null });
 
-  for (let i = 0; i < 400; i++) someStep();
+  // Levels: what is sealed, what is frozen, and the two through proxies
+  const [SEALED, FROZEN] = [{ value: 0 }, { value: 1 }];
+  must(1, 0, { value: null });                                                        // 9
+  for (const [i, key] of ['name', '10', SYMBOLS[3]].entries()) must(9, 9, { key, descriptor: i < 2 ? { value: i, writable: true, configurable: true } : { get: FUNCTIONS[1], configurable: true } });
+  must(19, 9, SEALED);
+  must(18, 9, SEALED);
+  must(19, 9, SEALED);
+  must(19, 9, FROZEN);
+  must(18, 9, FROZEN, [value(1), thrown(2)]);                                         // asks for nothing
+  must(19, 9, FROZEN);
+  must(18, 6, FROZEN, [], 1);                                                         // revoked
+  must(19, 6, SEALED, [], 1);
+  must(18, 1, FROZEN, [value(false)]);                                                // false: not prevented
+  must(18, 1, FROZEN, [value(true)], 6);
+  must(18, 1, SEALED, [thrown('name')]);
+  must(19, 1, SEALED, [value(true)]);
+
+  for (let i = 0; i < 500; i++) someStep();
 
   // Everything full: objects, strings, properties
   while (objects.length < 31) must(1, 0, { value: null });
@@ -594,6 +700,131 @@ function large() {
   must(9, last, { key: SYMBOLS[0], descriptor: { configurable: true } });
   must(14, last);
   return joined();
+}
+
+// Texts of steps 18 and 19 ----------------------------------------------------------------
+
+// An object with keys, a number of proxies without traps over it, and the number of the last.
+function stack(keys, depth) {
+  must(1, 0, { value: null });
+  const base = objects.length - 1;
+  for (let i = 0; i < keys; i++) must(9, base, { key: strings[i], descriptor: { value: i, writable: true, enumerable: true, configurable: true } });
+  for (let i = 0; i < depth; i++) must(2, objects.length - 1, { value: 0 });
+  return [base, objects.length - 1];
+}
+
+// 2,048 calls are a result, and more are refused; then nothing has changed.
+function callsOfLevels(add) {
+  const [SEALED, FROZEN] = [{ value: 0 }, { value: 1 }];
+  const begun = (keys, depth) => {
+    start(NAMES);
+    for (let i = 0; i < 256; i++) enter(`key${i}`);
+    return stack(keys, depth);
+  };
+  let [base, top] = begun(204, 3);
+  must(19, top, SEALED);
+  must(9, base, { key: strings[204], descriptor: { value: 204, configurable: true } });
+  must(18, top, FROZEN);                                                              // 10: 205 keys
+  must(6, base);
+  for (const key of [strings[0], strings[203], strings[204]]) must(8, base, { key });
+  must(13, base, { key: strings[204] });
+  must(18, top, FROZEN);                                                              // 2,048 calls
+  for (const key of [strings[0], strings[203]]) must(8, base, { key });
+  must(18, top, FROZEN);
+  must(19, top, FROZEN);
+  add('levels: 204 keys under 3 proxies', text(joined()));
+  [base, top] = begun(254, 7);
+  must(18, top, SEALED);                                                              // 10
+  must(6, base);
+  must(18, base, SEALED);
+  must(19, top, SEALED);                                                              // 2,048 calls
+  must(19, top, FROZEN);
+  must(18, base, FROZEN);
+  must(19, top, FROZEN);
+  add('levels: 254 keys under 7 proxies', text(joined()));
+  [base, top] = begun(255, 7);
+  must(7, base);
+  must(19, top, SEALED);                                                              // the first key is configurable
+  must(18, base, SEALED);
+  must(19, top, SEALED);                                                              // 10
+  must(19, top, FROZEN);
+  add('levels: 255 keys under 7 proxies', text(joined()));
+}
+
+// Objects that are not yet closed under proxies with some traps; what a step 18 that ended midway left is read back.
+function scenesOfLevels(turn) {
+  seed = 77 * turn;
+  start(NAMES);
+  for (const string of ['a', 'b', 'c', '7', '10', '']) enter(string);
+  const several = [16, 32, 1024, 48, 16 + 1024, 32 + 1024, 48 + 1024, 0, 2047];
+  while (objects.length < 30) {
+    must(1, 0, { value: null });
+    const base = objects.length - 1, keys = [...strings.slice(0, 4), SYMBOLS[1]].filter(() => random(3));
+    for (const key of keys) must(9, base, { key, descriptor: random(4) ? { value: someValue(), writable: random(3) > 0, enumerable: true, configurable: random(5) > 0 } : { get: FUNCTIONS[1], set: undefined, configurable: random(4) > 0 } });
+    const depth = 1 + random(2);
+    for (let i = 0; i < depth && objects.length < 32; i++) must(2, objects.length - 1, { value: pick(several) });
+    const top = objects.length - 1, read = () => { must(6, base); must(14, base); for (const key of keys) must(8, base, { key }); };
+    for (let i = 0; i < 6; i++) {
+      const code = random(3) ? 18 : 19, o = random(5) ? top : base;
+      if (leveled(code, o, { value: random(2) }) && code === 18) read();
+      if (i === 3 && random(2)) { must(7, base); for (const key of keys) if (random(2)) must(9, base, { key, descriptor: { configurable: false } }); }
+    }
+    if (random(4) === 0) { must(3, top); must(18, top, { value: random(2) }, [value(true)], 1); must(19, top, { value: random(2) }, [], 1); }
+  }
+  return joined();
+}
+
+// Written by hand: false at the second key, a throw at the third answer, a sheet that ends there.
+function endingsOfLevels(add) {
+  start(NAMES);
+  for (const string of ['a', 'b', 'c', '7', '']) enter(string);
+  const open = (v) => ({ value: v, writable: true, enumerable: true, configurable: true }), fixed = (v) => ({ value: v, writable: false, enumerable: true, configurable: false });
+  const filled = (mask) => {
+    must(1, 0, { value: null });
+    const base = objects.length - 1;
+    for (const key of ['b', 'a', '7']) must(9, base, { key, descriptor: open(key) });
+    must(9, base, { key: SYMBOLS[3], descriptor: { get: FUNCTIONS[1], set: undefined, configurable: true } });
+    must(2, base, { value: mask });
+    return [base, base + 1];
+  };
+  const read = (o) => { must(6, o); for (const key of ['7', 'b', 'a', SYMBOLS[3]]) must(8, o, { key }); must(19, o, { value: 0 }); must(19, o, { value: 1 }); };
+  for (const n of [0, 1]) {
+    let [base, top] = filled(32);
+    must(9, base, { key: '7', descriptor: { writable: false, configurable: false } });
+    must(18, top, { value: n }, [value(true), value(''), value(true)], 32);
+    read(base);
+    [base, top] = filled(32);
+    must(18, top, { value: n }, [value(true)], 15);
+    read(base);
+    must(18, top, { value: n }, [thrown(FUNCTIONS[2])]);
+    must(18, top, { value: n }, []);                                                  // 8
+    must(18, top, { value: n }, [list()]);                                            // 9
+    read(base);
+    [base, top] = filled(1024);
+    must(18, top, { value: n }, [list('a', 'b')], 25);
+    read(base);
+    must(18, top, { value: n }, [list('a', 'b', '7', SYMBOLS[3], 'c')], 26);
+    must(18, top, { value: n }, [list('a', 'b', '7', SYMBOLS[3])]);
+    read(base);
+    must(19, top, { value: n }, [list('a', '7', SYMBOLS[3], 'b')]);
+    must(19, top, { value: n }, [list('a', '7', SYMBOLS[3])], 24);
+  }
+  add('levels: endings', text(joined()));
+  start(NAMES);
+  for (const string of ['a', 'b', 'c', '7']) enter(string);
+  const two = [described(open('7')), described(open('b'))];
+  for (const [last, number] of [[[thrown('c')]], [[]], [[value(undefined)], 9], [[list()]], [[value(FUNCTIONS[0])]], [[described({ get: FUNCTIONS[0], configurable: true }), described({ value: 1, configurable: true })]]]) {
+    const [base, top] = filled(16);
+    must(18, top, { value: 1 }, [...two, ...last], number);
+    read(base);
+    must(18, top, { value: 0 });
+    read(base);
+  }
+  must(18, 0, { value: 1 });
+  must(19, 1, { value: 1 }, [described(fixed('7')), described(fixed('b')), described(fixed('a')), described({ get: FUNCTIONS[1], set: undefined })]);
+  must(19, 1, { value: 1 }, [described(fixed('7')), described(open('b'))], 10);
+  must(19, 1, { value: 0 }, [value(undefined)], 8);
+  add('levels: endings at the third answer', text(joined()));
 }
 
 // All texts -------------------------------------------------------------------------------
@@ -627,6 +858,10 @@ function allTexts() {
     broken(cellsLine({ step: '01', value: '01' + zeros(8) }) + ' -');
     add(`the names from ${order[0]} on`, text(joined()));
   }
+
+  callsOfLevels(add);
+  endingsOfLevels(add);
+  for (let turn = 1; turn <= 12; turn++) add(`levels: scenes ${turn}`, text(scenesOfLevels(turn)));
 
   start(NAMES);
   add('the names alone', text(NAMES.join(' ')));

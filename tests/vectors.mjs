@@ -219,22 +219,24 @@ function stepRefusal(step, counts, proxy) {
   const [code, object] = step;
   const key = step.slice(2, 11), value = step.slice(11, 20), receiver = step.slice(20, 29), d = step.slice(29, 58);
   const keyed = code >= 8 && code <= 13;
-  const valued = [1, 2, 5, 12].includes(code);
+  const leveled = code === 18 || code === 19;
+  const valued = leveled || [1, 2, 5, 12].includes(code);
   const received = code === 11 || code === 12;
-  if (code < 1 || code > 14) return 1;
+  if (code < 1 || (code > 14 && !leveled)) return 1;
   if (code === 1 && object !== 0) return 1;
   if (!(keyed ? wellFormed(key) : allZero(key))) return 1;
   if (!(valued ? wellFormed(value) : allZero(value))) return 1;
   if (!(received ? wellFormed(receiver) : allZero(receiver))) return 1;
   if (!(code === 9 ? descriptorFormed(d) : allZero(d))) return 1;
   if (code === 2 && value[0] === 3 && littleEndian(value.slice(1)) > 2047n) return 1;
+  if (leveled && value[0] === 3 && littleEndian(value.slice(1)) > 1n) return 1;
   const values = [key, value, receiver, ...parts(d)];
   if (code !== 1 && object >= counts.objects) return 2;
   if (!values.every((v) => made(v, counts))) return 2;
   if (!values.every((v) => known(v, counts))) return 3;
   if (keyed && key[0] !== 5 && key[0] !== 6) return 3;
   if ((code === 1 || code === 5) && value[0] !== 1 && value[0] !== 7) return 3;
-  if (code === 2 && value[0] !== 3) return 3;
+  if ((code === 2 || leveled) && value[0] !== 3) return 3;
   if (code === 3 && !proxy) return 3;
   if (received && receiver[0] === 8) return 3;
   return descriptorMixed(d) ? 4 : 0;
@@ -244,9 +246,10 @@ const someValue = () => bytesOf(random(8) ? pick(edges) : { kind: random(10), pa
 const someKey = () => bytesOf({ kind: 5 + random(2), payload: BigInt(random(8)) });
 
 function someStep() {
-  const code = 1 + random(14);
+  const code = pick([1 + random(14), 1 + random(14), 1 + random(14), 1 + random(14), 1 + random(14), 1 + random(14), 1 + random(14), 18 + random(2), 18 + random(2), 15 + random(6)]);
   const keyed = code >= 8 && code <= 13;
-  const value = code === 2 ? bytesOf(integer(random(2100))) : code === 12 ? someValue() : [1, 5].includes(code) ? bytesOf(pick([{ kind: 1, payload: 0n }, { kind: 7, payload: BigInt(random(9)) }])) : Array(9).fill(0);
+  const level = () => (random(4) ? bytesOf(integer(random(2))) : random(2) ? bytesOf(integer(pick([2, 3, 256, 65536, -1, -2147483648]))) : someValue());
+  const value = code === 2 ? bytesOf(integer(random(2100))) : code === 12 ? someValue() : code > 14 ? level() : [1, 5].includes(code) ? bytesOf(pick([{ kind: 1, payload: 0n }, { kind: 7, payload: BigInt(random(9)) }])) : Array(9).fill(0);
   const receiver = code === 11 || code === 12 ? someValue() : Array(9).fill(0);
   const d = code === 9 ? descriptorBytes(descriptor(random(4) ? pick(masks) : random(64))) : Array(29).fill(0);
   return [code, code === 1 ? 0 : random(9), ...(keyed ? someKey() : Array(9).fill(0)), ...value, ...receiver, ...d];
@@ -268,11 +271,21 @@ function damaged(bytes) {
   return copy;
 }
 
-for (let i = 0; i < 1500; i++) {
+// Steps 18 and 19 with every kind of level, whole; then all steps, damaged.
+function emitStep(counts, proxy, step) {
+  emit(at([6, counts.objects, counts.strings, proxy, step.length, ...step], 80), stepRefusal(step, counts, proxy));
+}
+
+for (const code of [15, 16, 17, 18, 19, 20]) {
+  for (const level of [...edges, integer(2), integer(3), integer(255), integer(256), { kind: 3, payload: 0x100000000n }, { kind: 9, payload: 0n }, { kind: 5, payload: 9n }, { kind: 7, payload: 9n }]) {
+    for (const o of [0, 5]) emitStep({ objects: 4, strings: 4 }, o % 2, [code, o, ...Array(9).fill(0), ...bytesOf(level), ...Array(38).fill(0)]);
+  }
+}
+
+for (let i = 0; i < 2000; i++) {
   const counts = { objects: random(10), strings: random(9) };
   const proxy = random(2);
-  const step = damaged(someStep()).slice(0, 64);
-  emit(at([6, counts.objects, counts.strings, proxy, step.length, ...step], 80), stepRefusal(step, counts, proxy));
+  emitStep(counts, proxy, damaged(someStep()).slice(0, 64));
 }
 
 // 7: the tests of a sheet, refusals 1 to 3

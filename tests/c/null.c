@@ -176,6 +176,8 @@ static const struct demnyaluz_step_parts steps[] = {
     {.code = DEMNYALUZ_CODE_SET, .object = 1, .key = SYMBOL, .value = {DEMNYALUZ_KIND_NULL, 0}, .receiver = {DEMNYALUZ_KIND_OBJECT, 1}},
     {.code = DEMNYALUZ_CODE_DELETE, .object = 2, .key = SYMBOL},
     {.code = DEMNYALUZ_CODE_OWN_PROPERTY_KEYS, .object = 1},
+    {.code = DEMNYALUZ_CODE_SET_INTEGRITY_LEVEL, .object = 2, .value = {DEMNYALUZ_KIND_INTEGER32, DEMNYALUZ_LEVEL_FROZEN}},
+    {.code = DEMNYALUZ_CODE_TEST_INTEGRITY_LEVEL, .object = 2, .value = {DEMNYALUZ_KIND_INTEGER32, DEMNYALUZ_LEVEL_SEALED}},
     {.code = DEMNYALUZ_CODE_OWN_PROPERTY_KEYS, .object = 2}, /* one key: the output has no room */
 };
 enum { MADE = sizeof made / sizeof made[0], STEPS = sizeof steps / sizeof steps[0], OUTPUT = 1u << 4 };
@@ -223,10 +225,10 @@ int main(void)
     run(validate, 1u << 3, true);
     check(is_result() && lent.answer && lent.report[DEMNYALUZ_REPORT_FORM] == DEMNYALUZ_FORM_PROPERTY, "validating over absence");
     compare(merge, 4, "merging");
-    for (number = 0; number < 33; number++) {
+    for (number = 0; number < 34; number++) {
         compare(message, 1, "a message");
         run(message, 1, true);
-        check((lent.answer == 0) == (number == 0 || number == 32), "the length of a message");
+        check((lent.answer == 0) == (number == 0 || number == 33), "the length of a message");
     }
     compare(empty_store, 1, "an empty store");
     compare(empty_strings, 1, "an empty table");

@@ -194,6 +194,32 @@ static void forms(void)
           "a refusal");
 }
 
+/* Object 0, with the twelve properties, is sealed and then frozen: what its properties keep, and what the tests of a level answer. */
+static void levels(void)
+{
+    static const int32_t numbers[] = {DEMNYALUZ_LEVEL_SEALED, DEMNYALUZ_LEVEL_FROZEN};
+    for (size_t i = 0; i < 2; i++) {
+        struct demnyaluz_step_parts parts = no_parts(DEMNYALUZ_CODE_TEST_INTEGRITY_LEVEL);
+        parts.value = demnyaluz_from_integer32(numbers[i]);
+        struct demnyaluz_report report = run_alone(parts);
+        check(report.form == DEMNYALUZ_FORM_VALUE && is_same(report.value, demnyaluz_make_value(DEMNYALUZ_KIND_BOOLEAN, 0)), "a level not reached");
+        parts.code = DEMNYALUZ_CODE_SET_INTEGRITY_LEVEL;
+        report = run_alone(parts);
+        check(report.outcome == DEMNYALUZ_OUTCOME_RESULT && report.answers == 0 && report.calls == 2 + 12 * (3 + (uint64_t)i), "a level set");
+        check(report.form == DEMNYALUZ_FORM_VALUE && is_same(report.value, demnyaluz_make_value(DEMNYALUZ_KIND_BOOLEAN, 1)), "its answer");
+        parts.code = DEMNYALUZ_CODE_TEST_INTEGRITY_LEVEL;
+        report = run_alone(parts);
+        check(is_same(report.value, demnyaluz_make_value(DEMNYALUZ_KIND_BOOLEAN, 1)) && report.calls == 14, "a level reached");
+        for (uint64_t symbol = 0; symbol < 12; symbol++) {
+            parts = no_parts(DEMNYALUZ_CODE_GET_OWN_PROPERTY);
+            parts.key = demnyaluz_make_value(DEMNYALUZ_KIND_SYMBOL, symbol);
+            const struct demnyaluz_property p = run_alone(parts).property;
+            const bool accessor = symbol >= 8, writable = !accessor && (symbol & 4) && numbers[i] == DEMNYALUZ_LEVEL_SEALED;
+            check(!p.configurable && p.accessor == accessor && p.writable == writable && p.enumerable == ((symbol & 2) != 0), "a property of its level");
+        }
+    }
+}
+
 int main(void)
 {
     layouts();
@@ -208,6 +234,7 @@ int main(void)
     for (int booleans = 0; booleans < 4; booleans++)
         property(symbol++, true, false, booleans & 2, booleans & 1);
     forms();
+    levels();
     printf("records: %d checks hold\n", checks);
     return 0;
 }

@@ -65,6 +65,94 @@ static bool is_fixed(bool enumerable, int32_t integer)
         && !r.property.configurable && is_same(r.property.value, demnyaluz_from_integer32(integer));
 }
 
+static struct demnyaluz_value level(int32_t number)
+{
+    return demnyaluz_from_integer32(number);
+}
+
+/* Object 2 has the name and a symbol, both writable and configurable; 3 and 4 are proxies of it, 3 with a trap that answers for properties, 4 with one
+   for definitions. */
+static void freeze(struct demnyaluz_value name)
+{
+    const struct demnyaluz_value symbol = demnyaluz_make_value(DEMNYALUZ_KIND_SYMBOL, 5);
+    const struct demnyaluz_descriptor open = {
+        .mask = DEMNYALUZ_FIELD_ENUMERABLE | DEMNYALUZ_FIELD_CONFIGURABLE | DEMNYALUZ_FIELD_WRITABLE | DEMNYALUZ_FIELD_VALUE,
+        .booleans = DEMNYALUZ_FIELD_ENUMERABLE | DEMNYALUZ_FIELD_CONFIGURABLE | DEMNYALUZ_FIELD_WRITABLE,
+        .value = demnyaluz_from_integer32(70000),
+    };
+    const int32_t properties = DEMNYALUZ_TRAP(DEMNYALUZ_CODE_GET_OWN_PROPERTY), definitions = DEMNYALUZ_TRAP(DEMNYALUZ_CODE_DEFINE_OWN_PROPERTY);
+    run_alone((struct demnyaluz_step_parts){.code = DEMNYALUZ_CODE_MAKE_OBJECT, .value = demnyaluz_make_value(DEMNYALUZ_KIND_NULL, 0)});
+    check(is_value(DEMNYALUZ_KIND_OBJECT, 2), "object 2");
+    run_alone((struct demnyaluz_step_parts){.code = DEMNYALUZ_CODE_DEFINE_OWN_PROPERTY, .object = 2, .key = name, .descriptor = open});
+    run_alone((struct demnyaluz_step_parts){.code = DEMNYALUZ_CODE_DEFINE_OWN_PROPERTY, .object = 2, .key = symbol, .descriptor = open});
+    run_alone((struct demnyaluz_step_parts){.code = DEMNYALUZ_CODE_MAKE_PROXY, .object = 2, .value = demnyaluz_from_integer32(properties)});
+    run_alone((struct demnyaluz_step_parts){.code = DEMNYALUZ_CODE_MAKE_PROXY, .object = 2, .value = demnyaluz_from_integer32(definitions)});
+    check(is_value(DEMNYALUZ_KIND_OBJECT, 4), "object 4");
+    const struct demnyaluz_step_parts is_frozen = {
+        .code = DEMNYALUZ_CODE_TEST_INTEGRITY_LEVEL, .object = 2, .value = level(DEMNYALUZ_LEVEL_FROZEN)};
+    const struct demnyaluz_step_parts is_sealed = {
+        .code = DEMNYALUZ_CODE_TEST_INTEGRITY_LEVEL, .object = 2, .value = level(DEMNYALUZ_LEVEL_SEALED)};
+    run_alone(is_frozen);
+    check(is_report(DEMNYALUZ_OUTCOME_RESULT, 0, 0, 1) && is_value(DEMNYALUZ_KIND_BOOLEAN, 0), "an extensible object is not frozen");
+
+    /* the handler tells the first property and throws at the second: the first stays frozen; with no second answer nothing changes */
+    struct demnyaluz_step_parts freeze = {.code = DEMNYALUZ_CODE_SET_INTEGRITY_LEVEL, .object = 3, .value = level(DEMNYALUZ_LEVEL_FROZEN)};
+    uint8_t told[2 + DEMNYALUZ_DESCRIPTOR_BYTES + 1 + DEMNYALUZ_VALUE_BYTES] = {1, DEMNYALUZ_ANSWER_DESCRIPTOR};
+    demnyaluz_write_descriptor(told + 2, &open);
+    static uint64_t before[DEMNYALUZ_STORE_WORDS];
+    memcpy(before, words, sizeof before);
+    run(freeze, told, 2 + DEMNYALUZ_DESCRIPTOR_BYTES);
+    check(is_report(DEMNYALUZ_OUTCOME_REFUSED, DEMNYALUZ_REFUSAL_SHEET_SPENT, 0, 0), "a freezing without a second answer");
+    check(memcmp(before, words, sizeof before) == 0, "a refusal in its midst changes nothing");
+    told[0] = 2;
+    told[2 + DEMNYALUZ_DESCRIPTOR_BYTES] = DEMNYALUZ_ANSWER_THROW;
+    demnyaluz_write_value(told + 3 + DEMNYALUZ_DESCRIPTOR_BYTES, demnyaluz_from_integer32(4464));
+    run(freeze, told, sizeof told);
+    check(is_report(DEMNYALUZ_OUTCOME_THROWN, 0, 2, 12) && is_value(DEMNYALUZ_KIND_INTEGER32, 4464), "a freezing whose second answer throws");
+    run_alone((struct demnyaluz_step_parts){.code = DEMNYALUZ_CODE_GET_OWN_PROPERTY, .object = 2, .key = name});
+    check(is_fixed(true, 70000), "the first property stays frozen");
+    run_alone((struct demnyaluz_step_parts){.code = DEMNYALUZ_CODE_GET_OWN_PROPERTY, .object = 2, .key = symbol});
+    check(report().property.writable && report().property.configurable, "the second is as it was");
+    run_alone((struct demnyaluz_step_parts){.code = DEMNYALUZ_CODE_IS_EXTENSIBLE, .object = 2});
+    check(is_value(DEMNYALUZ_KIND_BOOLEAN, 0), "the object stays non-extensible");
+
+    /* the other handler accepts what is frozen already and rejects the symbol */
+    uint8_t rejecting[1 + 2 * (1 + DEMNYALUZ_VALUE_BYTES)] = {2, DEMNYALUZ_ANSWER_VALUE};
+    demnyaluz_write_value(rejecting + 2, demnyaluz_make_value(DEMNYALUZ_KIND_BOOLEAN, 1));
+    rejecting[2 + DEMNYALUZ_VALUE_BYTES] = DEMNYALUZ_ANSWER_VALUE;
+    demnyaluz_write_value(rejecting + 3 + DEMNYALUZ_VALUE_BYTES, demnyaluz_make_value(DEMNYALUZ_KIND_BOOLEAN, 0));
+    freeze.object = 4;
+    run(freeze, rejecting, sizeof rejecting);
+    check(is_report(DEMNYALUZ_OUTCOME_TYPE_ERROR, DEMNYALUZ_MESSAGE_DEFINITION_REJECTED, 2, 12), "a definition that is rejected: message 32");
+    uint8_t text[DEMNYALUZ_LONGEST_MESSAGE];
+    const char *rejected = "Property definition was rejected";
+    check(demnyaluz_message(DEMNYALUZ_MESSAGE_DEFINITION_REJECTED, text, sizeof text) == strlen(rejected)
+              && memcmp(text, rejected, strlen(rejected)) == 0,
+          "the text of message 32");
+
+    freeze.object = 2;
+    freeze.value = level(DEMNYALUZ_LEVEL_SEALED);
+    run_alone(is_sealed);
+    check(is_report(DEMNYALUZ_OUTCOME_RESULT, 0, 0, 4) && is_value(DEMNYALUZ_KIND_BOOLEAN, 0), "it is not sealed");
+    run_alone(freeze);
+    check(is_report(DEMNYALUZ_OUTCOME_RESULT, 0, 0, 8) && is_value(DEMNYALUZ_KIND_BOOLEAN, 1), "it is sealed now");
+    run_alone(is_sealed);
+    check(is_report(DEMNYALUZ_OUTCOME_RESULT, 0, 0, 4) && is_value(DEMNYALUZ_KIND_BOOLEAN, 1), "and found so");
+    run_alone(is_frozen);
+    check(is_report(DEMNYALUZ_OUTCOME_RESULT, 0, 0, 4) && is_value(DEMNYALUZ_KIND_BOOLEAN, 0), "but not frozen");
+    freeze.value = level(DEMNYALUZ_LEVEL_FROZEN);
+    run_alone(freeze);
+    check(is_report(DEMNYALUZ_OUTCOME_RESULT, 0, 0, 10) && is_value(DEMNYALUZ_KIND_BOOLEAN, 1), "it is frozen now");
+    run_alone(is_frozen);
+    check(is_report(DEMNYALUZ_OUTCOME_RESULT, 0, 0, 4) && is_value(DEMNYALUZ_KIND_BOOLEAN, 1), "and found so");
+    freeze.value = level(2);
+    run_alone(freeze);
+    check(is_report(DEMNYALUZ_OUTCOME_REFUSED, DEMNYALUZ_REFUSAL_MALFORMED_RECORD, 0, 0), "a third level");
+    freeze.value = demnyaluz_make_value(DEMNYALUZ_KIND_BOOLEAN, 1);
+    run_alone(freeze);
+    check(is_report(DEMNYALUZ_OUTCOME_REFUSED, DEMNYALUZ_REFUSAL_UNUSABLE_PART, 0, 0), "a level that is no Integer32");
+}
+
 int main(void)
 {
     memset(words, 0xff, sizeof words);
@@ -126,14 +214,14 @@ int main(void)
     const char *expected = "Proxy trap returned unexpected data descriptor";
     check(size == strlen(expected) && memcmp(text, expected, size) == 0, "the text of message 17");
     uint64_t longest = 0;
-    for (uint64_t n = 1; n <= 31; n++) {
+    for (uint64_t n = 1; n <= DEMNYALUZ_MESSAGE_DEFINITION_REJECTED; n++) {
         size = demnyaluz_message(n, text, sizeof text);
         check(0 < size && size <= sizeof text, "a text for each message");
         if (longest < size)
             longest = size;
     }
     check(longest == DEMNYALUZ_LONGEST_MESSAGE, "the longest text");
-    check(demnyaluz_message(0, text, sizeof text) == 0 && demnyaluz_message(32, text, sizeof text) == 0, "no other message");
+    check(demnyaluz_message(0, text, sizeof text) == 0 && demnyaluz_message(33, text, sizeof text) == 0, "no other message");
     text[0] = '?';
     check(demnyaluz_message(1, text, 40) == 41 && text[0] == '?', "a text that does not fit");
 
@@ -159,6 +247,7 @@ int main(void)
     demnyaluz_merge(MEMORY, sealed_bytes, sizeof sealed_bytes, other_bytes, sizeof other_bytes, report_words);
     check(is_report(DEMNYALUZ_OUTCOME_RESULT, 0, 0, 0) && is_fixed(true, 4464), "4464 merged into the sealed 70000");
 
+    freeze(visits);
     printf("sealed: %d checks hold\n", checks);
     return 0;
 }

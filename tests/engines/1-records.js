@@ -10,7 +10,8 @@
 //     record        kind 1: a step, 2: a string's code units (2 bytes each), 3 to 6: a descriptor
 //     sheet         kind 1: the answer sheet; 4 to 6: the current descriptor, none for an absent property
 //     expectation   outcome (1): 0 refused, 1 result, 2 TypeError, 3 throw
-//                   numbers (4): bit n is set where refusal or message n would be right; the engine's text may fit several messages
+//                   numbers (4): bit n is set where refusal or message n would be right, bit 0 for message 32; the engine's text may
+//                   fit several messages
 //                   answers used (1)
 //                   completion: its length (2), then 1 a value, 2 a property, 3 absence, 4 and how many keys (2), or 5 yes or no and
 //                   the property or absence after it
@@ -126,19 +127,20 @@ function stepRefusal(step, counts) {
   if (step.length !== 58) return 1;
   const code = step[0], o = step[1];
   const key = step.slice(2, 11), value = step.slice(11, 20), receiver = step.slice(20, 29), d = step.slice(29);
-  const usesKey = code >= 8 && code <= 13, usesReceiver = code === 11 || code === 12;
-  if (code < 1 || code > 14 || (code === 1 && o !== 0)) return 1;
+  const usesKey = code >= 8 && code <= 13, usesReceiver = code === 11 || code === 12, usesLevel = code === 18 || code === 19;
+  if (code < 1 || (code > 14 && !usesLevel) || (code === 1 && o !== 0)) return 1;
   if (usesKey ? !isValue(key) : !isZero(key)) return 1;
-  if ([1, 2, 5, 12].includes(code) ? !isValue(value) : !isZero(value)) return 1;
+  if (usesLevel || [1, 2, 5, 12].includes(code) ? !isValue(value) : !isZero(value)) return 1;
   if (usesReceiver ? !isValue(receiver) : !isZero(receiver)) return 1;
   if (code === 9 ? !isDescriptor(d) : !isZero(d)) return 1;
   if (code === 2 && value[0] === 3 && payload(value) > 2047) return 1;
+  if (usesLevel && value[0] === 3 && payload(value) > 1) return 1;
   const values = [key, value, receiver].concat(partsOf(d));
   if ((code !== 1 && o >= counts.objects) || !values.every(isMade(counts))) return 2;
   if (!values.every(isKnown(counts))) return 3;
   if (usesKey && key[0] !== 5 && key[0] !== 6) return 3;
   if ((code === 1 || code === 5) && value[0] !== 1 && value[0] !== 7) return 3;
-  if (code === 2 && value[0] !== 3) return 3;
+  if ((code === 2 || usesLevel) && value[0] !== 3) return 3;
   if (code === 3 && !counts.isProxy(o)) return 3;
   if (usesReceiver && receiver[0] === 8) return 3;
   return isUsable(d) ? 0 : 4;

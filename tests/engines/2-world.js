@@ -5,8 +5,10 @@ const SYMBOLS = Array.from({ length: 256 }, (_, n) => Symbol(n));
 const symbolNumber = new Map(SYMBOLS.map((s, n) => [s, n]));
 const refusal8 = { refusal: 8 }, refusal9 = { refusal: 9 };
 
-// The answers of the call that runs. `grow`, where it is there, makes the next answer for whoever asks, after the given ones.
-let sheet = { answers: [], used: 0, grow: null };
+// The answers of the call that runs. `grow`, where it is there, makes the next answer for whoever asks, after the given ones. `rejected` is the first
+// preventExtensions or defineProperty trap that answered false, and how many answers were used then.
+const newSheet = (answers, grow) => ({ answers, used: 0, grow, rejected: null });
+let sheet = newSheet([], null);
 
 function next(asks) {
   if (sheet.used === sheet.answers.length) {
@@ -139,8 +141,14 @@ function handlerOf(target, mask) {
     getOwnPropertyDescriptor: (_, key) => objectAnswer({ trap: 'getOwnPropertyDescriptor', target, key }, 2, (a) => descriptorObject(a.descriptor)),
     ownKeys: () => objectAnswer({ trap: 'ownKeys', target }, 3, (a) => a.list.map(valueOf)),
   };
+  const rejects = ['preventExtensions', 'defineProperty'];
+  const asked = (trap) => (_, key, more) => {
+    const x = valueOf(valueAnswer({ trap, target, key, more }));
+    if (!x && rejects.includes(trap) && sheet.rejected === null) sheet.rejected = { trap, used: sheet.used };
+    return x;
+  };
   TRAPS.forEach((trap, i) => {
-    if (mask & (1 << i)) handler[trap] = traps[trap] || ((_, key, more) => valueOf(valueAnswer({ trap, target, key, more })));
+    if (mask & (1 << i)) handler[trap] = traps[trap] || asked(trap);
   });
   return handler;
 }
@@ -176,6 +184,8 @@ function run(s) {
     case 11: return told(Reflect.get(it, key, receiver));
     case 12: return told(Reflect.set(it, key, value, receiver));
     case 13: return told(Reflect.deleteProperty(it, key));
+    case 18: (value === 1 ? Object.freeze : Object.seal)(it); return told(true);
+    case 19: return told((value === 1 ? Object.isFrozen : Object.isSealed)(it));
     default: return Reflect.ownKeys(it);
   }
 }
@@ -192,18 +202,36 @@ function failed(e) {
   throw e;
 }
 
+// 7.3.15 answers false where Object.freeze and Object.seal throw: where [[PreventExtensions]] is false. A [[DefineOwnProperty]] that is false is message
+// 32. A method that a trap made false calls nothing after it, and no method calls [[PreventExtensions]] or [[DefineOwnProperty]] of a target to check an
+// answer; without a trap neither is ever false here, since a handler changes no object. So of a TypeError the trap that was asked last tells what it is:
+// one of these two that answered false, or else a check of a proxy. What the engine did after a false, and its text, must agree.
+function failedLevel(e) {
+  const { rejected } = sheet, expected = failed(e);
+  const { outcome, numbers } = expected, status = numbers === STATUS, definition = numbers === 1 << 32;
+  if (rejected === null) {
+    if (outcome === 2 && (status || definition)) throw new Error('a false that no trap answered: ' + e.message);
+    return expected;
+  }
+  const prevented = rejected.trap === 'preventExtensions';
+  if (outcome !== 2 || rejected.used !== sheet.used || (numbers !== ANY && !(prevented ? status : definition))) throw new Error('a false of a trap was not the end: ' + String(e));
+  if (prevented) return { outcome: 1, numbers: 0, answers: sheet.used, completion: '01' + valueText(false) };
+  return { outcome, numbers: 1 << 32, answers: sheet.used, completion: '' };
+}
+
 // One step over tested records; `room` is the output's length. The expectation, and what the output then holds.
 function perform(s, room) {
   if (s.code <= 2 && world.objects.length === FULL.objects) return refused(7);
   try {
     const done = run(s);
+    if (s.code === 18 && sheet.rejected !== null) return failedLevel('no error');
     if (s.code !== 14) return { outcome: 1, numbers: 0, answers: sheet.used, completion: done };
     if (9 * done.length > room) return refused(11);
     let output = '';
     for (const key of done) output += hexOf(bytesOf(key));
     return { outcome: 1, numbers: 0, answers: sheet.used, completion: '04' + hex2(done.length), output };
   } catch (e) {
-    return failed(e);
+    return s.code === 18 ? failedLevel(e) : failed(e);
   }
 }
 
@@ -211,6 +239,42 @@ function perform(s, room) {
 function takeBack(sizes, key) {
   const grown = world.objects[sizes.findIndex((n, o) => n > world.sizes[o])].it;
   return Reflect.deleteProperty(grown, key) && dumpStore().text === world.dump;
+}
+
+// All objects, for restored: step 18 changes them as it goes, and an engine cannot take that back.
+function copied() {
+  const part = (p, name) => (typeof p[name] === 'boolean' && name !== 'value' ? p[name] : bytesOf(p[name]));
+  const entry = (it, key) => {
+    const p = Reflect.getOwnPropertyDescriptor(it, key), d = {};
+    for (const [name] of FIELDS) if (name in p) d[name] = part(p, name);
+    return [key, d];
+  };
+  return world.objects.map(({ it, proxy, target, mask, revoked }) => (proxy ? { proxy, target, mask, revoked } : {
+    proxy, extensible: Reflect.isExtensible(it), prototype: bytesOf(Reflect.getPrototypeOf(it)), entries: Reflect.ownKeys(it).map((key) => entry(it, key)) }));
+}
+
+// Other objects in the place of all, as they were.
+function restored(copies) {
+  world.objects = [];
+  world.numbers = new Map();
+  for (const { proxy, target, mask } of copies) {
+    if (!proxy) { add(Object.create(null), false, {}); continue; }
+    const made = Proxy.revocable(world.objects[target].it, handlerOf(target, mask));
+    add(made.proxy, true, { target, mask, revoke: made.revoke });
+  }
+  copies.forEach(({ proxy, revoked, prototype, entries, extensible }, n) => {
+    const at = world.objects[n];
+    if (proxy) {
+      if (revoked) { at.revoke(); at.revoked = true; }
+      return;
+    }
+    Reflect.setPrototypeOf(at.it, valueOf(prototype));
+    for (const [key, d] of entries) Reflect.defineProperty(at.it, key, descriptorObject(d));
+    if (!extensible) Reflect.preventExtensions(at.it);
+  });
+  const dump = dumpStore();
+  if (dump.text !== world.dump) throw new Error('the store from before did not come back');
+  return dump;
 }
 
 // Keeps what the store holds now.
@@ -244,10 +308,12 @@ function doStep(record, given, room, after) {
   const growing = typeof given === 'function', before = counts();
   let n = stepRefusal(record, before);
   if (n === 0 && !growing) n = sheetRefusal(given, before);
-  sheet = { answers: n === 0 && !growing ? sheetOf(given) : [], used: 0, grow: growing ? given : null };
+  sheet = newSheet(n === 0 && !growing ? sheetOf(given) : [], growing ? given : null);
   const s = n === 0 ? stepOf(record) : null;
+  const copies = n === 0 && s.code === 18 ? copied() : null;
   let expected = n === 0 ? perform(s, room) : refused(n), whole = true;
-  const dump = dumpStore();
+  let dump = dumpStore();
+  if (copies !== null && expected.outcome === 0 && dump.text !== world.dump) dump = restored(copies);
   if (dump.sizes.reduce((sum, n) => sum + n, 0) > FULL.properties) {
     expected = refused(7);
     whole = takeBack(dump.sizes, valueOf(s.key));

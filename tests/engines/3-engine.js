@@ -23,8 +23,9 @@ if (engine === 'node') Error.stackTraceLimit = 0;
 
 const isOverflow = (e) => /^(Maximum call stack size exceeded|too much recursion)/.test(e.message);
 
-// By how a text begins and what else it holds: the numbers of the messages that the check may have. 29 to 31 are our own numbers;
-// no more than the TypeError was asked for there, but the texts tell these checks apart too.
+// By how a text begins and what else it holds: the numbers of the messages that the check may have. 29 to 32 are our own numbers;
+// no more than the TypeError was asked for there, but the texts tell these checks apart too. None is where Object.freeze and Object.seal throw and step 18
+// answers false.
 const TEXTS = {
   node: [
     ["Cannot perform '", 'on a proxy that has been revoked', [1]],
@@ -57,6 +58,8 @@ const TEXTS = {
     ['Invalid property descriptor. Cannot both specify accessors and a value or writable attribute', '', [29]],
     ['', 'is not a valid property name', [30]],
     ['CreateListFromArrayLike called on non-object', '', [31]],
+    ["'defineProperty' on proxy: trap returned falsish for property", '', [32]],
+    ["'preventExtensions' on proxy: trap returned falsish", '', []],
   ],
   gjs: [
     ['illegal operation attempted on a revoked proxy', '', [1]],
@@ -92,6 +95,8 @@ const TEXTS = {
     ['property descriptors must not specify a value or be writable when a getter or setter has been specified', '', [29]],
     ['proxy [[OwnPropertyKeys]] must return an array with only string and symbol elements', '', [30]],
     ['ownKeys trap must be an object', '', [31]],
+    ['proxy defineProperty handler returned false for property', '', [32]],
+    ['proxy preventExtensions handler returned false', '', []],
   ],
   jsc: [
     ['Proxy has already been revoked', '', [1]],
@@ -126,10 +131,13 @@ const TEXTS = {
     ["Invalid property.  '", 'present on property with getter or setter', [29]],
     ["Proxy handler's 'ownKeys' method must return an array-like object containing only Strings and Symbols", '', [30]],
     ["Proxy handler's 'ownKeys' method must return an object", '', [31]],
+    ["Proxy's 'defineProperty' trap returned falsy value for property", '', [32]],
+    ['Unable to prevent extension in Object.', '', []],
   ],
 }[engine];
 
-const ANY = -2;                                           // every message: the text is in no row
+const ANY = -2;                                           // every message but 32: the text is in no row
+const STATUS = 0;                                         // no message: [[PreventExtensions]] was false
 
 function messagesOf(text) {
   for (const [begin, rest, numbers] of TEXTS) {

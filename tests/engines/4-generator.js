@@ -121,6 +121,9 @@ function handedDescriptor(o, key) {
   return someDescriptor();
 }
 
+// What can still be changed.
+const openDescriptor = () => Object.assign(chance(75) ? { value: someValue(), writable: chance(85) } : { get: someFunction(), set: UNDEFINED }, { enumerable: flag(), configurable: chance(90) });
+
 // Answers --------------------------------------------------------------------------------
 
 // A value that counts as true, or as false; the empty string is one of the entered ones.
@@ -145,6 +148,23 @@ function ownPropertyAnswer(o, key) {
   const spoilt = () => Object.assign(someDescriptor(), weighed([[3, { get: somePrimitive() }], [3, { set: somePrimitive() }], [2, { get: someObject() }], [3, { get: someFunction(), value: someValue() }], [2, { set: UNDEFINED, writable: false }]]));
   return weighed([[there ? 55 : 12, () => described(near(there || { value: someValue(), writable: true, enumerable: true, configurable: true }))], [there ? 20 : 55, () => answered(UNDEFINED)],
     [10, () => described(someDescriptor())], [5, () => described(spoilt())], [3, () => answered(somePrimitive())]])();
+}
+
+// What is true of the ordinary object at the end, so that a step which asks for much gets far; null for a question of another kind. A trap that says that
+// it defined what is not there so is a check's TypeError: false, mostly, and then message 32.
+function trueAnswer(asks) {
+  const base = asks.target === undefined ? null : baseOf(asks.target);
+  switch (asks.trap) {
+    case 'isExtensible': return truth(Reflect.isExtensible(base));
+    case 'preventExtensions': return truth(!Reflect.isExtensible(base));
+    case 'getOwnPropertyDescriptor': { const there = current(asks.target, asks.key); return there === null ? answered(UNDEFINED) : described(there); }
+    case 'defineProperty': {
+      const p = Reflect.getOwnPropertyDescriptor(base, asks.key);
+      return truth(p !== undefined && !p.configurable && !(asks.more.writable === false && p.writable) ? chance(96) : chance(35));
+    }
+    case 'ownKeys': { const own = ownKeys(asks.target); return listed((chance(20) ? shuffled(own) : own).slice(0, 256)); }
+    default: return null;
+  }
 }
 
 // The next answer, mostly near the truth about the ordinary object at the end.
@@ -188,10 +208,24 @@ function walk(o) {
   return (Reflect.ownKeys(baseOf(o)).length + 8) * depth * depth * fan;
 }
 
+// The calls of step 18, or 19, at the most: [[IsExtensible]], [[PreventExtensions]], [[GetOwnProperty]], [[DefineOwnProperty]] and [[OwnPropertyKeys]] of
+// each object from the ordinary one outwards. The keys are those of the ordinary object: it is not extensible once they are asked for.
+function levelCalls(code, o) {
+  const masks = [];
+  for (let at = world.objects[o]; at.proxy; at = world.objects[at.target]) masks.unshift(at.mask);
+  const n = Reflect.ownKeys(baseOf(o)).length;
+  let e = 1, p = 1, g = 1, d = 3, k = 1;
+  for (const mask of masks) {
+    [e, p, g, d, k] = [1 + e, 1 + (mask & 8 ? e : p), 1 + g + (mask & 16 ? e : 0), 1 + (mask & 32 ? g + e : d), 1 + k + (mask & 1024 ? e + n * g : 0)];
+  }
+  return code === 18 ? p + k + n * (g + d) : e + k + n * g;
+}
+
 // Steps ----------------------------------------------------------------------------------
 
 const MASKS = [0, 0, 0, 1, 2, 4, 8, 16, 32, 64, 128, 256, 512, 1024, 16 + 1024, 32 + 256, 16 + 32];
-const someMask = (style) => integer(style.loops && chance(60) ? 0 : weighed([[45, 2047], [20, pick(MASKS)], [35, random(2048)]]));
+const LEVEL_MASKS = [16, 16, 32, 32, 1024, 16 + 32, 16 + 1024, 32 + 1024, 16 + 32 + 1024, 0];      // preventExtensions is forwarded, and later answers may be wrong
+const someMask = (style) => integer(style.loops && chance(60) ? 0 : style.levels && chance(65) ? pick(LEVEL_MASKS) : weighed([[45, 2047], [20, pick(MASKS)], [35, random(2048)]]));
 const someReceiver = (o) => weighed([[50, () => object(o)], [22, someObject], [10, () => UNDEFINED], [18, somePrimitive]])();
 
 function someStep(style) {
@@ -201,15 +235,18 @@ function someStep(style) {
   const proxies = world.objects.map((_, i) => i).filter((i) => world.objects[i].proxy && !world.objects[i].revoked);
   const o = code !== 2 && proxies.length > 0 && chance(style.proxies) ? pick(proxies) : chance(style.last) ? n - 1 - random(Math.min(n, 3)) : random(n), key = someKey(o, style);
   if (code === 7 && chance(50)) return { code, object: world.numbers.get(baseOf(o)) };
+  const level = integer(random(2));
+  if (code === 18 && chance(style.levels ? 12 : 30)) return { code, object: world.numbers.get(baseOf(o)), value: level };
   if (style.loops && proxies.length > 0 && chance(12)) { const p = pick(proxies); return { code: 5, object: world.numbers.get(baseOf(p)), value: object(p) }; }
   switch (code) {
     case 2: return { code, object: o, value: someMask(style) };
     case 3: return proxies.length > 0 && chance(30) ? { code, object: o === proxies[0] || chance(80) ? pick(proxies) : o } : { code: 6, object: o };
     case 5: return { code, object: o, value: chance(80) ? someObject() : NULL };
-    case 9: return { code, object: o, key, descriptor: handedDescriptor(o, valueOf(key)) };
+    case 9: return { code, object: o, key, descriptor: style.levels && chance(70) ? openDescriptor() : handedDescriptor(o, valueOf(key)) };
     case 11: return { code, object: o, key, receiver: someReceiver(o) };
     case 12: { const there = current(o, valueOf(key)); return { code, object: o, key, value: there && there.value && chance(50) ? (chance(60) ? there.value : nearValue(there.value)) : someValue(), receiver: someReceiver(o) }; }
     case 8: case 10: case 13: return { code, object: o, key };
+    case 18: case 19: return { code, object: o, value: level };
     default: return { code, object: o };
   }
 }
@@ -255,6 +292,21 @@ function wouldLoop(o, p) {
   return false;
 }
 
+// Where JavaScriptCore departs from 10.1.9.2: [[Set]] of an array index that the receiver lacks. A prototype has it as writable data, which decides; but a
+// prototype further up that has it read-only or as an accessor decides there. docs/DIFFERENCES.md.
+function isIntercepted(s) {
+  let n = s.object, found = false;
+  while (world.objects[n].proxy && !world.objects[n].revoked && !(world.objects[n].mask & 256)) n = world.objects[n].target;
+  const key = valueOf(s.key), isIndex = typeof key === 'string' && String(key >>> 0) === key && key >>> 0 !== 4294967295;
+  if (world.objects[n].proxy || valueOf(s.receiver) !== world.objects[n].it || !isIndex || Reflect.getOwnPropertyDescriptor(world.objects[n].it, key) !== undefined) return false;
+  for (; n !== undefined && !world.objects[n].proxy; n = world.numbers.get(Reflect.getPrototypeOf(world.objects[n].it))) {
+    const p = Reflect.getOwnPropertyDescriptor(world.objects[n].it, key);
+    if (p !== undefined && !p.writable) return found;
+    found = found || p !== undefined;
+  }
+  return false;
+}
+
 // A step as the style has it, or another where it would walk too far or make a loop that is not asked for.
 function chosenStep(style) {
   const s = someStep(style);
@@ -265,8 +317,10 @@ function chosenStep(style) {
 // False where the world cannot go on.
 function step(style) {
   const whole = stepBytes(chosenStep(style)), record = chance(2) ? damaged(whole) : whole;
-  const lists = record[0] === 14 && record[1] < world.objects.length;
+  const made = record[1] < world.objects.length, lists = record[0] === 14 && made, levels = (record[0] === 18 || record[0] === 19) && made;
   if (lists && walk(record[1]) > 1500) record[0] = 6;
+  if (levels && levelCalls(record[0], record[1]) > 2048) { record[0] = 6; record.fill(0, 11, 20); }
+  if (engine === 'jsc' && record[0] === 12 && stepRefusal(record, counts()) === 0 && isIntercepted(stepOf(record))) { record[0] = 6; record.fill(0, 2); }
   const room = lists ? someRoom(record[1]) : random(4) * random(12);
   if (chance(3)) {
     const bytes = sheetBytes(Array.from({ length: random(4) }, anyAnswer));
@@ -275,7 +329,29 @@ function step(style) {
   const end = chance(8) ? random(4) : FULL.answers;       // where the sheet ends too soon
   let given = 0;
   const extra = end === FULL.answers && chance(15) ? [anyAnswer(), anyAnswer()].slice(random(2)) : [];
-  return doStep(record, (asks) => (given++ < end ? someAnswer(asks) : null), room, extra);
+  const honest = levels ? pick([75, 90, 98]) : 0;
+  return doStep(record, (asks) => (given++ < end ? (chance(honest) && trueAnswer(asks)) || someAnswer(asks) : null), room, extra);
+}
+
+// An object with some properties that is not yet closed, a proxy or two over it, and its level set and tested through them: a step 18 that ends midway has
+// changed something.
+function levelScene() {
+  const run = (s, honest, end) => {
+    let given = 0;
+    return doStep(stepBytes(s), (asks) => (given++ < end ? (chance(honest) && trueAnswer(asks)) || someAnswer(asks) : null), 0);
+  };
+  const last = () => world.objects.length - 1, level = integer(random(3) ? 1 : 0);
+  run({ code: 1, value: NULL }, 0, 0);
+  const base = last();
+  for (let n = 1 + random(5); n > 0; n--) {
+    const key = chance(75) ? someString() : someSymbol();
+    if (!run({ code: 9, object: base, key, descriptor: chance(85) ? openDescriptor() : someDescriptor() }, 0, 0)) return false;
+  }
+  for (let n = 1 + random(2); n > 0; n--) run({ code: 2, object: last(), value: integer(chance(85) ? pick(LEVEL_MASKS) : random(2048)) }, 0, 0);
+  if (chance(20)) run(chance(50) ? { code: 7, object: base } : { code: 18, object: base, value: integer(random(2)) }, 0, 0);
+  const end = chance(20) ? random(6) : FULL.answers, honest = pick([70, 88, 96]);
+  run({ code: 18, object: last(), value: level }, honest, end);
+  return run({ code: 19, object: chance(50) ? base : last(), value: level }, honest, FULL.answers);
 }
 
 // Descriptors by themselves --------------------------------------------------------------
@@ -292,14 +368,15 @@ function stepAlone() {
 
 // Worlds ---------------------------------------------------------------------------------
 
-const EVEN = [[4, 1], [5, 2], [1, 3], [6, 4], [5, 5], [5, 6], [4, 7], [12, 8], [20, 9], [9, 10], [10, 11], [12, 12], [6, 13], [10, 14]];
+const EVEN = [[4, 1], [5, 2], [1, 3], [6, 4], [5, 5], [5, 6], [4, 7], [12, 8], [20, 9], [9, 10], [10, 11], [12, 12], [6, 13], [10, 14], [3, 18], [4, 19]];
 const STYLES = [
   [70, { calls: 150, strings: 8, last: 30, proxies: 60, codes: EVEN }],
-  [10, { calls: 60, strings: 4, last: 60, proxies: 75, codes: [[2, 1], [14, 2], [1, 3], [4, 4], [3, 5], [4, 6], [3, 7], [10, 8], [12, 9], [6, 10], [8, 11], [8, 12], [5, 13], [8, 14]] }],
-  [24, { calls: 60, strings: 5, last: 40, proxies: 65, codes: [[2, 1], [4, 2], [3, 4], [3, 5], [3, 6], [9, 7], [16, 8], [22, 9], [9, 10], [12, 11], [9, 12], [6, 13], [16, 14]] }],
+  [10, { calls: 60, strings: 4, last: 60, proxies: 75, codes: [[2, 1], [14, 2], [1, 3], [4, 4], [3, 5], [4, 6], [3, 7], [10, 8], [12, 9], [6, 10], [8, 11], [8, 12], [5, 13], [8, 14], [4, 18], [5, 19]] }],
+  [24, { calls: 60, strings: 5, last: 40, proxies: 65, codes: [[2, 1], [4, 2], [3, 4], [3, 5], [3, 6], [9, 7], [16, 8], [22, 9], [9, 10], [12, 11], [9, 12], [6, 13], [16, 14], [5, 18], [6, 19]] }],
+  [36, { calls: 60, strings: 5, last: 85, proxies: 35, levels: true, codes: [[7, 1], [12, 2], [1, 3], [1, 6], [1, 7], [5, 8], [44, 9], [2, 12], [2, 13], [4, 14], [14, 18], [14, 19]] }],
   [6, { calls: 50, strings: 4, last: 40, proxies: 40, loops: true, codes: EVEN }],
   [4, { calls: 120, strings: 3, last: 5, proxies: 20, codes: [[30, 1], [30, 2], [2, 3], [5, 9], [5, 11], [5, 12]] }],
-  [2, { calls: 700, strings: 4, last: 0, proxies: 10, crowd: true, codes: [[1, 1], [1, 2], [90, 9], [2, 10], [12, 12], [3, 13], [1, 14]] }],
+  [2, { calls: 700, strings: 4, last: 0, proxies: 10, crowd: true, codes: [[1, 1], [1, 2], [90, 9], [2, 10], [12, 12], [3, 13], [1, 14], [1, 18], [2, 19]] }],
 ];
 
 function someWorld(limit) {
@@ -309,6 +386,7 @@ function someWorld(limit) {
   if (style.crowd) for (let i = 0, n = pick([40, 120, 250, 270]); i < n && calls < end; i++) doEnter('k' + i);
   while (calls < end) {
     if (chance(3)) doEnter(someText());
+    else if (style.levels && chance(25) && end - calls > 12 && world.objects.length + 3 <= FULL.objects) { if (!levelScene()) return; }
     else if (world.objects.length > 0 && chance(5)) stepAlone();
     else if (!step(style)) return;
   }

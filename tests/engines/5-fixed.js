@@ -20,10 +20,11 @@ function fixedCalls() {
   const closed = make(object(free)), r = proxy(closed);
   define(closed, a, { value: integer(1), writable: true, enumerable: true, configurable: true });
   run(7, closed);
-  // messages 1 to 31, in their order
+  // messages 1 to 31, in their order; 32 is below
   const gone = proxy(free);
   run(3, gone); run(3, gone);
   for (let code = 4; code <= 14; code++) run(code, gone, { key: code > 7 && code < 14 ? a : ZERO, value: code === 5 ? NULL : ZERO });
+  for (const code of [18, 19]) for (const level of [0, 1]) run(code, gone, { value: integer(level) });
   for (const v of [integer(1), UNDEFINED, a, s, boolean(true)]) run(4, p, {}, [answered(v)]);
   run(4, r, {}, [answered(NULL)]); run(4, r, {}, [answered(object(free))]);
   run(5, r, { value: NULL }, [yes]); run(5, r, { value: object(free) }, [yes]); run(5, r, { value: NULL }, [no]);
@@ -71,7 +72,7 @@ function fixedCalls() {
   // throws of each kind of value
   for (const v of PRIMITIVES.concat([a, s, object(o), object(p), f])) run(11, p, { key: a, receiver: NULL }, [thrown(v)]);
   // refusals 1 to 4
-  for (const bytes of [[], stepBytes({ code: 4 }).slice(1), stepBytes({ code: 0 }), stepBytes({ code: 15 }), stepBytes({ code: 4, key: a }), stepBytes({ code: 1, object: 1, value: NULL })]) doStep(bytes, [0], 9);
+  for (const bytes of [[], stepBytes({ code: 4 }).slice(1), stepBytes({ code: 0 }), stepBytes({ code: 15 }), stepBytes({ code: 16 }), stepBytes({ code: 17 }), stepBytes({ code: 20 }), stepBytes({ code: 4, key: a }), stepBytes({ code: 1, object: 1, value: NULL })]) doStep(bytes, [0], 9);
   run(2, o, { value: integer(2048) }); run(2, o, { value: integer(-1) }); run(2, o, { value: float(1) });
   run(4, 32); run(5, o, { value: object(200) }); run(5, o, { value: [7, 0, 0, 0, 0, 1, 0, 0, 0] });
   run(10, o, { key: string(99) }); run(10, o, { key: symbol(256) }); run(10, o, { key: NULL }); run(5, o, { value: f }); run(3, o); run(11, o, { key: a, receiver: f });
@@ -120,4 +121,145 @@ function fixedCalls() {
   run(12, last, { key: string(1), value: NULL, receiver: object(last) }); run(14, crowd, {}, [], 9 * FULL.properties);
   run(13, crowd, { key: string(0) }); define(last, string(0), { configurable: true }); define(last, string(1), { configurable: true });
   run(7, last); define(last, string(1), { configurable: true });
+  fixedLevels(enter, run, make, proxy, define);
+}
+
+// Steps 18 and 19.
+function fixedLevels(enter, run, make, proxy, define) {
+  const yes = answered(boolean(true)), no = answered(boolean(false)), none = answered(UNDEFINED), SEALED = 0, FROZEN = 1;
+  const set = (o, level, answers, room) => run(18, o, { value: integer(level) }, answers, room);
+  const test = (o, level, answers, room) => run(19, o, { value: integer(level) }, answers, room);
+  const tests = (o) => { test(o, SEALED); test(o, FROZEN); };
+  const open = (n) => ({ value: integer(n), writable: true, enumerable: true, configurable: true });
+  const frozen = (n) => ({ value: integer(n), writable: false, enumerable: true, configurable: false });
+  const sealed = (n) => ({ value: integer(n), writable: true, enumerable: true, configurable: false });
+
+  emptied();
+  const a = enter('a'), b = enter('b'), c = enter('c'), seven = enter('7'), s = symbol(3), f = callable(1);
+  // data and accessors: an index, a string, a symbol; open, half closed and fixed
+  const filled = (o = make()) => {
+    define(o, a, open(1)); define(o, s, { get: f, set: UNDEFINED, configurable: true }); define(o, seven, open(7));
+    return o;
+  };
+  const first = filled();
+  define(first, b, { value: float(-0), writable: false, configurable: true }); define(first, c, { get: UNDEFINED, set: callable(2), configurable: false });
+  tests(first); set(first, FROZEN); tests(first); set(first, FROZEN); set(first, SEALED); run(14, first); define(first, a, { value: integer(2) }); run(13, first, { key: a });
+  const second = filled();
+  set(second, SEALED); tests(second); run(12, second, { key: a, value: integer(2), receiver: object(second) }); run(13, second, { key: a });
+  // closed, and then by hand: configurable and writable one by one
+  const third = filled();
+  run(7, third); tests(third); define(third, a, { configurable: false }); define(third, seven, { configurable: false }); tests(third);
+  define(third, s, { configurable: false }); tests(third); define(third, a, { writable: false }); test(third, FROZEN); define(third, seven, { writable: false }); tests(third);
+  // without properties
+  const bare = make();
+  tests(bare); run(7, bare); tests(bare); set(bare, FROZEN); tests(bare);
+  const child = make(object(first));
+  set(child, FROZEN); tests(child);
+  // proxies that forward, over an object and over one another; a proxy with the traps that are not asked
+  for (const level of [SEALED, FROZEN]) {
+    const o = filled(), p = proxy(proxy(o, 0), 0);
+    set(p, level); tests(p); tests(o);
+  }
+  emptied();
+  for (const text of ['a', 'b', 'c', '7']) enter(text);
+  // all traps, the truth about a frozen object; and about one that is sealed
+  const over = (level) => { const o = filled(); set(o, level); return proxy(o); };
+  const accessor = described({ get: f, set: UNDEFINED, configurable: false }), keys = [seven, a, s];
+  const p = over(FROZEN), q = over(SEALED);
+  const truth = [described(frozen(7)), described(frozen(1)), accessor], truthOfSealed = [described(sealed(7)), described(sealed(1)), accessor];
+  set(p, FROZEN, [yes, listed(keys), truth[0], yes, truth[1], yes, truth[2], yes]);
+  set(p, FROZEN, [answered(f), listed([s, a, seven]), truth[2], answered(a), truth[1], answered(integer(1)), truth[0], answered(object(p))]);
+  set(p, SEALED, [yes, listed(keys), yes, yes, yes]);
+  set(q, SEALED, [yes, listed(keys), yes, yes, yes]);
+  set(q, FROZEN, [yes, listed(keys), truthOfSealed[0], yes]);                             // 16: still writable
+  test(p, FROZEN, [no, listed(keys)].concat(truth)); test(p, SEALED, [no, listed(keys)].concat(truth));
+  test(q, FROZEN, [no, listed(keys)].concat(truthOfSealed)); test(q, SEALED, [no, listed(keys)].concat(truthOfSealed));
+  test(q, FROZEN, [no, listed([s, seven, a]), accessor, described(sealed(7))]); test(q, FROZEN, [no, listed(keys), described(frozen(7))]);     // 11
+  test(p, FROZEN, [yes]); test(p, FROZEN, [none, answered(a)]);                           // 5; 31
+  // [[PreventExtensions]] false is a result; true over an object that is extensible is 6
+  const third2 = filled(), r = proxy(third2);
+  for (const level of [SEALED, FROZEN]) {
+    for (const v of [boolean(false), UNDEFINED, NULL, integer(0), float(-0)]) set(r, level, [answered(v)]);
+    set(r, level, [yes]); set(proxy(r, 0), level, [no, yes]); set(r, level, [thrown(a)]); set(r, level, [thrown(object(r))]); set(r, level); set(r, level, [described({})]);
+    set(p, level, [no]); test(r, level, [yes]); test(r, level, [no]); test(r, level);
+  }
+  // each ending at each answer, over an object that is closed and open in its properties: only preventExtensions and ownKeys go through
+  run(7, third2);
+  for (const level of [SEALED, FROZEN]) {
+    const half = [yes, listed(keys)];
+    for (const list of [[seven, a], [seven, a, s, b], [seven, a, s, a], [s, a, s], [seven, integer(1), s], []]) set(r, level, [yes, listed(list)]);     // 25, 26, 22, 23, 30, 25
+    set(r, level, [yes, answered(NULL)]); set(r, level, [yes, thrown(s)]); set(r, level, [yes]); set(r, level, [yes, answered(object(r))]);
+    const told = level === FROZEN ? [described(open(7))] : [];
+    set(r, level, half.concat(told, [yes])); set(r, level, half.concat(told, [no])); set(r, level, half.concat(told, [thrown(f)])); set(r, level, half.concat(told));     // 15, 32
+    set(r, level, half.concat(told, [listed([])]));
+  }
+  for (const given of [none, answered(integer(1)), described({ value: integer(7), configurable: false }), described({ get: integer(1) }), described({ get: f, value: NULL }),
+    described({ value: integer(8), writable: true, enumerable: false, configurable: true }), thrown(NULL), answered(object(p)), listed([])]) {
+    set(r, FROZEN, [yes, listed(keys), given, no]); test(r, FROZEN, [no, listed(keys), given]); test(r, SEALED, [no, listed(keys), given]);
+  }
+  emptied();
+  for (const text of ['a', 'b', 'c', '7']) enter(text);
+  // traps for the definitions alone: what was prevented stays, false at the second key is message 32 and the third key is not tried
+  const D = 32, G = 16, K = 1024;
+  for (const level of [SEALED, FROZEN]) {
+    const o = filled(), t = proxy(o, D);
+    define(o, seven, { writable: false, configurable: false });
+    set(t, level, [yes, no, yes]); tests(o); run(14, o);
+    const o2 = filled(), t2 = proxy(o2, D);
+    define(o2, seven, { writable: false, configurable: false });
+    set(proxy(t2, 0), level, [yes, answered(float(NaN))]); run(6, o2); run(8, o2, { key: a });
+  }
+  // a throw at the third answer, a sheet that ends there, an answer that cannot be read: the first two keep what was changed where it is a throw
+  const G_ = (o, level, last) => set(proxy(o, G), level, [described(open(7)), described(open(1))].concat(last));
+  const at = filled(), spent = filled(), wrong = filled();
+  G_(at, FROZEN, [thrown(b)]); run(6, at); for (const key of keys) run(8, at, { key });
+  G_(spent, FROZEN, []); run(6, spent); for (const key of keys) run(8, spent, { key });
+  G_(wrong, FROZEN, [listed([])]); run(6, wrong); for (const key of keys) run(8, wrong, { key });
+  G_(wrong, FROZEN, [none]); run(6, wrong); for (const key of keys) run(8, wrong, { key });       // 9, after two keys were fixed
+  // an accessor told as data becomes data; data told as an accessor stay writable
+  const lied = filled();
+  G_(lied, FROZEN, [described({ value: NULL, writable: true, configurable: true })]); for (const key of keys) run(8, lied, { key });
+  const lied2 = filled();
+  set(proxy(lied2, G), FROZEN, [described({ get: f, configurable: true, enumerable: true }), described(open(1)), described({ set: f, configurable: true })]); for (const key of keys) run(8, lied2, { key });
+  tests(lied2);
+  // own keys alone: in another order, a key less, a key more; the object is closed by then
+  emptied();
+  for (const text of ['a', 'b', 'c', '7']) enter(text);
+  for (const level of [SEALED, FROZEN]) {
+    const o = filled(), t = proxy(o, K);
+    set(t, level, [listed(keys.concat([b]))]); run(6, o); run(8, o, { key: a });         // 26
+    set(t, level, [listed([s, a])]); set(t, level, [listed([s, seven, a])]); tests(o); run(14, o);
+    test(t, level, [listed([a, seven, s])]); test(t, level, [listed([a, s])]); test(t, level, [listed([a, s, seven, b])]);
+  }
+  // absent where the object is closed: nothing to skip, 9 where it is open in its property, 8 where it is fixed
+  const e = filled(), t = proxy(e, G);
+  set(t, FROZEN, [none]); run(6, e); run(8, e, { key: seven }); define(e, seven, { configurable: false }); set(t, FROZEN, [none]); test(t, FROZEN, [none]); test(t, SEALED, [none]);
+  // a proxy whose target is revoked, and one revoked under a proxy that has every trap
+  const gone = make(), under = proxy(gone), on = proxy(under), bareOn = proxy(under, 0);
+  run(3, under);
+  for (const level of [SEALED, FROZEN]) { set(on, level, [yes]); set(on, level, [no]); set(bareOn, level); test(on, level, [no]); test(bareOn, level); }
+  // two proxies with every trap over a frozen object of one key
+  const inner = make();
+  define(inner, a, open(1)); set(inner, FROZEN);
+  const one = proxy(inner), two = proxy(one), told = described(frozen(1)), list = listed([a]);
+  set(two, FROZEN, [yes, no, list, no, list, told, told, told, no, yes, told, no]); set(two, SEALED, [yes, no, list, no, list, told, yes, told, no]);
+  set(two, FROZEN, [yes, no, list, no, list, told, told, told, no, no, told, no]); set(two, FROZEN, [yes, yes]); set(two, FROZEN, [yes, no, list, no, list, told, told, none]);
+  test(two, FROZEN, [no, no, list, no, list, told, told, told, no]); test(two, SEALED, [no, no, list, no, list, told, told, told, no]); test(two, FROZEN, [no, yes]);
+  // refusals 1 to 3 of the level
+  for (const code of [18, 19]) {
+    for (const v of [integer(2), integer(-1), integer(256), integer(-2147483648), float(0), float(1), UNDEFINED, NULL, boolean(true), a, s, f, object(inner), object(99), string(99), symbol(256), callable(256)]) run(code, inner, { value: v });
+    for (const part of [{ key: a }, { receiver: NULL }, { descriptor: { enumerable: false } }]) run(code, inner, Object.assign({ value: integer(1) }, part));
+    run(code, 77, { value: integer(0) }); run(code, 77, { value: integer(2) }); run(code, 77, { value: NULL }); run(code, inner, { value: integer(1), key: NULL });
+  }
+  for (const code of [15, 16, 17, 20, 255]) { run(code, inner, {}); run(code, inner, { value: integer(0) }); }
+  run(18, inner, { value: integer(1) }, [answered(object(77))]); run(19, inner, { value: integer(0) }, [answered(string(77))]);
+  doStep(stepBytes({ code: 18, object: inner, value: integer(0) }), [], 0); doStep(stepBytes({ code: 19, object: inner, value: integer(0) }), [65], 0);
+  // the output is not used
+  set(inner, FROZEN, [], 0); test(inner, SEALED, [], 0); set(inner, SEALED, [], 9);
+  // many keys
+  emptied();
+  const crowd = make();
+  for (let i = 0; i < FULL.strings; i++) doEnter('k' + i);
+  for (let i = 0; i < FULL.properties; i++) define(crowd, string(i), i % 5 === 0 ? { get: f, configurable: true } : open(i));
+  test(crowd, SEALED); set(crowd, SEALED); tests(crowd); set(proxy(crowd, 0), FROZEN); tests(crowd); run(14, crowd, {}, [], 9 * FULL.properties);
 }

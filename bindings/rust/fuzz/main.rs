@@ -41,7 +41,7 @@ fn list_of_calls(seed: u64) -> Tally {
     pair.tally
 }
 
-/// Memory that is no store or no table, or whose content no calls left: nothing may be written but by a result.
+/// Memory that is no store or no table, or whose content no calls left: nothing may be written but by a result, or a TypeError or throw of code 18.
 fn damaged_memory(generator: &mut Generator, pair: &mut Pair) {
     use plain::record::step_bytes;
     let step = step_bytes(&generator.step(&pair.world));
@@ -79,7 +79,7 @@ fn damaged_memory(generator: &mut Generator, pair: &mut Pair) {
         let step = step_bytes(&generator.step(&pair.world));
         let report = pair.step_library(&step, &[2, 1, 0, 0, 0, 0, 0, 0, 0, 0, 0, 1, 2, 1, 0, 0, 0, 0, 0, 0, 0], &mut output);
         assert!(report[0] <= 3, "{report:?}");
-        assert!(report[0] == 1 || pair.words == before.0);
+        assert!(report[0] == 1 || step[0] == 18 && report[0] != 0 || pair.words == before.0);
         assert_eq!(pair.strings, before.1);
     }
 }
@@ -138,8 +138,9 @@ fn main() {
     println!("{} calls and {bytes} bytes of text in {:.1} s, no difference", tally.calls, start.elapsed().as_secs_f64());
     println!("results {}, thrown {}", tally.results, tally.thrown);
     println!("refusals 1 to 11: {:?}", &tally.refusals[1..]);
-    println!("messages 1 to 31: {:?}", &tally.messages[1..]);
-    println!("steps of codes 1 to 14: {:?}", &tally.codes[1..]);
+    println!("messages 1 to 32: {:?}", &tally.messages[1..]);
+    println!("steps of each code: {:?}", tally.steps().collect::<Vec<_>>());
+    println!("steps of code 18 that changed the store and ended in a TypeError or a throw: {}", tally.midway);
     if count >= 100_000 {
         assert_eq!(tally.missing(), (vec![], vec![]), "refusals and messages that never came");
     }

@@ -46,7 +46,8 @@ pub struct Fed {
     pub written: usize,
 }
 
-/// One step. Keys are written to the output, [`Value::SIZE`](crate::Value::SIZE) bytes each.
+/// One step. Keys are written to the output, [`Value::SIZE`](crate::Value::SIZE) bytes each. Only a result changes the words, but for a step of
+/// code 18, of which a TypeError or a throw leaves what was changed before it.
 ///
 /// ```
 /// use demnyaluz::{lent, sheet_bytes, Completion, ObjectId, Report, Step, OUTPUT_BYTES, STORE_WORDS, STRING_CELLS};

@@ -3,9 +3,10 @@
 //! This crate is a safe interface to `libdemnyaluz.a`, whose functions are proved against definitions written from the standard; the crate itself,
 //! which turns values into records and reports into values, is not proved but tested.
 //!
-//! A [`Store`] holds objects, properties and strings. A [`Step`] calls one of the essential internal methods of an object, or makes an object or a
-//! proxy. A proxy's handler is a set of [`Traps`] and, for each step, a list of [`Answer`]s: each call of a trap, a getter or a setter takes the
-//! next one. What comes back is a [`Report`]. A [`TextReader`] takes steps as lines of text and gives a row for each.
+//! A [`Store`] holds objects, properties and strings. A [`Step`] calls one of the essential internal methods of an object, makes an object or a
+//! proxy, seals or freezes an object, or tests whether it is so. A proxy's handler is a set of [`Traps`] and, for each step, a list of [`Answer`]s:
+//! each call of a trap, a getter or a setter takes the next one. What comes back is a [`Report`]. A [`TextReader`] takes steps as lines of text and
+//! gives a row for each.
 //!
 //! ```
 //! use demnyaluz::{Answer, Failure, Message, PropertyDescriptor, Store, Traps};
@@ -41,7 +42,7 @@ mod value;
 
 pub use descriptor::{Property, PropertyDescriptor};
 pub use report::{Completion, Failure, Message, Refusal, Report, REPORT_WORDS};
-pub use step::{sheet_bytes, Answer, Step, Traps};
+pub use step::{sheet_bytes, Answer, IntegrityLevel, Step, Traps};
 pub use store::{
     Store, Validation, MAXIMUM_ANSWERS, MAXIMUM_CALLS, MAXIMUM_KEYS, MAXIMUM_OBJECTS, MAXIMUM_PROPERTIES, MAXIMUM_STRINGS, MAXIMUM_UNITS,
     OUTPUT_BYTES, STORE_WORDS, STRING_CELLS,

@@ -19,6 +19,10 @@
 //!         | "set" object key value ["receiver" value]
 //!         | "deleteProperty" object key
 //!         | "ownKeys" object
+//!         | "seal" object
+//!         | "freeze" object
+//!         | "isSealed" object
+//!         | "isFrozen" object
 //! each step may end in "answers:" answers; further lines of answers begin with a space and may begin with "answers:"
 //! answers = answer {"," answer}
 //! answer  = ["value"] value | ["descriptor"] descriptor | ["keys"] "[" [value {"," value}] "]" | "throw" value
@@ -36,7 +40,7 @@
 //! A text that was not entered yet is entered before the line that has it.
 use crate::descriptor::PropertyDescriptor;
 use crate::readable;
-use crate::step::{sheet_bytes, Answer, Step, Traps, TRAPS};
+use crate::step::{sheet_bytes, Answer, IntegrityLevel, Step, Traps, TRAPS};
 use crate::store::{MAXIMUM_STRINGS, MAXIMUM_UNITS};
 use crate::value::{FunctionId, ObjectId, PropertyKey, StringId, SymbolId, Value};
 use std::fmt;
@@ -389,6 +393,10 @@ const NAMES: &[&str] = &[
     "set",
     "deleteProperty",
     "ownKeys",
+    "seal",
+    "freeze",
+    "isSealed",
+    "isFrozen",
 ];
 
 struct Parser<'a> {
@@ -510,6 +518,10 @@ impl Parser<'_> {
             }
             "deleteProperty" => Step::Delete { object: self.object()?, key: self.key()? },
             "ownKeys" => Step::OwnPropertyKeys { object: self.object()? },
+            "seal" => Step::SetIntegrityLevel { object: self.object()?, level: IntegrityLevel::Sealed },
+            "freeze" => Step::SetIntegrityLevel { object: self.object()?, level: IntegrityLevel::Frozen },
+            "isSealed" => Step::TestIntegrityLevel { object: self.object()?, level: IntegrityLevel::Sealed },
+            "isFrozen" => Step::TestIntegrityLevel { object: self.object()?, level: IntegrityLevel::Frozen },
             name => unreachable!("'{name}' is one of the names"),
         };
         let answers = if self.word() == Some("answers") { self.answers()? } else { Vec::new() };

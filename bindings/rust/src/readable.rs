@@ -14,7 +14,7 @@
 use crate::descriptor::PropertyDescriptor;
 use crate::notation::{Call, Strings};
 use crate::report::{Completion, Failure, Report};
-use crate::step::{Answer, Step, Traps};
+use crate::step::{Answer, IntegrityLevel, Step, Traps};
 use crate::value::{ObjectId, Value};
 
 /// A text in quotation marks; quotation marks, backslashes, control characters and lone surrogates are escaped.
@@ -130,6 +130,10 @@ pub fn step(step: &Step, strings: &Strings) -> String {
         Step::Set { object, key, value, receiver } => format!("set {object} {} {} receiver {}", of(key.into()), of(value), of(receiver)),
         Step::Delete { object, key } => format!("deleteProperty {object} {}", of(key.into())),
         Step::OwnPropertyKeys { object } => format!("ownKeys {object}"),
+        Step::SetIntegrityLevel { object, level: IntegrityLevel::Sealed } => format!("seal {object}"),
+        Step::SetIntegrityLevel { object, level: IntegrityLevel::Frozen } => format!("freeze {object}"),
+        Step::TestIntegrityLevel { object, level: IntegrityLevel::Sealed } => format!("isSealed {object}"),
+        Step::TestIntegrityLevel { object, level: IntegrityLevel::Frozen } => format!("isFrozen {object}"),
     }
 }
 

@@ -10,7 +10,7 @@ use std::fmt;
 /// How many words a report has.
 pub const REPORT_WORDS: usize = 10;
 
-/// Why a call was turned back. Store, strings and output are then unchanged, and no answer and no call is reported.
+/// Why a call was turned back. Store, strings and output are then as they were before it, and no answer and no call is reported.
 ///
 /// ```
 /// use demnyaluz::{Failure, Refusal, Store, Traps};
@@ -173,6 +173,7 @@ messages! {
     29 MixedDescriptor "29: an answered descriptor mixes data and accessor fields.",
     30 NotKey "30: a listed value is neither a string nor a symbol.",
     31 KeysNotObject "31: the ownKeys trap answered a primitive.",
+    32 DefinitionRejected "32: a definition by which an object is sealed or frozen was answered with false.",
 }
 
 impl Message {
@@ -242,7 +243,8 @@ impl fmt::Display for Completion {
     }
 }
 
-/// Why there is no result.
+/// Why there is no result. The store is then as it was before, but for a TypeError or a throw of
+/// [`Step::SetIntegrityLevel`](crate::Step::SetIntegrityLevel), which leaves what was changed before it.
 ///
 /// Its text is the whole of what there is to say, the refusal's or the message's included, so it has no [`source`](Error::source).
 ///

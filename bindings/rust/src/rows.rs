@@ -258,7 +258,7 @@ impl std::error::Error for Error {
 ///
 /// ```text
 /// 20: get o1 "visits", handler answers 4464: TypeError 17, Proxy trap returned unexpected data descriptor (1 answer, 2 calls)
-/// 97 to 120: object: o8 to o31 (0 answers, 0 calls)
+/// 124 to 143: object: o12 to o31 (0 answers, 0 calls)
 /// ```
 ///
 /// # Errors

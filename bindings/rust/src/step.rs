@@ -198,6 +198,57 @@ impl fmt::UpperHex for Traps {
     }
 }
 
+/// How far an object is closed by [`Step::SetIntegrityLevel`].
+///
+/// ```
+/// use demnyaluz::IntegrityLevel;
+///
+/// assert_eq!(IntegrityLevel::Frozen.number(), 1);
+/// assert_eq!(IntegrityLevel::Frozen.to_string(), "frozen");
+/// ```
+#[derive(Clone, Copy, PartialEq, Eq, PartialOrd, Ord, Hash, Debug)]
+#[non_exhaustive]
+#[repr(u8)]
+pub enum IntegrityLevel {
+    /// 0: it is not extensible, and none of its properties is configurable.
+    Sealed = 0,
+    /// 1: it is sealed, and none of its data properties is writable.
+    Frozen = 1,
+}
+
+impl IntegrityLevel {
+    /// All levels, in the order of their numbers.
+    pub const ALL: &'static [IntegrityLevel] = &[IntegrityLevel::Sealed, IntegrityLevel::Frozen];
+
+    /// The number: 0 for sealed, 1 for frozen.
+    #[must_use]
+    pub fn number(self) -> u8 {
+        self as u8
+    }
+
+    /// The level of a number, if there is one.
+    ///
+    /// ```
+    /// use demnyaluz::IntegrityLevel;
+    ///
+    /// assert_eq!(IntegrityLevel::from_number(0), Some(IntegrityLevel::Sealed));
+    /// assert_eq!(IntegrityLevel::from_number(2), None);
+    /// ```
+    #[must_use]
+    pub fn from_number(number: u64) -> Option<IntegrityLevel> {
+        IntegrityLevel::ALL.iter().copied().find(|l| u64::from(l.number()) == number)
+    }
+}
+
+impl fmt::Display for IntegrityLevel {
+    fn fmt(&self, f: &mut fmt::Formatter<'_>) -> fmt::Result {
+        f.write_str(match self {
+            IntegrityLevel::Sealed => "sealed",
+            IntegrityLevel::Frozen => "frozen",
+        })
+    }
+}
+
 /// One step over a store.
 ///
 /// ```
@@ -307,6 +358,22 @@ pub enum Step {
         /// The object.
         object: ObjectId,
     },
+    /// SetIntegrityLevel: seals or freezes an object.
+    ///
+    /// Unlike any other step it can change the store without a result: what was changed before a TypeError or a throw stays changed.
+    SetIntegrityLevel {
+        /// The object.
+        object: ObjectId,
+        /// The level that it is to have.
+        level: IntegrityLevel,
+    },
+    /// TestIntegrityLevel: whether an object is sealed or frozen.
+    TestIntegrityLevel {
+        /// The object.
+        object: ObjectId,
+        /// The level that is asked for.
+        level: IntegrityLevel,
+    },
 }
 
 impl Step {
@@ -337,7 +404,9 @@ impl Step {
             | Step::Get { object, .. }
             | Step::Set { object, .. }
             | Step::Delete { object, .. }
-            | Step::OwnPropertyKeys { object } => Some(object),
+            | Step::OwnPropertyKeys { object }
+            | Step::SetIntegrityLevel { object, .. }
+            | Step::TestIntegrityLevel { object, .. } => Some(object),
         }
     }
 
@@ -359,6 +428,8 @@ impl Step {
             Step::Set { .. } => 12,
             Step::Delete { .. } => 13,
             Step::OwnPropertyKeys { .. } => 14,
+            Step::SetIntegrityLevel { .. } => 18,
+            Step::TestIntegrityLevel { .. } => 19,
         }
     }
 
@@ -379,6 +450,9 @@ impl Step {
         let (key, value, receiver, descriptor) = match *self {
             Step::MakeObject { prototype: p } | Step::SetPrototypeOf { prototype: p, .. } => (None, Some(prototype(p)), None, None),
             Step::MakeProxy { traps, .. } => (None, Some(Value::Integer32(traps.mask().into())), None, None),
+            Step::SetIntegrityLevel { level, .. } | Step::TestIntegrityLevel { level, .. } => {
+                (None, Some(Value::Integer32(level.number().into())), None, None)
+            }
             Step::Revoke { .. }
             | Step::GetPrototypeOf { .. }
             | Step::IsExtensible { .. }

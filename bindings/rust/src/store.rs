@@ -2,7 +2,7 @@
 use crate::descriptor::{Property, PropertyDescriptor};
 use crate::lent::{self, ReportWords};
 use crate::report::{Completion, Failure, Refusal, Report};
-use crate::step::{sheet_bytes, Answer, Step, Traps};
+use crate::step::{sheet_bytes, Answer, IntegrityLevel, Step, Traps};
 use crate::value::{ObjectId, PropertyKey, StringId, Value};
 
 /// How many words a store has.
@@ -93,7 +93,8 @@ impl Store {
         store
     }
 
-    /// One step, whose traps, getters and setters take the answers in their order.
+    /// One step, whose traps, getters and setters take the answers in their order. Only a result changes the store, but for
+    /// [`Step::SetIntegrityLevel`], of which a TypeError or a throw leaves what was changed before it.
     ///
     /// ```
     /// use demnyaluz::{Answer, Step, Store, Traps};
@@ -486,6 +487,102 @@ impl Store {
     /// ```
     pub fn own_property_keys(&mut self, object: ObjectId, answers: &[Answer]) -> Result<Vec<PropertyKey>, Failure> {
         self.step(&Step::OwnPropertyKeys { object }, answers).into_keys()
+    }
+
+    /// Object.freeze: SetIntegrityLevel with the level frozen. The object is made non-extensible, and each of its own keys is defined anew, not
+    /// configurable and, where it is data, not writable. False is the answer of \[\[PreventExtensions]].
+    ///
+    /// # Errors
+    /// A refusal, a TypeError or a thrown value. A definition that is answered with false is [`Message::DefinitionRejected`](crate::Message).
+    /// After a TypeError or a throw the store keeps what was changed before it; a refusal brings back the store from before.
+    ///
+    /// ```
+    /// use demnyaluz::{Answer, Failure, Message, Property, Store, SymbolId, Traps};
+    ///
+    /// let mut store = Store::new();
+    /// let object = store.make_object(None)?;
+    /// assert!(store.set(object, SymbolId(0), 5, object, &[])?);
+    /// assert!(store.set(object, SymbolId(1), 6, object, &[])?);
+    /// let proxy = store.make_proxy(object, Traps::PREVENT_EXTENSIONS | Traps::DEFINE_PROPERTY)?;
+    ///
+    /// // the handler may not claim what is not so, and refusing it ends the freezing
+    /// let told = store.freeze(proxy, &[Answer::Value(true.into())]);
+    /// assert_eq!(told, Err(Failure::TypeError(Message::StillExtensible)));
+    /// assert!(store.prevent_extensions(object, &[])?);
+    /// let told = store.freeze(proxy, &[Answer::Value(true.into()), Answer::Value(false.into())]);
+    /// assert_eq!(told, Err(Failure::TypeError(Message::DefinitionRejected)));
+    ///
+    /// assert!(store.freeze(object, &[])?);
+    /// let fixed = Property::Data { value: 5.into(), writable: false, enumerable: true, configurable: false };
+    /// assert_eq!(store.get_own_property(object, SymbolId(0), &[])?, Some(fixed));
+    /// assert!(!store.set(object, SymbolId(1), 7, object, &[])?);
+    /// # Ok::<(), demnyaluz::Failure>(())
+    /// ```
+    pub fn freeze(&mut self, object: ObjectId, answers: &[Answer]) -> Result<bool, Failure> {
+        self.step(&Step::SetIntegrityLevel { object, level: IntegrityLevel::Frozen }, answers).into_boolean()
+    }
+
+    /// Object.seal: SetIntegrityLevel with the level sealed. The object is made non-extensible, and each of its own keys is defined anew, not
+    /// configurable. False is the answer of \[\[PreventExtensions]].
+    ///
+    /// # Errors
+    /// As by [`Store::freeze`], and with the same store after them.
+    ///
+    /// ```
+    /// use demnyaluz::{Store, SymbolId};
+    ///
+    /// let mut store = Store::new();
+    /// let object = store.make_object(None)?;
+    /// assert!(store.set(object, SymbolId(0), 5, object, &[])?);
+    /// assert!(store.seal(object, &[])?);
+    /// assert!(!store.delete(object, SymbolId(0), &[])?);
+    /// assert!(!store.set(object, SymbolId(1), 5, object, &[])?);
+    /// assert!(store.set(object, SymbolId(0), 6, object, &[])?);
+    /// # Ok::<(), demnyaluz::Failure>(())
+    /// ```
+    pub fn seal(&mut self, object: ObjectId, answers: &[Answer]) -> Result<bool, Failure> {
+        self.step(&Step::SetIntegrityLevel { object, level: IntegrityLevel::Sealed }, answers).into_boolean()
+    }
+
+    /// Object.isFrozen: TestIntegrityLevel with the level frozen. Whether the object is not extensible, no own property configurable and no own
+    /// data writable.
+    ///
+    /// # Errors
+    /// A refusal, a TypeError or a thrown value.
+    ///
+    /// ```
+    /// use demnyaluz::{Store, SymbolId};
+    ///
+    /// let mut store = Store::new();
+    /// let object = store.make_object(None)?;
+    /// assert!(!store.is_frozen(object, &[])?);
+    /// // nothing is left to freeze
+    /// assert!(store.prevent_extensions(object, &[])?);
+    /// assert!(store.is_frozen(object, &[])?);
+    /// # Ok::<(), demnyaluz::Failure>(())
+    /// ```
+    pub fn is_frozen(&mut self, object: ObjectId, answers: &[Answer]) -> Result<bool, Failure> {
+        self.step(&Step::TestIntegrityLevel { object, level: IntegrityLevel::Frozen }, answers).into_boolean()
+    }
+
+    /// Object.isSealed: TestIntegrityLevel with the level sealed. Whether the object is not extensible and no own property configurable.
+    ///
+    /// # Errors
+    /// A refusal, a TypeError or a thrown value.
+    ///
+    /// ```
+    /// use demnyaluz::{Store, SymbolId};
+    ///
+    /// let mut store = Store::new();
+    /// let object = store.make_object(None)?;
+    /// assert!(store.set(object, SymbolId(0), 5, object, &[])?);
+    /// assert!(store.seal(object, &[])?);
+    /// assert!(store.is_sealed(object, &[])?);
+    /// assert!(!store.is_frozen(object, &[])?);
+    /// # Ok::<(), demnyaluz::Failure>(())
+    /// ```
+    pub fn is_sealed(&mut self, object: ObjectId, answers: &[Answer]) -> Result<bool, Failure> {
+        self.step(&Step::TestIntegrityLevel { object, level: IntegrityLevel::Sealed }, answers).into_boolean()
     }
 
     /// CompletePropertyDescriptor by itself. The store says which objects and strings there are.

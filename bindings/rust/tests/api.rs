@@ -1,8 +1,8 @@
 //! The crate's own types: what they encode to, what reports they give, and how the store looks from outside.
 use demnyaluz::notation::Call;
 use demnyaluz::{
-    lent, notation, rows, sheet_bytes, Answer, Completion, Failure, FunctionId, Message, ObjectId, Property, PropertyDescriptor, PropertyKey,
-    Refusal, Report, Step, Store, StringId, SymbolId, TextReader, Traps, TryFromValueError, Validation, Value, ValueWords,
+    lent, notation, rows, sheet_bytes, Answer, Completion, Failure, FunctionId, IntegrityLevel, Message, ObjectId, Property, PropertyDescriptor,
+    PropertyKey, Refusal, Report, Step, Store, StringId, SymbolId, TextReader, Traps, TryFromValueError, Validation, Value, ValueWords,
 };
 use std::collections::HashSet;
 use std::error::Error;
@@ -103,8 +103,13 @@ fn steps_are_fifty_eight_bytes() {
         (Step::Set { object: o, key, value: true.into(), receiver: Value::Null }, format!("0c09{symbol}020100000000000000010000000000000000{none}")),
         (Step::Delete { object: o, key }, format!("0d09{symbol}{zero}{zero}{none}")),
         (Step::OwnPropertyKeys { object: o }, format!("0e09{zero}{zero}{zero}{none}")),
+        (Step::SetIntegrityLevel { object: o, level: IntegrityLevel::Sealed }, format!("1209{zero}030000000000000000{zero}{none}")),
+        (Step::SetIntegrityLevel { object: o, level: IntegrityLevel::Frozen }, format!("1209{zero}030100000000000000{zero}{none}")),
+        (Step::TestIntegrityLevel { object: o, level: IntegrityLevel::Sealed }, format!("1309{zero}030000000000000000{zero}{none}")),
+        (Step::TestIntegrityLevel { object: o, level: IntegrityLevel::Frozen }, format!("1309{zero}030100000000000000{zero}{none}")),
     ] {
         assert_eq!(hex(&step.to_bytes()), bytes, "{step:?}");
+        assert_eq!((step.code(), step.object()), (step.to_bytes()[0], Some(o).filter(|_| step.code() != 1)), "{step:?}");
     }
 }
 
@@ -144,13 +149,14 @@ fn every_message_has_a_text_of_its_own() {
     assert_eq!(texts[0], "Proxy object has empty handler and target");
     assert_eq!(texts[10], "Proxy trap result is writable and not configurable while target result is not configurable");
     assert_eq!(texts[16], "Proxy trap returned unexpected data descriptor");
-    assert_eq!((Message::from_number(0), Message::from_number(32)), (None, None));
+    assert_eq!(texts[31], "Property definition was rejected");
+    assert_eq!((Message::from_number(0), Message::from_number(33)), (None, None));
 }
 
 /// A text is written whole or not at all, whatever the number.
 #[test]
 fn message_texts_fit_or_stay_out() {
-    for number in [0, 1, 11, 31, 32, u64::MAX] {
+    for number in [0, 1, 11, 31, 32, 33, u64::MAX] {
         let expected = Message::from_number(number).map_or(String::new(), |m| m.text());
         for room in 0..=100 {
             let mut text = vec![b'?'; room].into_boxed_slice();
@@ -290,6 +296,357 @@ fn descriptors_by_themselves() {
     assert_eq!(store.complete(&unknown), Err(Refusal::UnusablePart));
 }
 
+fn data(value: i32, writable: bool, enumerable: bool, configurable: bool) -> Property {
+    Property::Data { value: value.into(), writable, enumerable, configurable }
+}
+
+/// Answers, each from a value or a descriptor.
+macro_rules! answers {
+    ($($answer:expr),* $(,)?) => { [$(Answer::from($answer)),*] };
+}
+
+fn yes() -> Value {
+    true.into()
+}
+
+fn no() -> Value {
+    false.into()
+}
+
+/// A store, o0 with data and accessors under indices, strings and symbols, and its keys in their order.
+fn exhibit() -> (Store, ObjectId, Vec<PropertyKey>) {
+    let mut store = Store::new();
+    let o = store.make_object(None).unwrap();
+    let [name, visits, ten, seven] = ["name", "visits", "10", "7"].map(|text| PropertyKey::from(store.enter_string(text).unwrap()));
+    let symbol = |n| PropertyKey::from(SymbolId(n));
+    let accessor = PropertyDescriptor {
+        get: Some(FunctionId(1).into()),
+        set: Some(FunctionId(2).into()),
+        enumerable: Some(false),
+        configurable: Some(true),
+        ..Default::default()
+    };
+    for (key, descriptor) in [
+        (symbol(9), PropertyDescriptor::data(1, true, false, true)),
+        (name, PropertyDescriptor::data(2, false, true, true)),
+        (visits, PropertyDescriptor::fixed(70_000)),
+        (ten, PropertyDescriptor::data(4, true, true, false)),
+        (symbol(3), accessor),
+        (seven, accessor),
+    ] {
+        assert_eq!(store.define_own_property(o, key, descriptor, &[]), Ok(true));
+    }
+    (store, o, vec![seven, ten, name, visits, symbol(9), symbol(3)])
+}
+
+fn properties(store: &mut Store, o: ObjectId, keys: &[PropertyKey]) -> Vec<Property> {
+    keys.iter().map(|k| store.get_own_property(o, *k, &[]).unwrap().unwrap()).collect()
+}
+
+/// Sealing and freezing, with all calls that they make: two, and three and four for each key.
+#[test]
+fn ordinary_objects_are_sealed_and_frozen() {
+    let (mut store, o, keys) = exhibit();
+    let accessor = |configurable| Property::Accessor { get: FunctionId(1).into(), set: FunctionId(2).into(), enumerable: false, configurable };
+    assert_eq!(
+        properties(&mut store, o, &keys),
+        [
+            accessor(true),
+            data(4, true, true, false),
+            data(2, false, true, true),
+            data(70_000, false, true, false),
+            data(1, true, false, true),
+            accessor(true)
+        ]
+    );
+    let level = |told: &Report| (told.outcome.clone(), told.answers, told.calls);
+    let boolean = |b: bool| Ok(Completion::Value(b.into()));
+    let step = |store: &mut Store, text: &str| match notation::parse(text).unwrap().pop().unwrap().call {
+        Call::Step { step, answers } => level(&store.step(&step, &answers)),
+        call => panic!("{call}"),
+    };
+    assert_eq!(step(&mut store, "isSealed o0"), (boolean(false), 0, 1));
+    assert_eq!(step(&mut store, "isFrozen o0"), (boolean(false), 0, 1));
+    assert_eq!(store.prevent_extensions(o, &[]), Ok(true));
+    // the first key, an accessor, is configurable
+    assert_eq!(step(&mut store, "isSealed o0"), (boolean(false), 0, 3));
+    assert_eq!(step(&mut store, "seal o0"), (boolean(true), 0, 2 + 3 * 6));
+    let sealed = [
+        accessor(false),
+        data(4, true, true, false),
+        data(2, false, true, false),
+        data(70_000, false, true, false),
+        data(1, true, false, false),
+        accessor(false),
+    ];
+    assert_eq!(properties(&mut store, o, &keys), sealed);
+    assert_eq!(step(&mut store, "isSealed o0"), (boolean(true), 0, 2 + 6));
+    // the second key, data, is writable
+    assert_eq!(step(&mut store, "isFrozen o0"), (boolean(false), 0, 2 + 2));
+    assert_eq!(step(&mut store, "freeze o0"), (boolean(true), 0, 2 + 4 * 6));
+    let frozen = [
+        accessor(false),
+        data(4, false, true, false),
+        data(2, false, true, false),
+        data(70_000, false, true, false),
+        data(1, false, false, false),
+        accessor(false),
+    ];
+    assert_eq!(properties(&mut store, o, &keys), frozen);
+    assert_eq!(step(&mut store, "isSealed o0"), (boolean(true), 0, 2 + 6));
+    assert_eq!(step(&mut store, "isFrozen o0"), (boolean(true), 0, 2 + 6));
+    let before = store.clone();
+    assert_eq!((store.freeze(o, &[]), store.seal(o, &[])), (Ok(true), Ok(true)));
+    assert_eq!(store, before);
+    assert_eq!(store.own_property_keys(o, &[]), Ok(keys.clone()));
+    // what is frozen at once is what is sealed and then frozen
+    let (mut at_once, ..) = exhibit();
+    assert_eq!(at_once.freeze(o, &[]), Ok(true));
+    assert_eq!(at_once, before);
+}
+
+#[test]
+fn empty_objects_are_sealed_and_frozen_when_they_are_not_extensible() {
+    let mut store = Store::new();
+    let [a, b, c] = [(); 3].map(|()| store.make_object(None).unwrap());
+    for o in [a, b, c] {
+        assert_eq!((store.is_sealed(o, &[]), store.is_frozen(o, &[])), (Ok(false), Ok(false)));
+    }
+    assert_eq!((store.prevent_extensions(a, &[]), store.seal(b, &[]), store.freeze(c, &[])), (Ok(true), Ok(true), Ok(true)));
+    for o in [a, b, c] {
+        assert_eq!((store.is_sealed(o, &[]), store.is_frozen(o, &[]), store.is_extensible(o, &[])), (Ok(true), Ok(true), Ok(false)));
+    }
+}
+
+/// Proxies before proxies: what forwards, and a handler whose answers are all true.
+#[test]
+fn proxies_are_sealed_and_frozen() {
+    let (mut store, o, keys) = exhibit();
+    let mut p = o;
+    for _ in 0..3 {
+        p = store.make_proxy(p, Traps::NONE).unwrap();
+    }
+    let report = store.step(&Step::SetIntegrityLevel { object: p, level: IntegrityLevel::Frozen }, &[]);
+    assert_eq!((report.outcome, report.answers, report.calls), (Ok(Completion::Value(yes())), 0, 4 + 4 + 6 * (4 + 6)));
+    assert_eq!((store.is_frozen(o, &[]), store.is_frozen(p, &[]), store.is_sealed(p, &[])), (Ok(true), Ok(true), Ok(true)));
+
+    // a handler with every trap, over what is frozen: it may only say so
+    let handled = store.make_proxy(o, Traps::ALL).unwrap();
+    let frozen = properties(&mut store, o, &keys);
+    let listed = || Answer::keys(keys.iter().copied());
+    let told = || frozen.iter().map(|p| Answer::Descriptor((*p).into()));
+    let mut sheet = vec![Answer::from(yes()), listed()];
+    sheet.extend(told().flat_map(|d| [d, yes().into()]));
+    let report = store.step(&Step::SetIntegrityLevel { object: handled, level: IntegrityLevel::Frozen }, &sheet);
+    assert_eq!((report.outcome, report.answers, report.calls), (Ok(Completion::Value(yes())), 14, 2 + (3 + 6) + 6 * (3 + 3)));
+    let mut sheet = vec![Answer::from(no()), listed()];
+    sheet.extend(told());
+    let report = store.step(&Step::TestIntegrityLevel { object: handled, level: IntegrityLevel::Frozen }, &sheet);
+    assert_eq!((report.outcome, report.answers, report.calls), (Ok(Completion::Value(yes())), 8, 2 + (3 + 6) + 6 * 3));
+    // one that says otherwise of a property
+    sheet[3] = Answer::Descriptor(PropertyDescriptor { configurable: Some(true), ..frozen[1].into() });
+    assert_eq!(store.is_frozen(handled, &sheet), Err(Failure::TypeError(Message::UnexpectedProperty)));
+    // the order of the keys is the handler's
+    let mut reversed = vec![Answer::from(no()), Answer::keys(keys.iter().rev().copied())];
+    reversed.extend(told().rev());
+    assert_eq!(store.is_sealed(handled, &reversed), Ok(true));
+    assert_eq!(store.is_sealed(handled, &[Answer::from(yes())]), Err(Failure::TypeError(Message::UnexpectedExtensible)));
+    assert_eq!(store.is_sealed(handled, &answers![no(), Value::Null]), Err(Failure::TypeError(Message::KeysNotObject)));
+}
+
+/// How a property is frozen is decided by what its handler tells of it, which may be otherwise while it is configurable.
+#[test]
+fn a_handler_may_tell_a_configurable_property_otherwise() {
+    let mut store = Store::new();
+    let o = store.make_object(None).unwrap();
+    let (a, b) = (SymbolId(0), SymbolId(1));
+    let getter = PropertyDescriptor { get: Some(FunctionId(1).into()), configurable: Some(true), ..Default::default() };
+    assert_eq!(store.define_own_property(o, a, getter, &[]), Ok(true));
+    assert_eq!(store.set(o, b, 5, o, &[]), Ok(true));
+    let p = store.make_proxy(o, Traps::GET_OWN_PROPERTY_DESCRIPTOR).unwrap();
+    // the accessor is told as data, and so becomes undefined; the data is told as an accessor, and so stays writable
+    let told = answers![PropertyDescriptor::data(1, true, false, true), PropertyDescriptor { enumerable: Some(true), ..getter }];
+    assert_eq!(store.freeze(p, &told), Ok(true));
+    let undefined = Property::Data { value: Value::Undefined, writable: false, enumerable: false, configurable: false };
+    assert_eq!(properties(&mut store, o, &[a.into(), b.into()]), [undefined, data(5, true, true, false)]);
+    assert_eq!((store.is_sealed(o, &[]), store.is_frozen(o, &[])), (Ok(true), Ok(false)));
+}
+
+#[test]
+fn what_cannot_be_made_non_extensible_is_not_sealed() {
+    let (mut store, o, _) = exhibit();
+    let p = store.make_proxy(o, Traps::PREVENT_EXTENSIONS | Traps::OWN_KEYS | Traps::DEFINE_PROPERTY).unwrap();
+    let before = store.clone();
+    for level in [IntegrityLevel::Sealed, IntegrityLevel::Frozen] {
+        let step = Step::SetIntegrityLevel { object: p, level };
+        let report = store.step(&step, &answers![no(), yes()]);
+        assert_eq!((report.outcome, report.answers, report.calls), (Ok(Completion::Value(no())), 1, 1));
+        let report = store.step(&step, &answers![yes()]);
+        assert_eq!((report.outcome, report.answers, report.calls), (Err(Failure::TypeError(Message::StillExtensible)), 1, 2));
+        let report = store.step(&step, &[Answer::Throw(5.into())]);
+        assert_eq!((report.outcome, report.answers, report.calls), (Err(Failure::Thrown(5.into())), 1, 1));
+    }
+    store.revoke(p).unwrap();
+    let revoked = store.clone();
+    for told in [store.freeze(p, &[]), store.seal(p, &[]), store.is_frozen(p, &[]), store.is_sealed(p, &[])] {
+        assert_eq!(told, Err(Failure::TypeError(Message::RevokedProxy)));
+    }
+    assert_eq!(store, revoked);
+    assert_ne!(store, before);
+}
+
+/// The defineProperty trap answers true for the first keys, of which nothing is left to seal, and false for the next: no later key is tried, and
+/// the object stays non-extensible.
+#[test]
+fn a_definition_that_is_rejected_is_message_32() {
+    for level in [IntegrityLevel::Sealed, IntegrityLevel::Frozen] {
+        let mut store = Store::new();
+        let o = store.make_object(None).unwrap();
+        let keys = [0, 1, 2].map(SymbolId);
+        for (key, descriptor) in keys.into_iter().zip([
+            PropertyDescriptor::fixed(70_000),
+            PropertyDescriptor::data(1, true, true, true),
+            PropertyDescriptor::data(2, true, true, true),
+        ]) {
+            assert_eq!(store.define_own_property(o, key, descriptor, &[]), Ok(true));
+        }
+        let inner = store.make_proxy(o, Traps::DEFINE_PROPERTY).unwrap();
+        let p = store.make_proxy(inner, Traps::NONE).unwrap();
+        let before = store.clone();
+        let step = Step::SetIntegrityLevel { object: p, level };
+        let report = store.step(&step, &answers![yes(), no(), yes()]);
+        let reads = if level == IntegrityLevel::Frozen { 2 * 3 } else { 0 };
+        assert_eq!((report.outcome, report.answers), (Err(Failure::TypeError(Message::DefinitionRejected)), 2));
+        assert_eq!(report.calls, 3 + 3 + reads + (2 + 2) + 2);
+        let mut expected = before.clone();
+        assert_eq!(expected.prevent_extensions(o, &[]), Ok(true));
+        assert_ne!(store, before);
+        assert_eq!(store, expected);
+        // the same with true over a property that is configurable
+        let report = store.step(&step, &answers![yes(), yes(), yes()]);
+        assert_eq!((report.outcome, report.answers), (Err(Failure::TypeError(Message::DefinedUnexpectedConfigurable)), 2));
+        assert_eq!(store, expected);
+    }
+}
+
+/// The first key is frozen before its handler throws at the second, or answers what it may not: that stays, and the rest is as it was.
+#[test]
+fn what_was_frozen_before_a_throw_or_a_type_error_stays() {
+    let whole = |n| PropertyDescriptor::data(n, true, true, true);
+    for (second, failure) in [
+        (Answer::Throw(4_464.into()), Failure::Thrown(4_464.into())),
+        (Value::Undefined.into(), Failure::TypeError(Message::HiddenOfNonExtensible)),
+        (Value::Null.into(), Failure::TypeError(Message::DescriptorNotObjectOrUndefined)),
+        (PropertyDescriptor { configurable: Some(false), ..whole(2) }.into(), Failure::TypeError(Message::ReportedNonConfigurable)),
+    ] {
+        let mut store = Store::new();
+        let o = store.make_object(None).unwrap();
+        let keys = [0, 1, 2].map(|n| PropertyKey::from(SymbolId(n)));
+        for (key, n) in keys.into_iter().zip(1..) {
+            assert_eq!(store.define_own_property(o, key, whole(n), &[]), Ok(true));
+        }
+        let inner = store.make_proxy(o, Traps::GET_OWN_PROPERTY_DESCRIPTOR).unwrap();
+        let p = store.make_proxy(inner, Traps::NONE).unwrap();
+        let mut expected = store.clone();
+        let report = store.step(&Step::SetIntegrityLevel { object: p, level: IntegrityLevel::Frozen }, &[whole(1).into(), second, whole(3).into()]);
+        assert_eq!((report.outcome, report.answers), (Err(failure), 2));
+        assert_eq!(properties(&mut store, o, &keys), [data(1, false, true, false), data(2, true, true, true), data(3, true, true, true)]);
+        assert_eq!(store.is_extensible(o, &[]), Ok(false));
+        assert_eq!(expected.prevent_extensions(o, &[]), Ok(true));
+        assert_eq!(expected.define_own_property(o, keys[0], PropertyDescriptor::data(1, false, true, false), &[]), Ok(true));
+        assert_eq!(store, expected);
+        // what is tested changes nothing, however it ends
+        let told = store.is_frozen(p, &answers![PropertyDescriptor::data(1, false, true, false), Value::Null]);
+        assert_eq!(told, Err(Failure::TypeError(Message::DescriptorNotObjectOrUndefined)));
+        assert_eq!(store, expected);
+    }
+}
+
+/// The keys are listed after extensions are prevented: what an extensible object could have beside its own is then one too many.
+#[test]
+fn each_method_runs_over_the_store_that_the_one_before_left() {
+    let mut store = Store::new();
+    let o = store.make_object(None).unwrap();
+    let p = store.make_proxy(o, Traps::OWN_KEYS).unwrap();
+    let listed = [Answer::keys([SymbolId(0).into()])];
+    assert_eq!(store.own_property_keys(p, &listed), Ok(vec![SymbolId(0).into()]));
+    assert_eq!(store.seal(p, &listed), Err(Failure::TypeError(Message::UnexpectedKey)));
+    assert_eq!(store.is_extensible(o, &[]), Ok(false));
+}
+
+/// Refusals 8 and 9 in the midst bring back the store from before, word for word.
+#[test]
+fn a_refusal_brings_back_the_store() {
+    let (mut store, o, keys) = exhibit();
+    let first = PropertyDescriptor::from(properties(&mut store, o, &keys[..1])[0]);
+    let p = store.make_proxy(o, Traps::GET_OWN_PROPERTY_DESCRIPTOR).unwrap();
+    let before = store.clone();
+    for (answers, refusal) in [
+        (vec![], Refusal::SheetSpent),
+        (vec![Answer::from(first)], Refusal::SheetSpent),
+        (vec![Answer::from(first), Answer::keys([])], Refusal::UnreadableAnswer),
+        (vec![Answer::from(first), Value::from(o).into()], Refusal::UnreadableAnswer),
+        (vec![Answer::from(first), Value::from(ObjectId(9)).into()], Refusal::ObjectNeverMade),
+    ] {
+        let report = store.step(&Step::SetIntegrityLevel { object: p, level: IntegrityLevel::Frozen }, &answers);
+        assert_eq!((report.outcome, report.answers, report.calls), (Err(refusal.into()), 0, 0));
+        assert_eq!(store.words(), before.words());
+        assert_eq!(store, before);
+    }
+    // the first turn does change it, where the second does not refuse
+    assert_eq!(store.freeze(p, &[first.into(), Answer::Throw(Value::Null)]), Err(Failure::Thrown(Value::Null)));
+    assert_ne!(store, before);
+}
+
+/// Levels are 0 and 1 as Integer32, and the codes beside 18 and 19 are none.
+#[test]
+fn steps_of_another_level_or_code_are_refused() {
+    let (mut store, o, _) = exhibit();
+    let before = store.clone();
+    for code in [18, 19] {
+        for (value, number) in [
+            (Value::from(2), 1),
+            ((-1).into(), 1),
+            (i32::MIN.into(), 1),
+            (256.into(), 1),
+            (Value::Undefined, 3),
+            (Value::Null, 3),
+            (no(), 3),
+            (1.0.into(), 3),
+            (StringId(0).into(), 3),
+            (o.into(), 3),
+            (ObjectId(7).into(), 2),
+            (FunctionId(1).into(), 3),
+        ] {
+            let mut bytes = Step::TestIntegrityLevel { object: o, level: IntegrityLevel::Frozen }.to_bytes();
+            bytes[0] = code;
+            bytes[11..20].copy_from_slice(&value.to_bytes());
+            let report = store.step_bytes(&bytes, &[0], &mut []);
+            assert_eq!(report.outcome, Err(Refusal::from_number(number).unwrap().into()), "{code} {value}");
+        }
+        for at in [2, 20, 29, 57] {
+            let mut bytes = Step::TestIntegrityLevel { object: o, level: IntegrityLevel::Frozen }.to_bytes();
+            (bytes[0], bytes[at]) = (code, 1);
+            assert_eq!(store.step_bytes(&bytes, &[0], &mut []).outcome, Err(Refusal::MalformedRecord.into()), "{code} {at}");
+        }
+    }
+    for code in [0, 15, 16, 17, 20, 32, 255] {
+        let mut bytes = Step::TestIntegrityLevel { object: o, level: IntegrityLevel::Frozen }.to_bytes();
+        bytes[0] = code;
+        assert_eq!(store.step_bytes(&bytes, &[0], &mut []).outcome, Err(Refusal::MalformedRecord.into()), "{code}");
+    }
+    let unmade = Step::SetIntegrityLevel { object: ObjectId(9), level: IntegrityLevel::Frozen };
+    assert_eq!(store.step(&unmade, &[]).outcome, Err(Refusal::ObjectNeverMade.into()));
+    assert_eq!(store, before);
+    for level in IntegrityLevel::ALL {
+        assert_eq!(IntegrityLevel::from_number(level.number().into()), Some(*level));
+    }
+    assert_eq!((IntegrityLevel::from_number(2), IntegrityLevel::from_number(u64::MAX)), (None, None));
+    // no output is used
+    let freeze = Step::SetIntegrityLevel { object: o, level: IntegrityLevel::Frozen }.to_bytes();
+    assert_eq!(store.step_bytes(&freeze, &[0], &mut []).outcome, Ok(Completion::Value(yes())));
+}
+
 /// 2,048 nested calls in a thread with a stack of 1 MB, then one more.
 #[test]
 fn the_2049th_call_is_refused_within_a_stack_of_1_mb() {
@@ -423,6 +780,9 @@ fn what_is_read_can_be_printed() {
         (text(&Answer::Throw(Value::Null)), "throw null"),
         (text(&step), "get o1 s0 receiver 5"),
         (text(&Call::Step { step, answers: vec![Answer::Value(true.into())] }), "get o1 s0 receiver 5 answers: true"),
+        (text(&Step::SetIntegrityLevel { object: ObjectId(1), level: IntegrityLevel::Sealed }), "seal o1"),
+        (text(&Step::TestIntegrityLevel { object: ObjectId(1), level: IntegrityLevel::Frozen }), "isFrozen o1"),
+        (text(&IntegrityLevel::Sealed), "sealed"),
         (text(&Call::Enter(vec![97])), "string \"a\""),
         (text(&Completion::Absent), "absent"),
         (text(&Completion::Keys(vec![key])), "[y7]"),
@@ -497,6 +857,8 @@ fn names_and_numbers_are_the_headers() {
     assert_eq!(refusals, of("REFUSAL_"));
     let messages: Vec<_> = Message::ALL.iter().map(|m| (in_capitals(&format!("{m:?}")), m.number().into())).collect();
     assert_eq!(messages, of("MESSAGE_"));
+    let levels: Vec<_> = IntegrityLevel::ALL.iter().map(|l| (in_capitals(&format!("{l:?}")), l.number().into())).collect();
+    assert_eq!(levels, of("LEVEL_"));
     for (name, value) in [
         ("STORE_WORDS", demnyaluz::STORE_WORDS),
         ("STRING_CELLS", demnyaluz::STRING_CELLS),
@@ -519,7 +881,7 @@ fn names_and_numbers_are_the_headers() {
         assert!(header.contains(&(name.to_string(), value)), "{name}");
     }
     let (object, key, value) = (ObjectId(0), PropertyKey::from(SymbolId(0)), Value::Null);
-    for step in [
+    let steps = [
         Step::MakeObject { prototype: None },
         Step::MakeProxy { target: object, traps: Traps::NONE },
         Step::Revoke { proxy: object },
@@ -534,11 +896,11 @@ fn names_and_numbers_are_the_headers() {
         Step::Set { object, key, value, receiver: value },
         Step::Delete { object, key },
         Step::OwnPropertyKeys { object },
-    ] {
-        let debug = format!("{step:?}");
-        let name = format!("CODE_{}", in_capitals(debug.split(' ').next().unwrap()));
-        assert!(header.contains(&(name.clone(), step.code().into())), "{name}");
-    }
+        Step::SetIntegrityLevel { object, level: IntegrityLevel::Sealed },
+        Step::TestIntegrityLevel { object, level: IntegrityLevel::Frozen },
+    ];
+    let codes = steps.map(|step| (in_capitals(format!("{step:?}").split(' ').next().unwrap()), step.code().into()));
+    assert_eq!(codes.to_vec(), of("CODE_"));
 }
 
 /// The entries over slices, where they say more than a store shows.
@@ -629,7 +991,7 @@ fn everything_can_move_between_threads() {
     sendable::<TextReader>();
     sendable::<Report>();
     sendable::<Validation>();
-    sendable::<(Step, Answer, Traps, Message)>();
+    sendable::<(Step, Answer, Traps, IntegrityLevel, Message)>();
     sendable::<(Value, ValueWords, PropertyKey, Property, PropertyDescriptor)>();
     sendable::<(notation::Line, notation::Strings, rows::Row)>();
     sendable::<(lent::ReportWords, lent::Validated, lent::Fed)>();
@@ -666,7 +1028,10 @@ fn enums_that_grow_are_not_exhaustive() {
             | Step::Set { .. }
             | Step::Delete { .. }
             | Step::OwnPropertyKeys { .. }
+            | Step::SetIntegrityLevel { .. }
+            | Step::TestIntegrityLevel { .. }
     ));
+    assert!(IntegrityLevel::ALL.iter().all(|l| named!(l, IntegrityLevel::Sealed | IntegrityLevel::Frozen)));
     assert!(named!(Answer::keys([]), Answer::Value(_) | Answer::Descriptor(_) | Answer::Keys(_) | Answer::Throw(_)));
     assert!(named!(Call::Enter(vec![]), Call::Enter(_) | Call::Step { .. }));
     let made = Store::new().step(&step, &[]).outcome.unwrap();
@@ -728,5 +1093,6 @@ fn enums_that_grow_are_not_exhaustive() {
             | M::MixedDescriptor
             | M::NotKey
             | M::KeysNotObject
+            | M::DefinitionRejected
     )));
 }

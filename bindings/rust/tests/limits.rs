@@ -10,8 +10,12 @@ use plain::value::Value;
 
 const NONE: Value = Value::Undefined;
 
+fn parts(code: u8, object: usize, key: Value, value: Value) -> Step {
+    Step { code, object, key, value, receiver: NONE, descriptor: Descriptor::default() }
+}
+
 fn step(code: u8, object: usize, key: Value, value: Value) -> Vec<u8> {
-    step_bytes(&Step { code, object, key, value, receiver: NONE, descriptor: Descriptor::default() })
+    step_bytes(&parts(code, object, key, value))
 }
 
 fn define(object: usize, key: Value, descriptor: Descriptor) -> Vec<u8> {
@@ -64,6 +68,88 @@ fn calls() {
     assert_eq!(result(listing(87, 22)).calls, 2048);
     refused(listing(126, 15), 10);
     assert_eq!(result(listing(3, 2)).calls, 1 + 5 * 3);
+}
+
+const SEALED: i32 = 0;
+const FROZEN: i32 = 1;
+
+/// An object with n keys behind m forwarding proxies, and the last of them.
+fn behind(keys: usize, forwarding: usize) -> (Pair, usize) {
+    let mut pair = Pair::new();
+    make(&mut pair);
+    for n in 0..keys {
+        result(run(&mut pair, &define(0, Value::Symbol(n as u64), plain_data(n as i32)), &[]));
+    }
+    for target in 0..forwarding {
+        proxy(&mut pair, target, 0);
+    }
+    (pair, forwarding)
+}
+
+fn set_level(pair: &mut Pair, o: usize, level: i32) -> Report {
+    run(pair, &step(18, o, NONE, Value::Integer32(level)), &[])
+}
+
+fn test_level(pair: &mut Pair, o: usize, level: i32) -> Report {
+    run(pair, &step(19, o, NONE, Value::Integer32(level)), &[])
+}
+
+#[track_caller]
+fn answered(report: Report, expected: bool) -> Report {
+    assert!(matches!(report.outcome, Outcome::Result(Completion::Value(Value::Boolean(b))) if b == expected), "{report:?}");
+    report
+}
+
+/// Freezing n keys through m proxies makes 2(m + 1) + n(2m + 4) calls, sealing them 2(m + 1) + n(m + 3), and testing them (n + 2)(m + 1). With one
+/// key more the last of them has no call left: what was frozen before it is as it was.
+#[test]
+fn calls_of_integrity_levels() {
+    for (level, keys, forwarding) in [(FROZEN, 40, 23), (FROZEN, 204, 3), (SEALED, 74, 24), (SEALED, 226, 6)] {
+        let (mut pair, o) = behind(keys, forwarding);
+        answered(test_level(&mut pair, o, level), false);
+        assert_eq!(answered(set_level(&mut pair, o, level), true).calls, 2048);
+        assert_eq!(answered(test_level(&mut pair, 0, level), true).calls, 2 + keys as u64);
+        let (mut pair, o) = behind(keys + 1, forwarding);
+        let before = pair.words.clone();
+        refused(set_level(&mut pair, o, level), 10);
+        assert_eq!(pair.words, before);
+        // the first key is as it was, and the object extensible
+        result(run(&mut pair, &step(13, 0, Value::Symbol(0), NONE), &[]));
+        result(run(&mut pair, &define(0, Value::Symbol(0), plain_data(1)), &[]));
+        let set = step_bytes(&Step { receiver: Value::Object(0), ..parts(12, 0, Value::Symbol(0), Value::Integer32(7)) });
+        answered(run(&mut pair, &set, &[]), true);
+        answered(set_level(&mut pair, 0, level), true);
+    }
+    for (keys, forwarding) in [(126, 15), (254, 7)] {
+        let (mut pair, o) = behind(keys, forwarding);
+        answered(set_level(&mut pair, 0, FROZEN), true);
+        assert_eq!(answered(test_level(&mut pair, o, FROZEN), true).calls, 2048);
+        assert_eq!(answered(test_level(&mut pair, o, SEALED), true).calls, 2048);
+        let (mut pair, o) = behind(keys + 1, forwarding);
+        answered(set_level(&mut pair, 0, FROZEN), true);
+        refused(test_level(&mut pair, o, FROZEN), 10);
+        refused(test_level(&mut pair, o, SEALED), 10);
+    }
+    // 256 keys, and no proxy
+    let (mut pair, o) = behind(256, 0);
+    assert_eq!(answered(set_level(&mut pair, o, SEALED), true).calls, 2 + 3 * 256);
+    assert_eq!(answered(set_level(&mut pair, o, FROZEN), true).calls, 2 + 4 * 256);
+}
+
+/// A handler is asked for each key: the 65th has no answer, and what was frozen before it is as it was.
+#[test]
+fn answers_of_integrity_levels() {
+    let (mut pair, o) = behind(65, 0);
+    proxy(&mut pair, o, 16);
+    let told = |n: i32| Answer::Descriptor(plain_data(n));
+    let freeze = step(18, 1, NONE, Value::Integer32(FROZEN));
+    let before = pair.words.clone();
+    refused(run(&mut pair, &freeze, &(0..64).map(told).collect::<Vec<_>>()), 8);
+    assert_eq!(pair.words, before);
+    result(run(&mut pair, &step(13, 0, Value::Symbol(64), NONE), &[]));
+    let report = answered(run(&mut pair, &freeze, &(0..64).map(told).collect::<Vec<_>>()), true);
+    assert_eq!((report.answers, report.calls), (64, 2 + 2 + 64 * (3 + 4)));
+    answered(test_level(&mut pair, 0, FROZEN), true);
 }
 
 #[test]
@@ -130,6 +216,23 @@ fn numbers() {
     result(run(&mut pair, &step(2, 0, NONE, Value::Integer32(2047)), &[]));
     refused(run(&mut pair, &step(2, 0, NONE, Value::Integer32(2048)), &[]), 1);
     refused(run(&mut pair, &step(2, 0, NONE, Value::Integer32(-1)), &[]), 1);
+    for code in [18, 19] {
+        for (level, refusal) in [
+            (Value::Integer32(2), 1),
+            (Value::Integer32(-1), 1),
+            (Value::Integer32(i32::MAX), 1),
+            (NONE, 3),
+            (Value::Boolean(true), 3),
+            (Value::Float64(1.0), 3),
+            (Value::Symbol(0), 3),
+            (Value::Object(2), 2),
+        ] {
+            refused(run(&mut pair, &step(code, 0, NONE, level), &[]), refusal);
+        }
+    }
+    for code in [0, 15, 16, 17, 20] {
+        refused(run(&mut pair, &step(code, 0, NONE, Value::Integer32(0)), &[]), 1);
+    }
 }
 
 #[test]

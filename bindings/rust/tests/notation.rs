@@ -1,7 +1,7 @@
 //! Readable lines: what they mean, where they are wrong, and their cells.
 use demnyaluz::notation::{cells, parse, Call, Strings, HEADING};
 use demnyaluz::readable;
-use demnyaluz::{Answer, FunctionId, ObjectId, PropertyDescriptor, PropertyKey, Step, StringId, SymbolId, Traps, Value};
+use demnyaluz::{Answer, FunctionId, IntegrityLevel, ObjectId, PropertyDescriptor, PropertyKey, Step, StringId, SymbolId, Traps, Value};
 
 fn calls(text: &str) -> Vec<Call> {
     parse(text).unwrap().into_iter().map(|l| l.call).collect()
@@ -45,6 +45,10 @@ fn every_step_has_a_line() {
         ("set o3 y7 null receiver null", Step::Set { object: O, key: Y, value: Value::Null, receiver: Value::Null }),
         ("deleteProperty o3 y7", Step::Delete { object: O, key: Y }),
         ("ownKeys o3", Step::OwnPropertyKeys { object: O }),
+        ("seal o3", Step::SetIntegrityLevel { object: O, level: IntegrityLevel::Sealed }),
+        ("freeze o3", Step::SetIntegrityLevel { object: O, level: IntegrityLevel::Frozen }),
+        ("isSealed o3", Step::TestIntegrityLevel { object: O, level: IntegrityLevel::Sealed }),
+        ("isFrozen o3", Step::TestIntegrityLevel { object: O, level: IntegrityLevel::Frozen }),
     ] {
         assert_eq!(one(text), (step, vec![]), "{text}");
     }
@@ -159,7 +163,7 @@ const END: &str = "the end of the line";
 const VALUE: &str = "a value (as undefined, null, true, 70000, -0.5, \"text\", o0, s0, y0 or f0)";
 const FIELD: &str = "a field (value, writable, get, set, enumerable or configurable)";
 const STEP: &str = "a step (string, object, proxy, revoke, getPrototypeOf, setPrototypeOf, isExtensible, preventExtensions, \
-                    getOwnPropertyDescriptor, defineProperty, has, get, set, deleteProperty, ownKeys)";
+                    getOwnPropertyDescriptor, defineProperty, has, get, set, deleteProperty, ownKeys, seal, freeze, isSealed, isFrozen)";
 const TRAP: &str = "a trap (getPrototypeOf, setPrototypeOf, isExtensible, preventExtensions, getOwnPropertyDescriptor, defineProperty, has, \
                     get, set, deleteProperty, ownKeys), 'all' or a mask of at most 2047";
 
@@ -190,6 +194,10 @@ fn errors_say_what_was_expected_and_what_was_found() {
         ("proxy o0 traps", 1, 15, TRAP, END),
         ("proxy o0 traps read", 1, 16, TRAP, "'read'"),
         ("proxy o0 traps 2048", 1, 16, TRAP, "'2048'"),
+        ("proxy o0 traps freeze", 1, 16, TRAP, "'freeze'"),
+        ("freeze", 1, 7, "an object (o0 to o255)", END),
+        ("isSealed \"o0\"", 1, 10, "an object (o0 to o255)", "\"o0\""),
+        ("seal o0 frozen", 1, 9, "'answers:' or the end of the line", "'frozen'"),
         ("proxy o0 traps get set", 1, 20, "',', 'answers:' or the end of the line", "'set'"),
         ("defineProperty o0 y0", 1, 21, "'{'", END),
         ("defineProperty o0 y0 {value 1}", 1, 29, "':'", "'1'"),
@@ -289,7 +297,8 @@ fn numbers_that_do_not_fit_are_errors() {
 #[test]
 fn cells_are_hexadecimal() {
     assert_eq!(HEADING, "step object key value receiver descriptor sheet");
-    let text = "object\nstring \"\"\nstring \"aé\"\nget o0 \"aé\" answers: 4464\nownKeys o0";
+    let text =
+        "object\nstring \"\"\nstring \"aé\"\nget o0 \"aé\" answers: 4464\nownKeys o0\nseal o0\nfreeze o1 answers: false\nisSealed o0\nisFrozen o0";
     let lines: Vec<String> = calls(text).iter().map(cells).collect();
     assert_eq!(
         lines,
@@ -299,6 +308,10 @@ fn cells_are_hexadecimal() {
             "0f 00 - - - - 006100e9",
             "0b 00 050100000000000000 - 070000000000000000 - 0101037011000000000000",
             "0e 00 - - - - -",
+            "12 00 - 030000000000000000 - - -",
+            "12 01 - 030100000000000000 - - 0101020000000000000000",
+            "13 00 - 030000000000000000 - - -",
+            "13 00 - 030100000000000000 - - -",
         ]
     );
 }
@@ -336,6 +349,10 @@ fn readable_calls_are_read_again() {
         "set o1 \"a\" -0 receiver \"b\"",
         "deleteProperty o1 s200",
         "ownKeys o1",
+        "seal o1",
+        "freeze o1",
+        "isSealed o1",
+        "isFrozen o1",
     ] {
         texts.push(format!("{step} answers: {values}, throw 1, {{}}, {{get: \"c\"}}, [], \"a\""));
     }

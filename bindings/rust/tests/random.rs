@@ -38,5 +38,6 @@ fn every_call_is_as_the_plain_implementation_says() {
         return;
     }
     assert_eq!(tally.missing(), (vec![], vec![]), "refusals and messages that never came");
-    assert!(tally.codes[1..].iter().all(|n| *n > 0));
+    assert!(tally.steps().all(|(_, n)| n > 0));
+    assert!(tally.midway > 0);
 }

@@ -177,7 +177,7 @@ fn rows_that_do_not_belong_to_the_calls_are_errors() {
         (format!("{ROWS}1 +1 0 0 0 -\n"), 0, malformed(1, "object", "1 +1 0 0 0 -", "expected a decimal number as outcome, found '+1'")),
         (format!("{ROWS}1 4 0 0 0 -\n"), 0, malformed(1, "object", "1 4 0 0 0 -", "expected outcome 0 to 3, found 4")),
         (format!("{ROWS}1 0 13 0 0 -\n"), 0, malformed(1, "object", "1 0 13 0 0 -", "expected the number of a refusal, found 13")),
-        (format!("{ROWS}1 2 32 0 0 -\n"), 0, malformed(1, "object", "1 2 32 0 0 -", "expected the number of a message, found 32")),
+        (format!("{ROWS}1 2 33 0 0 -\n"), 0, malformed(1, "object", "1 2 33 0 0 -", "expected the number of a message, found 33")),
         (format!("{ROWS}1 0 7 0 1 -\n"), 0, malformed(1, "object", "1 0 7 0 1 -", "expected no answers and no calls with a refusal, found 0 and 1")),
         (format!("{ROWS}1 0 7 65 1 -\n"), 0, malformed(1, "object", "1 0 7 65 1 -", "expected at most 64 answers, found 65")),
         (format!("{ROWS}1 2 1 0 2049 -\n"), 0, malformed(1, "object", "1 2 1 0 2049 -", "expected at most 2048 calls, found 2049")),
@@ -358,6 +358,11 @@ fn lines_alike_are_shown_as_one() {
         "get o0 y0 answers: 1, 1, 2",
         &format!("isExtensible o5 answers: {answers}"),
         "set o0 y0 1 receiver o1",
+        "seal o5 answers: true, true, true, true, true",
+        "isSealed o0",
+        "isSealed o0",
+        "isFrozen o0",
+        "freeze o0",
     ]
     .join("\n");
     let rows = [
@@ -375,6 +380,11 @@ fn lines_alike_are_shown_as_one() {
         "12 1 0 3 3 030100000000000000", // another call
         "13 0 1 0 0 -",
         "14 0 7 0 0 -",
+        "15 2 32 4 20 -",
+        "16 1 0 0 2 020100000000000000",
+        "17 1 0 0 2 020100000000000000",
+        "18 1 0 0 2 020000000000000000",
+        "19 3 0 0 2 030500000000000000",
     ];
     let shown = [
         "1 to 3: object: o0 to o2 (0 answers, 0 calls)",
@@ -387,6 +397,10 @@ fn lines_alike_are_shown_as_one() {
         "12: get o0 y0, answers 1, then 1, then 2: 1 (3 answers, 3 calls)",
         "13: isExtensible o5, handler answers 65 times 1: refused 1, a record is malformed",
         "14: set o0 y0 1 receiver o1: refused 7, there is no room",
+        "15: seal o5, handler answers 5 times true: TypeError 32, Property definition was rejected (4 answers, 20 calls)",
+        "16 to 17: isSealed o0: true (0 answers, 2 calls)",
+        "18: isFrozen o0: false (0 answers, 2 calls)",
+        "19: freeze o0: thrown 5 (0 answers, 2 calls)",
     ];
     let ran = Steps::new("alike", &text).rows(&format!("{ROWS}{}\n", rows.join("\n")));
     assert_eq!(text_of(ran.stderr), "");

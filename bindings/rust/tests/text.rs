@@ -363,15 +363,15 @@ fn code_units_stand_high_byte_first() {
     assert_eq!(rows[5], "1 0 0 1 050100000000000000050000000000000000");
 }
 
-/// In a record of 58 bytes 15 is no code, whatever else it holds.
+/// In a record of 58 bytes 15, 16, 17 and 20 are no codes, whatever else it holds.
 #[test]
-fn a_record_of_code_15_is_refused_as_1() {
+fn records_of_codes_that_are_none_are_refused_as_1() {
     let (mut words, mut strings) = (vec![0; 1634], vec![0; 8449]);
     assert!(lent::empty_store(&mut words) && lent::empty_strings(&mut strings));
     let mut random = Random::new(15);
     for i in 0..200 {
         let mut step: Vec<u8> = (0..58).map(|_| if i % 2 == 0 { 0 } else { random.next() as u8 }).collect();
-        step[0] = 15;
+        step[0] = random.pick(&[15, 16, 17, 20]);
         let report = lent::step(&mut words, &strings, &step, &[0], &mut [0; 2304]);
         assert_eq!(report.as_slice(), [0, 1, 0, 0, 0, 0, 0, 0, 0, 0]);
     }
@@ -429,6 +429,56 @@ fn values_of_rows() {
         "1 0 0 1 010000000000000000",
     ]) {
         assert_eq!(line, row);
+    }
+}
+
+/// Steps 12 and 13 by hand: an object with a name and a symbol, a handler that throws when it is asked for the symbol, and what stayed.
+#[test]
+fn lines_seal_and_freeze() {
+    let (name, symbol, data) = ("050000000000000000", "060300000000000000", "037011010000000000");
+    let (zero, sealed, frozen) = ("000000000000000000", "030000000000000000", "030100000000000000");
+    let whole = format!("0f07{data}{zero}{zero}");
+    let (yes, no) = ("020100000000000000", "020000000000000000");
+    let (lines, expected): (Vec<String>, Vec<String>) = [
+        ("0f - - - - - 006e".to_string(), "1 0 0 0 050000000000000000".to_string()),
+        (MAKE.to_string(), "1 0 0 0 070000000000000000".to_string()),
+        (format!("09 00 {name} - - {whole} -"), format!("1 0 0 3 {yes}")),
+        (format!("09 00 {symbol} - - {whole} -"), format!("1 0 0 3 {yes}")),
+        (format!("13 00 - {sealed} - - -"), format!("1 0 0 1 {no}")),
+        ("02 00 - 031000000000000000 - - -".to_string(), "1 0 0 0 070100000000000000".to_string()),
+        // refused in the midst: nothing changes
+        (format!("12 01 - {frozen} - - 0102{whole}"), "0 8 0 0 -".to_string()),
+        (format!("12 01 - {frozen} - - 0202{whole}030000"), "0 9 0 0 -".to_string()),
+        ("06 00 - - - - -".to_string(), format!("1 0 0 1 {yes}")),
+        // thrown in the midst: the name is frozen
+        (format!("12 01 - {frozen} - - 0202{whole}04{data}"), format!("3 0 2 12 {data}")),
+        ("06 00 - - - - -".to_string(), format!("1 0 0 1 {no}")),
+        (format!("08 00 {name} - - - -"), format!("1 0 0 1 0f01{data}{zero}{zero}")),
+        (format!("08 00 {symbol} - - - -"), format!("1 0 0 1 {whole}")),
+        (format!("13 00 - {sealed} - - -"), format!("1 0 0 4 {no}")),
+        (format!("12 00 - {sealed} - - -"), format!("1 0 0 8 {yes}")),
+        (format!("13 00 - {sealed} - - -"), format!("1 0 0 4 {yes}")),
+        (format!("13 00 - {frozen} - - -"), format!("1 0 0 4 {no}")),
+        // a defineProperty trap that answers false
+        ("02 00 - 032000000000000000 - - -".to_string(), "1 0 0 0 070200000000000000".to_string()),
+        (format!("12 02 - {frozen} - - 0201{yes}01{no}"), "2 32 2 12 -".to_string()),
+        (format!("12 00 - {frozen} - - -"), format!("1 0 0 10 {yes}")),
+        (format!("13 02 - {frozen} - - -"), format!("1 0 0 8 {yes}")),
+        // levels and codes that are none
+        ("12 00 - 030200000000000000 - - -".to_string(), "0 1 0 0 -".to_string()),
+        ("13 00 - 03ffffffff00000000 - - -".to_string(), "0 1 0 0 -".to_string()),
+        ("12 00 - - - - -".to_string(), "0 3 0 0 -".to_string()),
+        (format!("12 09 - {sealed} - - -"), "0 2 0 0 -".to_string()),
+        (format!("12 00 {name} {sealed} - - -"), "0 1 0 0 -".to_string()),
+        (format!("10 00 - {sealed} - - -"), "0 1 0 0 -".to_string()),
+        (format!("11 00 - {sealed} - - -"), "0 1 0 0 -".to_string()),
+        (format!("14 00 - {sealed} - - -"), "0 1 0 0 -".to_string()),
+    ]
+    .into_iter()
+    .unzip();
+    let rows = rows_of(&lines.iter().map(String::as_str).collect::<Vec<_>>());
+    for ((line, row), expected) in lines.iter().zip(rows).zip(expected) {
+        assert_eq!(row, expected, "{line}");
     }
 }
 
@@ -709,7 +759,7 @@ fn the_days_rows_are_as_the_plain_implementation_says() {
     for refusal in [1, 2, 3, 4, 7, 8, 9, 10] {
         assert!(has(&format!("0 {refusal} ")), "refusal {refusal}");
     }
-    for message in 1..=31 {
+    for message in 1..=32 {
         assert!(has(&format!("2 {message} ")), "message {message}");
     }
     assert!(has("3 0 "));
@@ -766,6 +816,7 @@ fn the_day_is_a_page_that_can_be_read() {
     let rows = if program.is_file() { piped(&mut Command::new(program), &cells) } else { run_text(&cells) };
     let page = String::from_utf8(piped(Command::new(steps).args(["--rows", DAY]), &rows)).unwrap();
     let fixed = "{value: 70000, writable: false, enumerable: true, configurable: false}";
+    let (told, open) = ("{value: 70000, enumerable: true}", "{value: 5, writable: true, enumerable: true, configurable: true}");
     for line in [
         "1: string \"visits\": s0".to_string(),
         format!("9: defineProperty o0 \"visits\" {fixed}: true (0 answers, 3 calls)"),
@@ -775,12 +826,27 @@ fn the_day_is_a_page_that_can_be_read() {
         "28: setPrototypeOf o1 o0, handler answers throw \"name\": thrown \"name\" (1 answer, 1 call)".to_string(),
         "54: getOwnPropertyDescriptor o1 \"name\", handler answers undefined: absent (1 answer, 2 calls)".to_string(),
         "90: get o1 \"visits\": refused 8, the sheet has no next answer".to_string(),
-        "97 to 120: object: o8 to o31 (0 answers, 0 calls)".to_string(),
-        "121: object: refused 7, there is no room".to_string(),
+        "101: isFrozen o8: false (0 answers, 3 calls)".to_string(),
+        "103: freeze o8: true (0 answers, 6 calls)".to_string(),
+        "106: freeze o5, handler answers false: false (1 answer, 1 call)".to_string(),
+        "113: freeze o10, handler answers {value: 70000, enumerable: true}: refused 8, the sheet has no next answer".to_string(),
+        "114: isExtensible o9: true (0 answers, 1 call)".to_string(),
+        format!(
+            "115: freeze o11, handler answers {told}, then true, then {told}, then {open}, then false: \
+             TypeError 32, Property definition was rejected (5 answers, 21 calls)"
+        ),
+        "116: isExtensible o9: false (0 answers, 1 call)".to_string(),
+        format!("117: getOwnPropertyDescriptor o9 \"name\": {open} (0 answers, 1 call)"),
+        format!("118: freeze o10, handler answers {told}, then {open}, then throw \"name\": thrown \"name\" (3 answers, 19 calls)"),
+        format!("119: getOwnPropertyDescriptor o9 \"name\": {} (0 answers, 1 call)", fixed.replace("70000", "5")),
+        format!("120: getOwnPropertyDescriptor o9 y3: {open} (0 answers, 1 call)"),
+        "121: isSealed o9: false (0 answers, 5 calls)".to_string(),
+        "124 to 143: object: o12 to o31 (0 answers, 0 calls)".to_string(),
+        "144: object: refused 7, there is no room".to_string(),
     ] {
         assert!(page.lines().any(|l| l == line), "{line}");
     }
-    assert!(page.ends_with(&format!("122: getOwnPropertyDescriptor o0 \"visits\": {fixed} (0 answers, 1 call)\n")));
+    assert!(page.ends_with(&format!("145: getOwnPropertyDescriptor o0 \"visits\": {fixed} (0 answers, 1 call)\n")));
     // every line of the day is shown, those alike together
     let shown: Vec<(usize, usize)> = page.lines().map(|l| l.split_once(':').unwrap().0).map(numbers).collect();
     assert!(shown.windows(2).all(|w| w[0].1 + 1 == w[1].0));
@@ -789,7 +855,7 @@ fn the_day_is_a_page_that_can_be_read() {
     assert_eq!(rows::HEADING, HEADING);
 }
 
-/// `8`, or `97 to 120`.
+/// `8`, or `124 to 143`.
 fn numbers(text: &str) -> (usize, usize) {
     let (from, to) = text.split_once(" to ").unwrap_or((text, text));
     (from.parse().unwrap(), to.parse().unwrap())

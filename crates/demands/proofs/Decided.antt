@@ -1,8 +1,8 @@
 -- Demand 1 holds of every call of every list of calls. Assumes nothing.
 use Prim.Native.Nat.{ℕ, _+_, _-_, _≤_}
-use native.Mathlib.Nat.{le-refl}
+use native.Mathlib.Nat.{le-refl, le-suc, le-trans}
 use native.Mathlib.Omega.{arith}
-use mathlib.Core.Path.{_≡_, refl, ap, _∙_, subst}
+use mathlib.Core.Path.{_≡_, refl, sym, ap, _∙_, subst}
 use mathlib.Core.Bool.{Bool, true, false, cond, false≢true}
 use mathlib.Core.Option.{Option, none, some}
 use mathlib.Core.List.{List, [], _∷_, _++_}
@@ -21,16 +21,18 @@ use Rattle.internal_methods.proofs.Longer.{Suffix, spent-reads-all}
 use Rattle.internal_methods.proofs.Longer as longer
 use Rattle.record.specs.Sheet.{sheetOf}
 use Rattle.record.specs.Tests.{firstFailing}
-use Rattle.steps.specs.Operation.{asked}
+use Rattle.steps.specs.Operation.{Level, setIntegrityLevel, asked}
+use Rattle.steps.specs.Sequence.{Ran}
 use Rattle.steps.specs.Perform.{Result, maximumCalls, perform}
-use Rattle.steps.specs.Response.{Ending, refused, typeError, Effect}
-use Rattle.steps.specs.Step.{contextOf, recordTests, refusing, completed, ran, step, callsMade}
+use Rattle.steps.specs.Response.{Ending, refused, result, typeError, Effect}
+use Rattle.steps.specs.Step.{contextOf, recordTests, refusing, withStore, completed, endedWith, ran, step, callsMade}
 use Rattle.steps.specs.StringEntry.{enterString}
 use Rattle.steps.specs.Run.{Call, worldAt}
-use Rattle.demands.specs.Refusals.{Refusal, inadmissible, full, spent, unreadable, exhausted, short, Accepted, by-result, by-typeError, by-throw, Unless, is-result, otherwise, LeftOf, leftIn, StepDecided, EntryRefusal, long, EntryDecided}
+use Rattle.demands.specs.Refusals.{Refusal, inadmissible, full, spent, unreadable, exhausted, short, Accepted, by-result, by-typeError, by-throw, MayWrite, Unless, otherwise, LeftOf, leftIn, StepDecided, EntryRefusal, long, EntryDecided}
 use Rattle.demands.specs.Refusals as refusal
 use Rattle.steps.proofs.Made.{names-made}
-use Rattle.steps.proofs.Performs.{Fails, Performs, crowded, method, performs}
+use Rattle.steps.proofs.Sequences.{joined, settled, Once, performs-once}
+use Rattle.steps.proofs.Performs.{Fails, Performs, crowded, method, rejected, performs}
 use Rattle.steps.proofs.Lifted.{perform-longer}
 use Rattle.steps.proofs.Runs.{Crowded, by-objects, by-properties, crowded-ran, full-ran, exhausted-ran, seven, nine, ten}
 use Rattle.steps.proofs.Places.{closed-at}
@@ -52,7 +54,7 @@ module _ (ω : World) (bytes sheet : List ℕ) (closed : Closed (ω .store)) (pa
   abbrev runs : Performs (contextOf ω) maximumCalls (asked bytes)
   runs = performs (contextOf ω) maximumCalls closed (asked bytes) (names-made ω bytes sheet passes .operation)
 
-  pub ran-fails : (f : Failure) (s : State) → ran ω bytes sheet ≡ failed f s → Fails (contextOf ω) f s
+  pub ran-fails : (f : Failure) (s : State) → ran ω bytes sheet .0 ≡ failed f s → Fails (contextOf ω) f s
   unfolding ran
   ran-fails f s e = runs .fails _ s f (le-refl _) (names-made ω bytes sheet passes .answers) e
 
@@ -66,12 +68,12 @@ suffix-left : {rest answers : List Answer} → Suffix rest answers → LeftOf re
 suffix-left longer.same = record { taken = []; splits = refl }
 suffix-left (longer.more {x = x} h) = let t = suffix-left h in record { taken = x ∷ t .taken; splits = ap (λ (l : List Answer). x ∷ l) (t .splits) }
 
-left-is : (x : Out (Result × Store)) → longer.left x ≡ leftIn x
-left-is (failed f s) = refl
-left-is (done a s) = refl
+left-is : (σ : Store) (x : Out Result) → longer.left (joined σ x) ≡ leftIn x
+left-is σ (failed f s) = refl
+left-is σ (done r s) = refl
 
 spent-met : (ω : World) (s : State) → Fails (contextOf ω) (Refused 8) s → s .answers ≡ []
-spent-met ω s (method (met.spent e)) = e
+spent-met ω s (method τ (met.spent e)) = e
 
 module _ (ω : World) (bytes sheet output : List ℕ) (closed : Closed (ω .store)) where
   no-room : firstFailing (recordTests ω bytes sheet) ≡ none → Crowded ω bytes sheet → Refusal ω bytes sheet output 7
@@ -79,31 +81,47 @@ module _ (ω : World) (bytes sheet output : List ℕ) (closed : Closed (ω .stor
   no-room p (by-properties l r h) = full p l r h
 
   -- a failure of the run is a refusal by its number, or is accepted
-  met-refusal : (n : ℕ) (s : State) → firstFailing (recordTests ω bytes sheet) ≡ none → ran ω bytes sheet ≡ failed (Refused n) s → Fails (contextOf ω) (Refused n) s → Refusal ω bytes sheet output n
+  met-refusal : (n : ℕ) (s : State) → firstFailing (recordTests ω bytes sheet) ≡ none → ran ω bytes sheet .0 ≡ failed (Refused n) s → Fails (contextOf ω) (Refused n) s → Refusal ω bytes sheet output n
   met-refusal n s p e (crowded h) = no-room p (seven ω bytes sheet s e)
-  met-refusal n s p e (method (met.full h)) = no-room p (seven ω bytes sheet s e)
-  met-refusal n s p e (method (met.spent h)) = spent p e h
-  met-refusal n s p e (method met.unreadable) = let u = nine ω bytes sheet s e in unreadable (u .used) (u .last) (u .asked-for) p (u .splits) (u .unreadable) e (u .throws)
-  met-refusal n s p e (method (met.exhausted h)) = exhausted p (ap (callsMade maximumCalls) e ∙ ap (λ (i : ℕ). maximumCalls - i) h) (ten ω bytes sheet s e)
+  met-refusal n s p e (method τ (met.full h)) = no-room p (seven ω bytes sheet s e)
+  met-refusal n s p e (method τ (met.spent h)) = spent p e h
+  met-refusal n s p e (method τ met.unreadable) = let u = nine ω bytes sheet s e in unreadable (u .used) (u .last) (u .asked-for) p (u .splits) (u .unreadable) e (u .throws)
+  met-refusal n s p e (method τ (met.exhausted h)) = exhausted p (ap (callsMade maximumCalls) e ∙ ap (λ (i : ℕ). maximumCalls - i) h) (ten ω bytes sheet s e)
 
   errs : (n : ℕ) (s : State) → Fails (contextOf ω) (TypeError n) s → Accepted (typeError n)
-  errs n s (method (met.error m i j)) = by-typeError n i j
+  errs n s (method τ (met.error m i j)) = by-typeError n i (le-trans j (le-suc 31))
+  errs n s rejected = by-typeError 32 (omega arith) (le-refl 32)
 
   abbrev ending : Ending
   ending = step ω bytes sheet output .response .ending
 
+  -- the end of a run, without the store
+  ends-in : {x : Out Result} {σ : Store} → ran ω bytes sheet ≡ (x, σ) → ran ω bytes sheet .0 ≡ x
+  ends-in e = ap (λ (y : Ran Result). y .0) e
+
   -- how the step ended, by demand 1's conditions
   data Shape : Effect → Type 0 where
     refuses : {n : ℕ} → Refusal ω bytes sheet output n → Shape (refusing n ω output)
-    accepts : {e : Effect} → Accepted (e .response .ending) → Unless (e .response .ending) ((e .world ≡ ω) × (e .output ≡ output)) → e .world .strings ≡ ω .strings → Shape e
+    accepts : {e : Effect} → Accepted (e .response .ending) → Unless (MayWrite (asked bytes) (e .response .ending)) (e .world ≡ ω)
+        → Unless ((r : Result) × (e .response .ending ≡ result r)) (e .output ≡ output) → e .world .strings ≡ ω .strings → Shape e
+
+  -- the store that a failure leaves is the one before, but for step 18
+  failing : (f : Failure) (s : State) (σ : Store) (e : Ending) → ran ω bytes sheet ≡ (failed f s, σ) → ((o : ℕ) (level : Level) → asked bytes ≡ setIntegrityLevel o level → MayWrite (asked bytes) e)
+      → Unless (MayWrite (asked bytes) e) (withStore ω σ ≡ ω)
+  unfolding ran
+  failing f s σ end e may = go (performs-once maximumCalls (contextOf ω) (asked bytes) (state (sheetOf sheet) maximumCalls))
+    where
+      go : Once (contextOf ω) (asked bytes) (perform maximumCalls (contextOf ω) (asked bytes) .run (state (sheetOf sheet) maximumCalls)) → Unless (MayWrite (asked bytes) end) (withStore ω σ ≡ ω)
+      go (Once.by-turns q) = Unless.is (may _ _ q)
+      go (Once.at-once h) = otherwise (ap (withStore ω) (sym (ap (λ (x : Ran Result). x .1) e) ∙ h f s (ap (λ (x : Ran Result). x .0) e)))
 
   shaped : {x : Effect} → Ends ω bytes sheet output x → Shape x
   shaped (how.inadmissible p) = refuses (inadmissible p)
-  shaped (how.refuses {n = n} {s = s} p e) = refuses (met-refusal n s p e (ran-fails ω bytes sheet closed p _ s e))
-  shaped (how.errs {n = n} {s = s} p e) = accepts (errs n s (ran-fails ω bytes sheet closed p _ s e)) (otherwise (refl, refl)) refl
-  shaped (how.throws {v = v} p e) = accepts (by-throw v) (otherwise (refl, refl)) refl
-  shaped (how.short p e h) = refuses (short p e h)
-  shaped (how.results {a = a} p e h) = accepts (by-result (a .0)) (is-result (a .0) refl) refl
+  shaped (how.refuses {n = n} {s = s} p e) = refuses (met-refusal n s p (ends-in e) (ran-fails ω bytes sheet closed p _ s (ends-in e)))
+  shaped (how.errs {n = n} {s = s} {σ = σ} p e) = accepts (errs n s (ran-fails ω bytes sheet closed p _ s (ends-in e))) (failing _ s σ _ e (λ _ _ q. refusal.MayWrite.by-typeError n q)) (otherwise refl) refl
+  shaped (how.throws {v = v} {s = s} {σ = σ} p e) = accepts (by-throw v) (failing _ s σ _ e (λ _ _ q. refusal.MayWrite.by-throw v q)) (otherwise refl) refl
+  shaped (how.short p e h) = refuses (short p (ends-in e) h)
+  shaped (how.results {r = r} p e h) = accepts (by-result r) (Unless.is (refusal.MayWrite.by-result r)) (Unless.is (r, refl)) refl
 
   shape : Shape (step ω bytes sheet output)
   shape = shaped (ends ω bytes sheet output)
@@ -111,36 +129,47 @@ module _ (ω : World) (bytes sheet output : List ℕ) (closed : Closed (ω .stor
   ended-in : {e : Effect} → step ω bytes sheet output ≡ e → ending ≡ e .response .ending
   ended-in q = ap (λ (x : Effect). x .response .ending) q
 
+  -- a run by its end
+  run-ends : (x : Out Result) → firstFailing (recordTests ω bytes sheet) ≡ none → ran ω bytes sheet .0 ≡ x → step ω bytes sheet output ≡ endedWith ω (sheetOf sheet) output (ran ω bytes sheet .1) x
+  run-ends x p e = step-is ω bytes sheet output none _ p refl ∙ ap (endedWith ω (sheetOf sheet) output (ran ω bytes sheet .1)) e
+
   -- a condition that holds refuses the step
   refused-by : (n : ℕ) → Refusal ω bytes sheet output n → ending ≡ refused n
   refused-by n (inadmissible e) = ended-in (step-is ω bytes sheet output _ _ e refl)
-  refused-by n (refusal.crowded p m h) = ended-in (step-is ω bytes sheet output _ _ p (crowded-ran ω bytes sheet m h))
-  refused-by n (full {τ = τ} {s = s} p l r h) = let (t, e) = full-ran ω bytes sheet τ s l r h in ended-in (step-is ω bytes sheet output _ _ p e)
-  refused-by n (spent p e h) = ended-in (step-is ω bytes sheet output _ _ p e)
-  refused-by n (unreadable used a r p q u e h) = ended-in (step-is ω bytes sheet output _ _ p e)
-  refused-by n (exhausted p z h) = let (t, e) = exhausted-ran ω bytes sheet (h 1 (omega arith)) in ended-in (step-is ω bytes sheet output _ _ p e)
-  refused-by n (short {a = a} {s = s} p e h) = ended-in (step-is ω bytes sheet output _ _ p e ∙ ap (completed ω (sheetOf sheet) output a s) h)
+  refused-by n (refusal.crowded p m h) = ended-in (run-ends _ p (crowded-ran ω bytes sheet m h))
+  refused-by n (full {τ = τ} {s = s} p l r h) = let (t, e) = full-ran ω bytes sheet τ s l r h in ended-in (run-ends _ p e)
+  refused-by n (spent p e h) = ended-in (run-ends _ p e)
+  refused-by n (unreadable used a r p q u e h) = ended-in (run-ends _ p e)
+  refused-by n (exhausted p z h) = let (t, e) = exhausted-ran ω bytes sheet (h 1 (omega arith)) in ended-in (run-ends _ p e)
+  refused-by n (short {r = r} {s = s} p e h) = ended-in (run-ends _ p e ∙ ap (completed ω (sheetOf sheet) output (ran ω bytes sheet .1) r s) h)
 
   only-by : (n : ℕ) (x : Effect) → Shape x → x .response .ending ≡ refused n → Refusal ω bytes sheet output n × (x ≡ refusing n ω output)
   only-by n x (refuses {n = m} r) h = let q : m ≡ n = refused-is m n h in (subst (Refusal ω bytes sheet output) q r, ap (λ (i : ℕ). refusing i ω output) q)
-  only-by n x (accepts a u s) h = absurd (not-accepted n _ h a)
+  only-by n x (accepts a u o s) h = absurd (not-accepted n _ h a)
 
   accepted-else : (x : Effect) → Shape x → ((n : ℕ) → Refusal ω bytes sheet output n → ⊥) → Accepted (x .response .ending)
   accepted-else x (refuses {n = m} r) none-holds = absurd (none-holds m r)
-  accepted-else x (accepts a u s) none-holds = a
+  accepted-else x (accepts a u o s) none-holds = a
 
-  unchanged-in : (x : Effect) → Shape x → Unless (x .response .ending) ((x .world ≡ ω) × (x .output ≡ output))
-  unchanged-in x (refuses r) = otherwise (refl, refl)
-  unchanged-in x (accepts a u s) = u
+  unchanged-in : (x : Effect) → Shape x → Unless (MayWrite (asked bytes) (x .response .ending)) (x .world ≡ ω)
+  unchanged-in x (refuses r) = otherwise refl
+  unchanged-in x (accepts a u o s) = u
+
+  unwritten-in : (x : Effect) → Shape x → Unless ((r : Result) × (x .response .ending ≡ result r)) (x .output ≡ output)
+  unwritten-in x (refuses r) = otherwise refl
+  unwritten-in x (accepts a u o s) = o
 
   strings-in : (x : Effect) → Shape x → x .world .strings ≡ ω .strings
   strings-in x (refuses r) = refl
-  strings-in x (accepts a u s) = s
+  strings-in x (accepts a u o s) = s
 
-  all-read : {s : State} → ran ω bytes sheet ≡ failed (Refused 8) s → firstFailing (recordTests ω bytes sheet) ≡ none → (more : List Answer)
-      → LeftOf (leftIn (perform maximumCalls (contextOf ω) (asked bytes) .run (state (sheetOf sheet ++ more) maximumCalls))) more
+  abbrev later : List Answer → Ran Result
+  later more = perform maximumCalls (contextOf ω) (asked bytes) .run (state (sheetOf sheet ++ more) maximumCalls)
+
+  all-read : {s : State} → ran ω bytes sheet .0 ≡ failed (Refused 8) s → firstFailing (recordTests ω bytes sheet) ≡ none → (more : List Answer)
+      → LeftOf (leftIn (perform maximumCalls (contextOf ω) (asked bytes) .run (state (sheetOf sheet ++ more) maximumCalls) .0)) more
   unfolding ran
-  all-read {s} e p more = rw (← left-is _) (suffix-left (spent-reads-all (perform maximumCalls (contextOf ω) (asked bytes)) (perform-longer maximumCalls (contextOf ω) (asked bytes)) _ s e
+  all-read {s} e p more = subst (λ (l : List Answer). LeftOf l more) (left-is (later more .1) (later more .0)) (suffix-left (spent-reads-all (settled (perform maximumCalls (contextOf ω) (asked bytes))) (perform-longer maximumCalls (contextOf ω) (asked bytes)) _ s (ap (joined (ran ω bytes sheet .1)) e)
       (spent-met ω s (ran-fails ω bytes sheet closed p _ s e)) more))
 
   decided : StepDecided ω bytes sheet output
@@ -149,6 +178,7 @@ module _ (ω : World) (bytes sheet output : List ℕ) (closed : Closed (ω .stor
     accepts = λ h. accepted-else _ shape h;
     untouched = λ n h. only-by n _ shape h .1;
     unchanged = unchanged-in _ shape;
+    unwritten = unwritten-in _ shape;
     strings = strings-in _ shape;
     reads = λ e p more. all-read e p more;
     depth = λ p n h. ran-depth ω bytes sheet closed p n h;

@@ -19,15 +19,21 @@ use Rattle.internal_methods.specs.KeyList.{hasKey}
 use Rattle.internal_methods.proofs.Base.{frozenAs, isAbsent, at-base, Frozen, Shut, Lacking}
 use Rattle.internal_methods.proofs.Later.{frozen-lasts, shut-lasts, rooted-lasts, lacking-lasts}
 use Rattle.internal_methods.proofs.Reports.{Faithful, SamePrototype, frozen-learnt, frozen-told, lacking-learnt, lacking-told, rooted-learnt, rooted-told}
-use Rattle.steps.specs.Operation.{Operation}
+use Rattle.steps.specs.Operation.{Operation, asked}
+use Rattle.steps.specs.Sequence.{Ran}
 use Rattle.steps.specs.Perform.{Result, value, descriptor, absent, keys, ownResult}
 use Rattle.steps.specs.Response.{Effect, Response}
 use Rattle.steps.specs.Run.{Call, Event, At, effect, run, worldAt}
 use Rattle.demands.specs.Lasting.{Tells, ReportsFixed, ReportsNonExtensible, by-isExtensible, by-preventExtensions, ReportsAbsent, ShowsOwn, IsDataWith, StaysFixed, StaysNonExtensible, Lasting}
 use Rattle.demands.specs.Lasting
-use Rattle.steps.proofs.Steps.{ends, resulted}
+use Rattle.steps.proofs.Steps.{ends, Resulted, resulted}
 use Rattle.steps.proofs.Performed.{Says, boolean-is}
 use Rattle.steps.proofs.Places.{ran-said, grows-at, happened-from}
+
+-- what a run that came to a result says
+told : {ω : World} {bytes sheet : List ℕ} {x : Effect} {r : Result} (d : Resulted ω bytes sheet x r) → Says (ω .store) (asked bytes) r (d .store)
+told {ω} {bytes} {sheet} {r = r} d = subst (λ (σ : Store). Says (ω .store) (asked bytes) r σ) (ap (λ (x : Ran Result). x .1) (d .runs))
+    (ran-said ω bytes sheet .says r (d .rest) (ap (λ (x : Ran Result). x .0) (d .runs)))
 
 -- what an event that tells a result says of the worlds before and after it
 pub says-at : (calls : List Call) (i : ℕ) (e : Event) (asks : Operation) (r : Result) → At (run calls) i e → Tells e asks r
@@ -39,7 +45,7 @@ says-at calls i e asks r h t =
     let q = ap (λ (c : Call). effect ω c) (t .call) in
     let d = resulted r (ends ω (t .bytes) (t .sheet) (t .output)) (ap (λ (x : Effect). x .response .ending) (sym q) ∙ (ap (λ (x : Response). x .ending) (sym (p .response)) ∙ t .ending)) in
     let w : worldAt calls (suc i) .store ≡ d .store = ap (λ (x : World). x .store) (p .world ∙ (ap (λ (x : Effect). x .world) q ∙ d .world)) in
-    rw w (subst (λ (o : Operation). Says (ω .store) o r (d .store)) (t .operation) (ran-said ω (t .bytes) (t .sheet) _ _ (d .runs) .says))
+    rw w (subst (λ (o : Operation). Says (ω .store) o r (d .store)) (t .operation) (told d))
 
 -- Results as what methods give --------------------------------------------------------
 
@@ -144,7 +150,7 @@ module _ (calls : List Call) where
       let z : hasKey k ls ≡ true = ap (λ (x : List PropertyKey). hasKey k x) (sym (keys-is ks ls q)) ∙ n in
       false≢true (sym (ap not (b .1)) ∙ (sym (u .holds .shown (b .0) k) ∙ z))
 
-  stays-nonExtensible : (i : ℕ) (o : ℕ) → ((j : ℕ) → i < j → Shut (σ j) o) → StaysNonExtensible (run calls) i o
+  pub stays-nonExtensible : (i : ℕ) (o : ℕ) → ((j : ℕ) → i < j → Shut (σ j) o) → StaysNonExtensible (run calls) i o
   stays-nonExtensible i o shut = record {
     closed = λ j f l h t.
         let (x, q, u) = says-at calls j f _ _ h t in

@@ -3,3 +3,4 @@ pub mod LastingHolds
 pub mod Decided
 pub mod FurtherHold
 pub mod AcceptsHold
+pub mod IntegrityProved

@@ -1,4 +1,4 @@
--- Further lasting reports, beyond demand 3: what a true from a writing method says. Assumes nothing.
+-- Further lasting reports, beyond demand 3: what a true from a writing method and from steps 18 and 19 says. Assumes nothing.
 use Prim.Native.Nat.{ℕ, _<_}
 use mathlib.Core.Path.{_≡_}
 use mathlib.Core.Bool.{Bool, true, false}
@@ -9,10 +9,10 @@ use Rattle.value.specs.Value.{sameValue}
 use Rattle.property.specs.declared.Field.the-variants.{Present}
 use Rattle.property.specs.declared.PropertyDescriptor.{PropertyDescriptor}
 use Rattle.property.specs.Fields.{isFalse, valueField, writableField}
-use Rattle.steps.specs.Operation.{getPrototypeOf, setPrototypeOf, defineOwnProperty, set, delete}
+use Rattle.steps.specs.Operation.{Level, getPrototypeOf, setPrototypeOf, defineOwnProperty, set, delete, setIntegrityLevel, testIntegrityLevel}
 use Rattle.steps.specs.Perform.{value, boolean}
 use Rattle.steps.specs.Run.{Event, At}
-use Rattle.demands.specs.Lasting.{Tells, ReportsFixed, ReportsNonExtensible, ReportsAbsent, ShowsOwn, StaysFixed}
+use Rattle.demands.specs.Lasting.{Tells, ReportsFixed, ReportsNonExtensible, ReportsAbsent, ShowsOwn, StaysFixed, StaysNonExtensible}
 
 -- the descriptor has this value, and writable and configurable false
 pub record AsksFixed (d : PropertyDescriptor) (v : Value) : Type 0 where
@@ -35,3 +35,7 @@ pub record Further (events : List Event) : Type 0 where
   -- and no later [[DefineOwnProperty]] of an absent key answers true
   pub unadded : (i j l : ℕ) (e f g : Event) (o : ℕ) (k : PropertyKey) (d : PropertyDescriptor) → i < j → j < l → At events i e → At events j f → At events l g
       → ReportsNonExtensible o e → ReportsAbsent o k f → Tells g (defineOwnProperty o k d) (boolean true) → ⊥
+  -- a true from step 18 is a non-extensible report too
+  pub sealed : (i : ℕ) (e : Event) (o : ℕ) (level : Level) → At events i e → Tells e (setIntegrityLevel o level) (boolean true) → StaysNonExtensible events i o
+  -- and so is a true from step 19
+  pub tested : (i : ℕ) (e : Event) (o : ℕ) (level : Level) → At events i e → Tells e (testIntegrityLevel o level) (boolean true) → StaysNonExtensible events i o

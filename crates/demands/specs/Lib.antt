@@ -3,3 +3,4 @@ pub mod Lasting
 pub mod Refusals
 pub mod Further
 pub mod Accepts
+pub mod Integrity

@@ -15,7 +15,7 @@ use Rattle.internal_methods.specs.Monad.{Answer, throw, State, state, Out, fail
 use Rattle.internal_methods.specs.Readable.{Reading, isUnreadable}
 use Rattle.record.specs.Sheet.{sheetOf}
 use Rattle.record.specs.Tests.{firstFailing}
-use Rattle.steps.specs.Operation.{makesObject, asked}
+use Rattle.steps.specs.Operation.{Level, Operation, setIntegrityLevel, makesObject, asked}
 use Rattle.steps.specs.Perform.{Result, boolean, maximumCalls, perform}
 use Rattle.steps.specs.Response.{Ending, refused, result, typeError, thrown, Response, Effect}
 use Rattle.steps.specs.Step.{contextOf, recordTests, outputHolds, refusing, ran, runWith, callsMade, step}
@@ -29,30 +29,36 @@ pub data Refusal (ω : World) (bytes sheet output : List ℕ) : ℕ → Type 0 w
   crowded : firstFailing (recordTests ω bytes sheet) ≡ none → makesObject (asked bytes) ≡ true → maximumObjects ≤ length (ω .store .objects) → Refusal ω bytes sheet output 7
   -- 7: 256 properties are there, and with room for one more the same step ends in true, with one property more
   full : {τ : Store} {s : State} → firstFailing (recordTests ω bytes sheet) ≡ none → maximumProperties ≤ length (ω .store .properties)
-      → runWith ω bytes (suc (length (ω .store .properties))) (sheetOf sheet) maximumCalls ≡ done (boolean true, τ) s
+      → runWith ω bytes (suc (length (ω .store .properties))) (sheetOf sheet) maximumCalls ≡ (done (boolean true) s, τ)
       → length (τ .properties) ≡ suc (length (ω .store .properties)) → Refusal ω bytes sheet output 7
   -- 8: there is no next answer; all were taken
-  spent : {s : State} → firstFailing (recordTests ω bytes sheet) ≡ none → ran ω bytes sheet ≡ failed (Refused 8) s → s .answers ≡ [] → Refusal ω bytes sheet output 8
+  spent : {s : State} → firstFailing (recordTests ω bytes sheet) ≡ none → ran ω bytes sheet .0 ≡ failed (Refused 8) s → s .answers ≡ [] → Refusal ω bytes sheet output 8
   -- 9: the last answer taken cannot be read as what was asked for; with a throw in its place the same step ends in that throw, as many answers used
   unreadable : {rest : List Answer} {calls : ℕ} (used : List Answer) (a : Answer) (r : Reading) → firstFailing (recordTests ω bytes sheet) ≡ none → sheetOf sheet ≡ used ++ (a ∷ rest)
-      → isUnreadable r a ≡ true → ran ω bytes sheet ≡ failed (Refused 9) (state rest calls)
-      → ((v : Value) → runWith ω bytes maximumProperties (used ++ (throw v ∷ rest)) maximumCalls ≡ failed (Thrown v) (state rest calls)) → Refusal ω bytes sheet output 9
+      → isUnreadable r a ≡ true → ran ω bytes sheet .0 ≡ failed (Refused 9) (state rest calls)
+      → ((v : Value) → runWith ω bytes maximumProperties (used ++ (throw v ∷ rest)) maximumCalls .0 ≡ failed (Thrown v) (state rest calls)) → Refusal ω bytes sheet output 9
   -- 10: no call is left, and with any larger budget the same step makes more than 2,048
-  exhausted : firstFailing (recordTests ω bytes sheet) ≡ none → callsMade maximumCalls (ran ω bytes sheet) ≡ maximumCalls
-      → ((more : ℕ) → 0 < more → maximumCalls < callsMade (maximumCalls + more) (runWith ω bytes maximumProperties (sheetOf sheet) (maximumCalls + more))) → Refusal ω bytes sheet output 10
+  exhausted : firstFailing (recordTests ω bytes sheet) ≡ none → callsMade maximumCalls (ran ω bytes sheet .0) ≡ maximumCalls
+      → ((more : ℕ) → 0 < more → maximumCalls < callsMade (maximumCalls + more) (runWith ω bytes maximumProperties (sheetOf sheet) (maximumCalls + more) .0)) → Refusal ω bytes sheet output 10
   -- 11: the keys take 9 bytes each, and the output has fewer
-  short : {a : Result × Store} {s : State} → firstFailing (recordTests ω bytes sheet) ≡ none → ran ω bytes sheet ≡ done a s → outputHolds (a .0) output ≡ false → Refusal ω bytes sheet output 11
+  short : {r : Result} {s : State} → firstFailing (recordTests ω bytes sheet) ≡ none → ran ω bytes sheet .0 ≡ done r s → outputHolds r output ≡ false → Refusal ω bytes sheet output 11
 
--- a result, a TypeError by one of the 31 messages, or a throw
+-- a result, a TypeError by one of the 32 messages, or a throw
 pub data Accepted : Ending → Type 0 where
   by-result : (r : Result) → Accepted (result r)
-  by-typeError : (n : ℕ) → 1 ≤ n → n ≤ 31 → Accepted (typeError n)
+  by-typeError : (n : ℕ) → 1 ≤ n → n ≤ 32 → Accepted (typeError n)
   by-throw : (v : Value) → Accepted (thrown v)
 
--- only a result changes anything
-pub data Unless (e : Ending) (P : Type 0) : Type 0 where
-  is-result : (r : Result) → e ≡ result r → Unless e P
-  otherwise : P → Unless e P
+-- what changes the store: a result, or a TypeError or a throw of step 18, which wrote before it
+pub data MayWrite (asks : Operation) : Ending → Type 0 where
+  by-result : (r : Result) → MayWrite asks (result r)
+  by-typeError : {o : ℕ} {level : Level} (n : ℕ) → asks ≡ setIntegrityLevel o level → MayWrite asks (typeError n)
+  by-throw : {o : ℕ} {level : Level} (v : Value) → asks ≡ setIntegrityLevel o level → MayWrite asks (thrown v)
+
+-- unless the first is so, the second is
+pub data Unless (Q P : Type 0) : Type 0 where
+  is : Q → Unless Q P
+  otherwise : P → Unless Q P
 
 -- the first list is what is left of the second, once some from its front were taken
 pub record LeftOf (rest answers : List Answer) : Type 0 where
@@ -60,9 +66,9 @@ pub record LeftOf (rest answers : List Answer) : Type 0 where
   pub splits : taken ++ rest ≡ answers
 
 -- the answers left where a run ended
-abbrev pub leftIn : Out (Result × Store) → List Answer
+abbrev pub leftIn : Out Result → List Answer
 leftIn (failed f s) = s .answers
-leftIn (done a s) = s .answers
+leftIn (done r s) = s .answers
 
 -- what demand 1 says of one step
 pub record StepDecided (ω : World) (bytes sheet output : List ℕ) : Type 0 where
@@ -72,13 +78,15 @@ pub record StepDecided (ω : World) (bytes sheet output : List ℕ) : Type 0 whe
   pub accepts : ((n : ℕ) → Refusal ω bytes sheet output n → ⊥) → Accepted (step ω bytes sheet output .response .ending)
   -- a refusal reports zeros, and leaves store, strings and output
   pub untouched : (n : ℕ) → step ω bytes sheet output .response .ending ≡ refused n → step ω bytes sheet output ≡ refusing n ω output
-  -- a TypeError and a throw leave store, strings and output too
-  pub unchanged : Unless (step ω bytes sheet output .response .ending) ((step ω bytes sheet output .world ≡ ω) × (step ω bytes sheet output .output ≡ output))
+  -- only a result, or a TypeError or a throw of step 18, changes the store
+  pub unchanged : Unless (MayWrite (asked bytes) (step ω bytes sheet output .response .ending)) (step ω bytes sheet output .world ≡ ω)
+  -- only a result changes the output
+  pub unwritten : Unless ((r : Result) × (step ω bytes sheet output .response .ending ≡ result r)) (step ω bytes sheet output .output ≡ output)
   -- no step changes the strings
   pub strings : step ω bytes sheet output .world .strings ≡ ω .strings
   -- the sheet is spent only once all of it is read: with a longer one, whatever comes, all these answers are used
-  pub reads : {s : State} → ran ω bytes sheet ≡ failed (Refused 8) s → firstFailing (recordTests ω bytes sheet) ≡ none → (more : List Answer)
-      → LeftOf (leftIn (perform maximumCalls (contextOf ω) (asked bytes) .run (state (sheetOf sheet ++ more) maximumCalls))) more
+  pub reads : {s : State} → ran ω bytes sheet .0 ≡ failed (Refused 8) s → firstFailing (recordTests ω bytes sheet) ≡ none → (more : List Answer)
+      → LeftOf (leftIn (perform maximumCalls (contextOf ω) (asked bytes) .run (state (sheetOf sheet ++ more) maximumCalls) .0)) more
   -- the bound on depth never decides: the 2,048 calls do
   pub depth : firstFailing (recordTests ω bytes sheet) ≡ none → (n : ℕ) → maximumCalls ≤ n
       → perform n (contextOf ω) (asked bytes) .run (state (sheetOf sheet) maximumCalls) ≡ ran ω bytes sheet

@@ -17,6 +17,7 @@ use Rattle.demands.specs.Refusals.{StepDecided}
 use Rattle.demands.proofs.LastingHolds.{lasting}
 use Rattle.demands.proofs.FurtherHold.{further}
 use Rattle.demands.proofs.Decided.{step-decided, entry-decided}
+use Rattle.demands.proofs.IntegrityProved.{integrity-holds}
 use Rattle.steps.proofs.Outputs.{output-is}
 use Rattle.reporting.specs.Seen.{responseSeen}
 use Rattle.reporting.specs.Memory.{Shown, isMemory}
@@ -92,4 +93,5 @@ kept m n cs rs outs h s t ds =
       further = subst Further (sym seen) (further cs);
       decided = λ bytes sheet output. subst (λ (ω : World). StepDecided ω bytes sheet output) (sym (f .after ∙ ap (λ (ω : World). worldFrom ω cs (length cs)) z)) (step-decided cs (length cs) bytes sheet output);
       entry-decided = λ units. entry-decided (world n) units;
+      integrity = λ bytes sheet output. integrity-holds (world n) bytes sheet output;
     }

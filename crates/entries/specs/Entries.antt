@@ -10,6 +10,7 @@ use Rattle.steps.specs.Run as call
 use Rattle.demands.specs.Lasting.{Lasting}
 use Rattle.demands.specs.Further.{Further}
 use Rattle.demands.specs.Refusals.{StepDecided, EntryDecided}
+use Rattle.demands.specs.Integrity.{IntegrityHolds}
 use Rattle.store.specs.Words.{worldOf}
 use Rattle.reporting.specs.Seen.{responseSeen}
 use Rattle.reporting.specs.Memory.{Stepped, StringEntered}
@@ -59,3 +60,4 @@ pub record Kept (calls : List Call) (reports : List Report) (outputs : List (Lis
   pub further : Further (eventsSeen calls reports outputs)
   pub decided : (bytes sheet output : List ℕ) → StepDecided (worldOf (m .words) (m .cells)) bytes sheet output  -- demand 1, of the step that comes next
   pub entry-decided : (units : List ℕ) → EntryDecided (worldOf (m .words) (m .cells)) units  -- and of the string
+  pub integrity : (bytes sheet output : List ℕ) → IntegrityHolds (worldOf (m .words) (m .cells)) bytes sheet output  -- of steps 18 and 19 that come next

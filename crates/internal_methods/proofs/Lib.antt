@@ -13,6 +13,7 @@ pub mod Reader
 pub mod OrdinaryRuns
 pub mod TableHolds
 pub mod Room
+pub mod NonExtensible
 pub mod Richer
 pub mod StoreClosed
 pub mod Budget

@@ -133,7 +133,7 @@ same-revoked true = same-fails _ refl
 same-revoked false = same-pure tt tt
 
 module _ {A : Type 0} {Q : A → Type 0} where
-  same-dispatch : {f f′ : OrdinaryObject → M A} {g g′ : ProxyObject → M A} (σ : Store) (o : ℕ) → ((r : OrdinaryObject) → lookup σ o ≡ some (Ordinary r) → Same Q (f r) (f′ r))
+  pub same-dispatch : {f f′ : OrdinaryObject → M A} {g g′ : ProxyObject → M A} (σ : Store) (o : ℕ) → ((r : OrdinaryObject) → lookup σ o ≡ some (Ordinary r) → Same Q (f r) (f′ r))
       → ((p : ProxyObject) → lookup σ o ≡ some (Proxy p) → Same Q (g p) (g′ p)) → Same Q (dispatch σ o f g) (dispatch σ o f′ g′)
   unfolding dispatch dispatched
   same-dispatch {f} {f′} {g} {g′} σ o hf hg = same-bind same-tick (λ _ _. go (lookup σ o) refl)
@@ -171,7 +171,7 @@ replaced [] o k p q e = absurd (false≢true cc)
 replaced (x ∷ es) o k p q e = at-most (isAt x o k) _ _ _ (λ _. le-refl _)
     (λ f. suc-le-suc (replaced es o k p q (sym (ap (λ (b : Bool). cond b (Present (x .property)) (find es o k)) f) ∙ e)))
 
-keeps : (σ : Store) (o : ℕ) (k : PropertyKey) (p q : Property) → own σ o k ≡ Present q → length (withProperty σ o k p .properties) ≤ length (σ .properties)
+pub keeps : (σ : Store) (o : ℕ) (k : PropertyKey) (p q : Property) → own σ o k ≡ Present q → length (withProperty σ o k p .properties) ≤ length (σ .properties)
 unfolding own withProperty
 keeps σ o k p q e = replaced (σ .properties) o k p q e
 

@@ -46,8 +46,9 @@ texts =
     ∷ "Property descriptor must not mix accessor and data fields"
     ∷ "Property key list has an element that is neither string nor symbol"
     ∷ "Property key list is not an object"
+    ∷ "Property definition was rejected"
     ∷ []
 
--- the text of message n, for n from 1 to 31; of any other number it is empty
+-- the text of message n, for n from 1 to 32; of any other number it is empty
 unfoldable pub messageText : ℕ → List ℕ
 messageText n = codes (getD texts n "")

@@ -49,20 +49,20 @@ rows = rowsOf texts
 abbrev pub lengths : List ℕ
 lengths = lengthsOf texts
 
-pub length-right : (n : ℕ) → n < 32 → getD lengths n 0 ≡ length (messageText n)
+pub length-right : (n : ℕ) → n < 33 → getD lengths n 0 ≡ length (messageText n)
 unfolding messageText
 length-right n h = length-of texts n h
 
-pub byte-right : (n i : ℕ) (d : List ℕ) → n < 32 → i < 90 → getD (getD rows n d) i 0 ≡ getD (messageText n) i 0
+pub byte-right : (n i : ℕ) (d : List ℕ) → n < 33 → i < 90 → getD (getD rows n d) i 0 ≡ getD (messageText n) i 0
 unfolding messageText
 byte-right n i d h l = ap (λ (r : List ℕ). getD r i 0) (row-of texts n d h) ∙ padded-get 90 (codes (getD texts n "")) i l
 
 -- there are no other texts
-pub no-text : (n : ℕ) → 32 ≤ n → messageText n ≡ []
+pub no-text : (n : ℕ) → 33 ≤ n → messageText n ≡ []
 unfolding messageText codes
 no-text n h = ap codes (List·getD-eq-default texts "" h)
 
-pub no-byte : (n : ℕ) → 32 ≤ n → (i : ℕ) → getD (messageText n) i 0 ≡ 0
+pub no-byte : (n : ℕ) → 33 ≤ n → (i : ℕ) → getD (messageText n) i 0 ≡ 0
 no-byte n h i = ap (λ (l : List ℕ). getD l i 0) (no-text n h)
 
 -- and none is longer than a row

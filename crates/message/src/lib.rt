@@ -6,7 +6,7 @@ ghost use Rattle.internal_methods.specs.Messages.{messageText};
 
 pub mod writing;
 
-const LENGTHS: [u8; 32] = [
+const LENGTHS: [u8; 33] = [
     0,
     41,
     44,
@@ -39,9 +39,10 @@ const LENGTHS: [u8; 32] = [
     57,
     66,
     34,
+    32,
 ];
 
-const ROWS: [[u8; 90]; 32] = [
+const ROWS: [[u8; 90]; 33] = [
     *b"\0\0\0\0\0\0\0\0\0\0\0\0\0\0\0\0\0\0\0\0\0\0\0\0\0\0\0\0\0\0\0\0\0\0\0\0\0\0\0\0\0\0\0\0\0\0\0\0\0\0\0\0\0\0\0\0\0\0\0\0\0\0\0\0\0\0\0\0\0\0\0\0\0\0\0\0\0\0\0\0\0\0\0\0\0\0\0\0\0\0",
     *b"Proxy object has empty handler and target\0\0\0\0\0\0\0\0\0\0\0\0\0\0\0\0\0\0\0\0\0\0\0\0\0\0\0\0\0\0\0\0\0\0\0\0\0\0\0\0\0\0\0\0\0\0\0\0\0",
     *b"Proxy trap result is neither object nor null\0\0\0\0\0\0\0\0\0\0\0\0\0\0\0\0\0\0\0\0\0\0\0\0\0\0\0\0\0\0\0\0\0\0\0\0\0\0\0\0\0\0\0\0\0\0",
@@ -74,13 +75,14 @@ const ROWS: [[u8; 90]; 32] = [
     *b"Property descriptor must not mix accessor and data fields\0\0\0\0\0\0\0\0\0\0\0\0\0\0\0\0\0\0\0\0\0\0\0\0\0\0\0\0\0\0\0\0\0",
     *b"Property key list has an element that is neither string nor symbol\0\0\0\0\0\0\0\0\0\0\0\0\0\0\0\0\0\0\0\0\0\0\0\0",
     *b"Property key list is not an object\0\0\0\0\0\0\0\0\0\0\0\0\0\0\0\0\0\0\0\0\0\0\0\0\0\0\0\0\0\0\0\0\0\0\0\0\0\0\0\0\0\0\0\0\0\0\0\0\0\0\0\0\0\0\0\0",
+    *b"Property definition was rejected\0\0\0\0\0\0\0\0\0\0\0\0\0\0\0\0\0\0\0\0\0\0\0\0\0\0\0\0\0\0\0\0\0\0\0\0\0\0\0\0\0\0\0\0\0\0\0\0\0\0\0\0\0\0\0\0\0\0",
 ];
 
 // How long the text of message n is; 0 where there is no such message.
 pub fn message_length(n: u64) -> u8
     ensures { λ r. ⌜ r ≡ length (messageText n) ⌝ }
 {
-    if n < 32 {
+    if n < 33 {
         let row = n as usize;
         LENGTHS[row]
     } else {
@@ -92,7 +94,7 @@ pub fn message_length(n: u64) -> u8
 pub fn message_byte(n: u64, i: usize) -> u8
     ensures { λ r. ⌜ r ≡ getD (messageText n) i 0 ⌝ }
 {
-    if n < 32 {
+    if n < 33 {
         if i < 90 {
             let row = n as usize;
             return ROWS[row][i];

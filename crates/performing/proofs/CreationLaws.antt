@@ -25,8 +25,9 @@ use Rattle.internal_methods.specs.Monad.{done, pure, fails, if_then_else_}
 use Rattle.internal_methods.specs.Methods.{Context}
 use Rattle.calls.specs.declared.Progress.{Progress}
 use Rattle.calls.specs.Outs.{stateOf}
-use Rattle.steps.specs.Operation.{makeObject, makeProxy, revoke, maskNumber, maskOf}
-use Rattle.steps.specs.Perform.{make, perform, boolean, revoked}
+use Rattle.steps.specs.Operation.{makeObject, makeProxy, revoke, naturalNumber, naturalOf}
+use Rattle.steps.specs.Sequence.{written}
+use Rattle.steps.specs.Perform.{once, make, perform, boolean, revoked}
 use Rattle.steps.specs.Perform as result
 use Rattle.steps.specs.declared.Completion.the-variants as completion
 use Rattle.store_write.specs.declared.write.Write.the-variants as write
@@ -41,13 +42,13 @@ use Rattle.store_read.proofs.ReadLaws.{lookup-below}
 module _ (sheet : List ℕ) (s : Progress) where
   making : (σ : Store) (x : Object) (b : Bool)
       → outPerformed sheet σ (cond b (Done (completion.Value (value.Object (length (σ .objects)))) (write.NewObject x) s) (Failed (Refused 7) s))
-      ≡ (if b then pure (result.value (value.Object (length (σ .objects))), add σ x) else fails (Refused 7)) .run (stateOf sheet s)
+      ≡ written σ ((if b then pure (result.value (value.Object (length (σ .objects))), add σ x) else fails (Refused 7)) .run (stateOf sheet s))
   unfolding pure fails if_then_else_
   making σ x true = refl
   making σ x false = refl
 
-  made : (σ : Store) (x : Object) → outPerformed sheet σ (makeOut σ x s) ≡ make σ x .run (stateOf sheet s)
-  unfolding makeOut make
+  made : (σ : Store) (x : Object) → outPerformed sheet σ (makeOut σ x s) ≡ once σ (make σ x) .run (stateOf sheet s)
+  unfolding makeOut once make
   made σ x = making σ x (ltb (length (σ .objects)) maximumObjects)
 
   module _ (depth : ℕ) (c : Context) where
@@ -55,51 +56,51 @@ module _ (sheet : List ℕ) (s : Progress) where
     unfolding perform
     object-made v = made (c .store) _
 
-    pub proxy-made : (o : ℕ) (mask : Value) → outPerformed sheet (c .store) (makeProxyOut (c .store) o mask s) ≡ perform depth c (makeProxy o (maskOf mask)) .run (stateOf sheet s)
+    pub proxy-made : (o : ℕ) (mask : Value) → outPerformed sheet (c .store) (makeProxyOut (c .store) o mask s) ≡ perform depth c (makeProxy o (naturalOf mask)) .run (stateOf sheet s)
     unfolding perform
     proxy-made o mask = made (c .store) _
 
-    revoking : (o : ℕ) (x : Option Object) → outPerformed sheet (c .store) (revokeOut o x s) ≡ done (boolean true, revoked (c .store) o x) (stateOf sheet s)
+    revoking : (o : ℕ) (x : Option Object) → outPerformed sheet (c .store) (revokeOut o x s) ≡ (done (boolean true) (stateOf sheet s), revoked (c .store) o x)
     revoking o none = refl
     revoking o (some (Ordinary r)) = refl
     revoking o (some (Proxy p)) = refl
 
     pub proxy-revoked : (o : ℕ) → outPerformed sheet (c .store) (revokeOut o (lookup (c .store) o) s) ≡ perform depth c (revoke o) .run (stateOf sheet s)
-    unfolding perform pure
+    unfolding perform once pure
     proxy-revoked o = revoking o (lookup (c .store) o)
 
--- trap masks that are signed numbers
-negative : (z : ℤ) → ltZ z (pos 0) ≡ true → 0 ≡ maskNumber z
+-- trap masks and integrity levels that are signed numbers
+negative : (z : ℤ) → ltZ z (pos 0) ≡ true → 0 ≡ naturalNumber z
 negative (pos n) e = absurd (omega (arith, ltb-true n 0 e))
 negative (negsuc k) e = refl
 
-natural : (z : ℤ) → ltZ z (pos 0) ≡ false → natAbs z ≡ maskNumber z
+natural : (z : ℤ) → ltZ z (pos 0) ≡ false → natAbs z ≡ naturalNumber z
 natural (pos n) e = refl
 natural (negsuc k) e = cc
 
-pub negative-mask : (z : ℤ) → SFits w32 z → ltZ (toZ w32 (ofZ w32 z)) (pos 0) ≡ true → 0 ≡ maskNumber z
-negative-mask z s e = negative z (rw (toZ-ofZ w32 z s) at e)
+pub negative-number : (z : ℤ) → SFits w32 z → ltZ (toZ w32 (ofZ w32 z)) (pos 0) ≡ true → 0 ≡ naturalNumber z
+negative-number z s e = negative z (rw (toZ-ofZ w32 z s) at e)
 
-pub natural-mask : (z : ℤ) → SFits w32 z → ltZ (toZ w32 (ofZ w32 z)) (pos 0) ≡ false → natAbs (toZ w32 (ofZ w32 z)) ≡ maskNumber z
-natural-mask z s e = rw (toZ-ofZ w32 z s) (natural z (rw (toZ-ofZ w32 z s) at e))
+pub positive-number : (z : ℤ) → SFits w32 z → ltZ (toZ w32 (ofZ w32 z)) (pos 0) ≡ false → natAbs (toZ w32 (ofZ w32 z)) ≡ naturalNumber z
+positive-number z s e = rw (toZ-ofZ w32 z s) (natural z (rw (toZ-ofZ w32 z s) at e))
 
 natural-fits : (z : ℤ) → ltZ z (pos 0) ≡ false → SFits w32 z → T (nonNeg z) × Fits w64 (natAbs z)
 natural-fits (pos n) e f = (tt, record { fits = omega (arith, f .sfits) })
 natural-fits (negsuc k) e f = let y : _≡_ {A = ℕ} 0 1 = cc in absurd (omega arith)
 
-pub mask-fits : (z : ℤ) → SFits w32 z → ltZ (toZ w32 (ofZ w32 z)) (pos 0) ≡ false → T (nonNeg (toZ w32 (ofZ w32 z))) × Fits w64 (natAbs (toZ w32 (ofZ w32 z)))
-mask-fits z s e = rw (toZ-ofZ w32 z s) (natural-fits z (rw (toZ-ofZ w32 z s) at e) s)
+pub number-fits : (z : ℤ) → SFits w32 z → ltZ (toZ w32 (ofZ w32 z)) (pos 0) ≡ false → T (nonNeg (toZ w32 (ofZ w32 z))) × Fits w64 (natAbs (toZ w32 (ofZ w32 z)))
+number-fits z s e = rw (toZ-ofZ w32 z s) (natural-fits z (rw (toZ-ofZ w32 z s) at e) s)
 
-pub no-mask : (v : Value) → OneOf (0 ∷ 1 ∷ 2 ∷ 4 ∷ 5 ∷ 6 ∷ 7 ∷ 8 ∷ []) (tagOf the-type v) → 0 ≡ maskOf v
-no-mask value.Undefined h = refl
-no-mask value.Null h = refl
-no-mask (value.Boolean b) h = refl
-no-mask (value.Integer32 n) h = absurd (miss (0 ∷ 1 ∷ 2 ∷ 4 ∷ 5 ∷ 6 ∷ 7 ∷ 8 ∷ []) 3 tt h)
-no-mask (value.Float64 x) h = refl
-no-mask (value.String s) h = refl
-no-mask (value.Symbol s) h = refl
-no-mask (value.Object o) h = refl
-no-mask (value.Function f) h = refl
+pub no-number : (v : Value) → OneOf (0 ∷ 1 ∷ 2 ∷ 4 ∷ 5 ∷ 6 ∷ 7 ∷ 8 ∷ []) (tagOf the-type v) → 0 ≡ naturalOf v
+no-number value.Undefined h = refl
+no-number value.Null h = refl
+no-number (value.Boolean b) h = refl
+no-number (value.Integer32 n) h = absurd (miss (0 ∷ 1 ∷ 2 ∷ 4 ∷ 5 ∷ 6 ∷ 7 ∷ 8 ∷ []) 3 tt h)
+no-number (value.Float64 x) h = refl
+no-number (value.String s) h = refl
+no-number (value.Symbol s) h = refl
+no-number (value.Object o) h = refl
+no-number (value.Function f) h = refl
 
 pub revocation-fits : (words : List ℕ) (o : ℕ) (x : Object) → isStore words ≡ true → lookup (storeOf words) o ≡ some x → fitsIn (revocation o x) words
 revocation-fits words o (Ordinary r) s e = record { store = s; bounds = tt }

@@ -3,3 +3,4 @@ pub mod WritingLaws
 pub mod ListingLaws
 pub mod FitLaws
 pub mod CreationLaws
+pub mod LevelLaws

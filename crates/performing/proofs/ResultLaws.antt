@@ -28,7 +28,7 @@ use Rattle.calls.specs.declared.OwnPropertyOut.the-variants as own
 use Rattle.calls.specs.declared.WriteOut.{WriteOut}
 use Rattle.calls.specs.declared.WriteOut.the-variants as write
 use Rattle.calls.specs.Outs.{stateOf, outValue, outBoolean, outOwnProperty, outWrite, Fitting}
-use Rattle.steps.specs.Perform.{reading, writing, ownResult}
+use Rattle.steps.specs.Perform.{once, reading, writing, ownResult}
 use Rattle.steps.specs.Perform as result
 use Rattle.steps.specs.declared.Report.{Report}
 use Rattle.steps.specs.Step.{ended}
@@ -41,28 +41,28 @@ use Rattle.performing.specs.Results.{isReading, valueResult, booleanResu
 -- the report of an operation that writes nothing shows its end
 module _ (words cells sheet : List ℕ) (s : State) (r : Report) where
   pub value-told : (m : M Value) (out : ValueOut) → outValue sheet out ≡ m .run s → r ≡ performedReport sheet (valueResult out)
-      → (output : List ℕ) → shown r words cells output ≡ shownBy (ended (worldOf words cells) (sheetOf sheet) output (reading (storeOf words) result.value m .run s))
-  unfolding pure next _>>=_
+      → (output : List ℕ) → shown r words cells output ≡ shownBy (ended (worldOf words cells) (sheetOf sheet) output (once (storeOf words) (reading (storeOf words) result.value m) .run s))
+  unfolding once pure next _>>=_
   value-told m (value.Failed f t) e q output = rw (sym e, q) (sym (failing words cells sheet output f (stateOf sheet t)))
   value-told m (value.Done v t) e q output = rw (sym e, q)
 
   pub boolean-told : (m : M Bool) (out : BooleanOut) → outBoolean sheet out ≡ m .run s → r ≡ performedReport sheet (booleanResult out)
-      → (output : List ℕ) → shown r words cells output ≡ shownBy (ended (worldOf words cells) (sheetOf sheet) output (reading (storeOf words) result.boolean m .run s))
-  unfolding pure next _>>=_
+      → (output : List ℕ) → shown r words cells output ≡ shownBy (ended (worldOf words cells) (sheetOf sheet) output (once (storeOf words) (reading (storeOf words) result.boolean m) .run s))
+  unfolding once pure next _>>=_
   boolean-told m (boolean.Failed f t) e q output = rw (sym e, q) (sym (failing words cells sheet output f (stateOf sheet t)))
   boolean-told m (boolean.Done b t) e q output = rw (sym e, q)
 
   pub own-told : (m : M OwnProperty) (out : OwnPropertyOut) → outOwnProperty sheet out ≡ m .run s → r ≡ performedReport sheet (ownPropertyResult out)
-      → (output : List ℕ) → shown r words cells output ≡ shownBy (ended (worldOf words cells) (sheetOf sheet) output (reading (storeOf words) ownResult m .run s))
-  unfolding pure next _>>=_
+      → (output : List ℕ) → shown r words cells output ≡ shownBy (ended (worldOf words cells) (sheetOf sheet) output (once (storeOf words) (reading (storeOf words) ownResult m) .run s))
+  unfolding once pure next _>>=_
   own-told m (own.Failed f t) e q output = rw (sym e, q) (sym (failing words cells sheet output f (stateOf sheet t)))
   own-told m (own.Done Absent t) e q output = rw (sym e, q)
   own-told m (own.Done (Present p) t) e q output = rw (sym e, q)
 
 -- what an operation that may write leaves to be reported
 module _ (words sheet : List ℕ) (s : State) where
-  pub write-told : (m : M (Bool × Store)) (out : WriteOut) → outWrite sheet (storeOf words) out ≡ m .run s → outPerformed sheet (storeOf words) (writeResult out) ≡ writing m .run s
-  unfolding pure next _>>=_
+  pub write-told : (m : M (Bool × Store)) (out : WriteOut) → outWrite sheet (storeOf words) out ≡ m .run s → outPerformed sheet (storeOf words) (writeResult out) ≡ once (storeOf words) (writing m) .run s
+  unfolding once pure next _>>=_
   write-told m (write.Failed f t) e = rw (sym e)
   write-told m (write.Done b w t) e = rw (sym e)
 

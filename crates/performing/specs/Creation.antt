@@ -14,7 +14,7 @@ use Rattle.store_write.specs.declared.write.Write.the-variants as write
 use Rattle.internal_methods.specs.declared.Failure.the-variants.{Refused}
 use Rattle.calls.specs.declared.Progress.{Progress}
 use Rattle.steps.specs.declared.Completion.the-variants as completion
-use Rattle.steps.specs.Operation.{maskOf}
+use Rattle.steps.specs.Operation.{naturalOf}
 use Rattle.reporting.specs.declared.Performed.{Performed}
 use Rattle.reporting.specs.declared.Performed.the-variants.{Failed, Done}
 
@@ -25,7 +25,7 @@ abbrev pub makeObjectOut : Store → Value → Progress → Performed
 makeObjectOut σ v s = makeOut σ (Ordinary (record { prototype = v; extensible = true })) s
 
 abbrev pub makeProxyOut : Store → ℕ → Value → Progress → Performed
-makeProxyOut σ o mask s = makeOut σ (Proxy (record { target = o; traps = maskOf mask; revoked = false })) s
+makeProxyOut σ o mask s = makeOut σ (Proxy (record { target = o; traps = naturalOf mask; revoked = false })) s
 
 abbrev pub revocation : ℕ → Object → Write
 revocation o (Ordinary r) = write.Nothing

@@ -13,7 +13,7 @@ ghost use mathlib.Core.Path.{_≡_};
 ghost use mathlib.Core.Bool.{true};
 ghost use Rattle.store.specs.Store.{lookup};
 ghost use Rattle.store.specs.Words.{isStore, storeOf};
-ghost use Rattle.steps.specs.Operation.{maskNumber, maskOf};
+ghost use Rattle.steps.specs.Operation.{naturalNumber, naturalOf};
 ghost use Rattle.reporting.specs.Performed.{Taken};
 ghost use Rattle.performing.specs.Creation.{makeOut, makeObjectOut, makeProxyOut, revokeOut, revocation};
 
@@ -48,8 +48,8 @@ pub fn make_object(words: &[u64], prototype: Value, s: Progress) -> Performed
     make(words, Object::Ordinary(object), s)
 }
 
-fn mask_number(n: i32) -> u64
-    ensures { λ r. ⌜ r ≡ maskNumber n ⌝ }
+fn natural_number(n: i32) -> u64
+    ensures { λ r. ⌜ r ≡ naturalNumber n ⌝ }
 {
     if n < 0 {
         return 0;
@@ -57,12 +57,12 @@ fn mask_number(n: i32) -> u64
     n as u64
 }
 
-// The trap mask that a value is.
-fn mask_of(v: Value) -> u64
-    ensures { λ r. ⌜ r ≡ maskOf v ⌝ }
+// The natural number that a value is: a trap mask, or an integrity level.
+pub fn natural_of(v: Value) -> u64
+    ensures { λ r. ⌜ r ≡ naturalOf v ⌝ }
 {
     match v {
-        Value::Integer32(n) => mask_number(n),
+        Value::Integer32(n) => natural_number(n),
         _ => 0,
     }
 }
@@ -75,7 +75,7 @@ pub fn make_proxy(words: &[u64], target: u64, mask: Value, s: Progress) -> Perfo
 {
     let proxy = ProxyObject {
         target,
-        traps: mask_of(mask),
+        traps: natural_of(mask),
         revoked: false,
     };
     make(words, Object::Proxy(proxy), s)

@@ -1,5 +1,5 @@
-// What a step asks for, done: the operation of each code but [[OwnPropertyKeys]], with the one write that it makes.
-// creation: codes 1 to 3. reads: 4, 6, 8, 10 and 11. writes: 5, 7, 9, 12 and 13. listing: 14, with its output.
+// What a step asks for, done: the operation of each code, with its one write or, in levels, with many.
+// creation: codes 1 to 3. reads: 4, 6, 8, 10 and 11. writes: 5, 7, 9, 12 and 13. listing: 14, with its output. levels: 18 and 19.
 use byte_records::value_record;
 use calls::Progress;
 use reporting::Performed;
@@ -17,6 +17,7 @@ ghost use Rattle.reporting.specs.Performed.{Taken, outPerformed};
 ghost use Rattle.performing.specs.Results.{Performable, isReading};
 
 mod creation;
+pub mod levels;
 pub mod listing;
 pub mod reads;
 mod writes;

@@ -38,7 +38,7 @@ fn write_out(
     output: &mut [u8],
 ) -> Report
     requires { ⌜ Readable (now words) (now strings) × ((isSheet (now sheet) ≡ true) × (Loadable (now sheet) found × (256 ≤ length (now keys)))) ⌝ }
-    ensures { λ r. ⌜ shown r (now (words .entry)) (now (strings .entry)) (now (output .exit)) ≡ shownBy (ended (worldOf (now (words .entry)) (now (strings .entry))) (sheetOf (now (sheet .entry))) (now (output .entry)) (done (result.keys (listedKeys (now (sheet .entry)) (stringsOf (now (strings .entry))) (storeOf (now (words .entry))) found), storeOf (now (words .entry))) (stateOf (now (sheet .entry)) s))) ⌝ }
+    ensures { λ r. ⌜ shown r (now (words .entry)) (now (strings .entry)) (now (output .exit)) ≡ shownBy (ended (worldOf (now (words .entry)) (now (strings .entry))) (sheetOf (now (sheet .entry))) (now (output .entry)) (done (result.keys (listedKeys (now (sheet .entry)) (stringsOf (now (strings .entry))) (storeOf (now (words .entry))) found)) (stateOf (now (sheet .entry)) s), storeOf (now (words .entry)))) ⌝ }
 {
     let n = loading::load_list(words, strings, sheet, found, keys);
     if 9 * n <= output.len() {

@@ -41,7 +41,7 @@ fn value_result(sheet: &[u8], out: ValueOut) -> Report
     }
 }
 
-fn boolean_result(sheet: &[u8], out: BooleanOut) -> Report
+pub fn boolean_result(sheet: &[u8], out: BooleanOut) -> Report
     requires { ⌜ isSheet (now sheet) ≡ true ⌝ }
     ensures { λ r. ⌜ r ≡ performedReport (now (sheet .entry)) (booleanResult out) ⌝ }
 {

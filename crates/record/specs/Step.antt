@@ -41,8 +41,11 @@ usesPrototype code = eqb code 1 || eqb code 5
 abbrev pub usesMask : ℕ → Bool
 usesMask code = eqb code 2
 
+abbrev pub usesLevel : ℕ → Bool
+usesLevel code = eqb code 18 || eqb code 19
+
 abbrev pub usesValue : ℕ → Bool
-usesValue code = usesPrototype code || (usesMask code || eqb code 12)
+usesValue code = usesPrototype code || (usesMask code || (usesLevel code || eqb code 12))
 
 abbrev pub usesReceiver : ℕ → Bool
 usesReceiver code = eqb code 11 || eqb code 12
@@ -50,24 +53,24 @@ usesReceiver code = eqb code 11 || eqb code 12
 abbrev pub usesDescriptor : ℕ → Bool
 usesDescriptor code = eqb code 9
 
--- a trap mask that is an Integer32 is 0 to 2047
-unfoldable pub isMaskIfInteger32 : Value → Bool
-isMaskIfInteger32 Undefined = true
-isMaskIfInteger32 Null = true
-isMaskIfInteger32 (Boolean b) = true
-isMaskIfInteger32 (Integer32 (pos n)) = leb n 2047
-isMaskIfInteger32 (Integer32 (negsuc n)) = false
-isMaskIfInteger32 (Float64 x) = true
-isMaskIfInteger32 (String s) = true
-isMaskIfInteger32 (Symbol s) = true
-isMaskIfInteger32 (Object o) = true
-isMaskIfInteger32 (Function f) = true
+-- a value that is an Integer32 is 0 to `most`
+unfoldable pub isAtMostIfInteger32 : ℕ → Value → Bool
+isAtMostIfInteger32 most Undefined = true
+isAtMostIfInteger32 most Null = true
+isAtMostIfInteger32 most (Boolean b) = true
+isAtMostIfInteger32 most (Integer32 (pos n)) = leb n most
+isAtMostIfInteger32 most (Integer32 (negsuc n)) = false
+isAtMostIfInteger32 most (Float64 x) = true
+isAtMostIfInteger32 most (String s) = true
+isAtMostIfInteger32 most (Symbol s) = true
+isAtMostIfInteger32 most (Object o) = true
+isAtMostIfInteger32 most (Function f) = true
 
 abbrev pub unless : Bool → Bool → Bool
 unless used test = not used || test
 
 abbrev pub isCode : ℕ → Bool
-isCode code = leb 1 code && leb code 14
+isCode code = (leb 1 code && leb code 14) || usesLevel code
 
 -- the object, the values and the descriptor, each zero where the code does not use it
 abbrev pub isObjectFormed : ℕ → ℕ → Bool
@@ -79,8 +82,13 @@ areValuesFormed code bytes = isPartAt (usesKey code) bytes 2 && (isPartAt (usesV
 abbrev pub isDescriptorFormed : ℕ → List ℕ → Bool
 isDescriptorFormed code bytes = cond (usesDescriptor code) (isDescriptorAt bytes 29) (areZero bytes 29 descriptorSize)
 
+-- a trap mask is 0 to 2047
 abbrev pub isMaskFormed : ℕ → List ℕ → Bool
-isMaskFormed code bytes = unless (usesMask code) (isMaskIfInteger32 (valueAt bytes 11))
+isMaskFormed code bytes = unless (usesMask code) (isAtMostIfInteger32 2047 (valueAt bytes 11))
+
+-- an integrity level is 0, sealed, or 1, frozen
+abbrev pub isLevelFormed : ℕ → List ℕ → Bool
+isLevelFormed code bytes = unless (usesLevel code) (isAtMostIfInteger32 1 (valueAt bytes 11))
 
 -- refusal 1 over the step
 unfoldable pub isStep : List ℕ → Bool
@@ -90,7 +98,8 @@ isStep bytes =
     && (isObjectFormed (byteAt bytes 0) (byteAt bytes 1)
     && (areValuesFormed (byteAt bytes 0) bytes
     && (isDescriptorFormed (byteAt bytes 0) bytes
-    && isMaskFormed (byteAt bytes 0) bytes))))
+    && (isMaskFormed (byteAt bytes 0) bytes
+    && isLevelFormed (byteAt bytes 0) bytes)))))
 
 -- the values of a step pass a test
 abbrev pub stepPasses : (Value → Bool) → Step → Bool
@@ -117,6 +126,9 @@ isPrototypeUsable s = unless (usesPrototype (s .code)) (isNullOrObject (s .value
 abbrev pub isMaskUsable : Step → Bool
 isMaskUsable s = unless (usesMask (s .code)) (eqb (kindOf (s .value)) 3)
 
+abbrev pub isLevelUsable : Step → Bool
+isLevelUsable s = unless (usesLevel (s .code)) (eqb (kindOf (s .value)) 3)
+
 -- `proxy` says whether the step's object is one
 abbrev pub isObjectUsable : Bool → Step → Bool
 isObjectUsable proxy s = unless (eqb (s .code) 3) proxy
@@ -128,7 +140,7 @@ isReceiverUsable s = unless (usesReceiver (s .code)) (not (eqb (kindOf (s .recei
 unfoldable pub areKindsUsable : Bool → Counts → Step → Bool
 areKindsUsable proxy n s =
     stepPasses (isKnown n) s
-    && (isKeyUsable s && (isPrototypeUsable s && (isMaskUsable s && (isObjectUsable proxy s && isReceiverUsable s))))
+    && (isKeyUsable s && (isPrototypeUsable s && (isMaskUsable s && (isLevelUsable s && (isObjectUsable proxy s && isReceiverUsable s)))))
 
 -- the 58 bytes of a step
 unfoldable pub stepBytes : Step → List ℕ

@@ -45,9 +45,9 @@ fn eighth(n: u64) -> usize
     (n / 8 % 4) as usize
 }
 
-// Whether number n is one of those that would be right; above 31 it is none.
+// Whether number n is one of those that would be right; bit 0 is that of 32, and above 32 it is none.
 fn is_right(expected: &[u8], n: u64) -> bool {
-    if n < 32 {
+    if n < 33 {
         return byte_at(expected, 1 + eighth(n)) / power(n % 8) % 2 == 1;
     }
     false

@@ -4,21 +4,21 @@ ghost use Prim.Native.Nat.{_<_, _≤_};
 
 // Where each is counted: messages by their numbers, those that the engine's text tells alone, refusals, kinds of call, outcomes,
 // and how many calls, lines and differences there are.
-const TOLD: u64 = 32;
+const TOLD: u64 = 40;
 
-const REFUSALS: u64 = 64;
+const REFUSALS: u64 = 80;
 
-const KINDS: u64 = 80;
+const KINDS: u64 = 96;
 
-const OUTCOMES: u64 = 90;
+const OUTCOMES: u64 = 104;
 
-const CALLS: u64 = 96;
+const CALLS: u64 = 108;
 
-const LINES: u64 = 97;
+const LINES: u64 = 109;
 
-const DIFFERENCES: u64 = 98;
+const DIFFERENCES: u64 = 110;
 
-const MESSAGE_COUNT: u64 = 31;
+const MESSAGE_COUNT: u64 = 32;
 
 const REFUSAL_COUNT: u64 = 11;
 
@@ -50,9 +50,9 @@ pub fn count_call(tally: &mut [u64; 128], kind: u8, outcome: u64, number: u64, t
         counted(tally, REFUSALS + number % 16);
     }
     if outcome == 2 {
-        counted(tally, number % 32);
+        counted(tally, number % 40);
         if told {
-            counted(tally, TOLD + number % 32);
+            counted(tally, TOLD + number % 40);
         }
     }
 }
@@ -93,7 +93,7 @@ fn missing(tally: &[u64; 128], a: u64, n: u64) -> u64
 }
 
 fn print_message(tally: &[u64; 128], n: u64)
-    requires { ⌜ n < 32 ⌝ }
+    requires { ⌜ n < 33 ⌝ }
 {
     print(b"message ");
     io::print_decimal(1, n);

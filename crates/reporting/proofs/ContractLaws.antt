@@ -1,7 +1,7 @@
 -- What the entries ensure determines the report, what the memory holds, and every output byte. Assumes nothing.
 use Prim.Native.Nat.{ℕ}
 use mathlib.Core.Path.{_≡_, sym, ap, _∙_, subst}
-use mathlib.Core.Bool.{true}
+use mathlib.Core.Bool.{Bool, true, false}
 use mathlib.Core.List.{List}
 use Rattle.value.proofs.Bools.{and-true, and-both}
 use Rattle.store.specs.Store.{Store}
@@ -10,11 +10,12 @@ use Rattle.text.specs.Table.{isTable, stringsOf}
 use Rattle.steps.specs.declared.Outcome.{Outcome}
 use Rattle.steps.specs.declared.Outcome.the-variants.{Refused, Result, TypeError, Thrown}
 use Rattle.steps.specs.declared.Report.{Report}
+use Rattle.steps.specs.Operation.{writesInTurn, asked}
 use Rattle.steps.specs.Response.{reportOf}
 use Rattle.steps.specs.Step.{step}
 use Rattle.steps.specs.StringEntry.{enterString}
 use Rattle.reporting.specs.ReportWords.{reportWords, reportFrom}
-use Rattle.reporting.specs.Memory.{Shown, shown, shownBy, shownEntry, isMemory, stepOver, enterOver, WordsAfter, Stepped, StringEntered, StepExported, StringExported}
+use Rattle.reporting.specs.Memory.{Shown, shown, shownBy, shownEntry, isMemory, stepOver, enterOver, WroteBefore, WordsAfter, Stepped, StringEntered, StepExported, StringExported}
 
 module _ {words cells bytes sheet output : List ℕ} {r : Report} {after out : List ℕ} (h : Stepped words cells bytes sheet output r after out) where
   pub step-report : r ≡ reportOf (stepOver words cells bytes sheet output .response)
@@ -43,11 +44,15 @@ module _ (words cells : List ℕ) (m : isMemory words cells ≡ true) where
   unfolding isMemory
   table-is = and-true (isStore words) (isTable cells) m .1
 
-  stays : (o : Outcome) (after : List ℕ) → WordsAfter o words after → isStore after ≡ true
-  stays (Refused n) after w = rw w store-is
-  stays (Result c) after w = w .kept
-  stays (TypeError n) after w = rw w store-is
-  stays (Thrown v) after w = rw w store-is
+  stays-before : (inTurn : Bool) (after : List ℕ) → WroteBefore inTurn words after → isStore after ≡ true
+  stays-before false after w = rw w store-is
+  stays-before true after w = w .committed .kept
+
+  stays : (inTurn : Bool) (o : Outcome) (after : List ℕ) → WordsAfter inTurn o words after → isStore after ≡ true
+  stays inTurn (Refused n) after w = rw w store-is
+  stays inTurn (Result c) after w = w .committed .kept
+  stays inTurn (TypeError n) after w = stays-before inTurn after w
+  stays inTurn (Thrown v) after w = stays-before inTurn after w
 
   module _ {bytes sheet output : List ℕ} {r : Report} {after out : List ℕ} (h : Stepped words cells bytes sheet output r after out) where
     pub step-shows : shown r after cells out ≡ shownBy (step (worldOf words cells) bytes sheet output)
@@ -56,7 +61,7 @@ module _ (words cells : List ℕ) (m : isMemory words cells ≡ true) where
 
     pub step-memory : isMemory after cells ≡ true
     unfolding isMemory
-    step-memory = and-both _ _ (stays (r .outcome) after (h .writes)) table-is
+    step-memory = and-both _ _ (stays (writesInTurn (asked bytes)) (r .outcome) after (h .writes)) table-is
 
   module _ {units : List ℕ} {r : Report} {after : List ℕ} (h : StringEntered cells units r after) where
     pub entry-shows : shownEntry r (storeOf words) after ≡ shownBy (enterString (worldOf words cells) units)

@@ -1,15 +1,16 @@
 -- The end of a run over lent memory is the definitions' end. Assumes nothing.
-use Prim.Native.Nat.{ℕ}
+use Prim.Native.Nat.{ℕ, zero-le}
+use native.Mathlib.Nat.{le-refl}
 use mathlib.Core.Path.{_≡_, refl, sym}
-use mathlib.Core.Bool.{true}
-use mathlib.Core.List.{List}
+use mathlib.Core.Bool.{Bool, true, false, false≢true}
+use mathlib.Core.List.{List, [], _∷_}
 use Rattle.value.specs.declared.Value.{Value}
 use Rattle.store.specs.Words.{storeOf, isStore, worldOf}
 use Rattle.store_write.specs.declared.write.Write.{Write}
-use Rattle.store_write.specs.Write.{applied}
+use Rattle.store_write.specs.Write.{applied, writtenAll, Committed}
 use Rattle.internal_methods.specs.declared.Failure.{Failure}
 use Rattle.internal_methods.specs.declared.Failure.the-variants.{Refused, TypeError, Thrown}
-use Rattle.internal_methods.specs.Monad.{State, failed}
+use Rattle.internal_methods.specs.Monad.{Answer, State, failed}
 use Rattle.record.specs.Sheet.{sheetOf}
 use Rattle.calls.specs.declared.Progress.{Progress}
 use Rattle.calls.specs.Outs.{stateOf}
@@ -17,20 +18,24 @@ use Rattle.steps.specs.declared.Completion.{Completion}
 use Rattle.steps.specs.declared.Completion.the-variants as completion
 use Rattle.steps.specs.declared.Outcome.{Outcome}
 use Rattle.steps.specs.declared.Outcome.the-variants as outcome
-use Rattle.store_write.specs.declared.write.Write.the-variants.{Nothing}
 use Rattle.steps.specs.Response.{reportOf}
 use Rattle.steps.specs.Step.{ended}
 use Rattle.reporting.specs.declared.Performed.{Performed}
 use Rattle.reporting.specs.declared.Performed.the-variants.{Failed, Done}
 use Rattle.reporting.specs.Performed.{Taken, outPerformed, isPlain}
 use Rattle.reporting.specs.Reports.{failureResponse, completionReport, performedReport, Finished}
-use Rattle.reporting.specs.Memory.{Shown, shown, shownBy, WordsAfter}
+use Rattle.reporting.specs.Memory.{Shown, shown, shownBy, Wrote, WroteBefore, WordsAfter}
+
+abbrev pub isRefused : Failure → Bool
+isRefused (Refused n) = true
+isRefused (TypeError n) = false
+isRefused (Thrown v) = false
 
 module _ (words cells sheet output : List ℕ) where
   abbrev endedAs : Performed → Shown
   endedAs p = shownBy (ended (worldOf words cells) (sheetOf sheet) output (outPerformed sheet (storeOf words) p))
 
-  pub failing : (f : Failure) (s : State) → shownBy (ended (worldOf words cells) (sheetOf sheet) output (failed f s))
+  pub failing : (f : Failure) (s : State) → shownBy (ended (worldOf words cells) (sheetOf sheet) output (failed f s, storeOf words))
       ≡ shown (reportOf (failureResponse (sheetOf sheet) f s)) words cells output
   failing (Refused n) s = refl
   failing (TypeError n) s = refl
@@ -48,19 +53,31 @@ module _ (words cells sheet output : List ℕ) where
   finished after (Failed f s) t e = rw e (sym (failing f (stateOf sheet s)))
   finished after (Done c w s) t e = doing after c w s (t .1) (e .store)
 
-module _ (words : List ℕ) (sheet : List ℕ) where
-  failing-words : (f : Failure) (s : State) (after : List ℕ) → after ≡ words → WordsAfter (reportOf (failureResponse (sheetOf sheet) f s) .outcome) words after
-  failing-words (Refused n) s after e = e
-  failing-words (TypeError n) s after e = e
-  failing-words (Thrown v) s after e = e
-
-  pub finished-words : (after : List ℕ) (p : Performed) → Finished words after p → WordsAfter (performedReport sheet p .outcome) words after
-  finished-words after (Failed f s) e = failing-words f (stateOf sheet s) after e
-  finished-words after (Done c w s) e = record { write = w; words = e .words; kept = e .kept }
-
 -- words that were not written
-pub kept-words : (words : List ℕ) (o : Outcome) → isStore words ≡ true → WordsAfter o words words
-kept-words words (outcome.Refused n) h = refl
-kept-words words (outcome.Result c) h = record { write = Nothing; words = refl; kept = h }
-kept-words words (outcome.TypeError n) h = refl
-kept-words words (outcome.Thrown v) h = refl
+module _ (words after : List ℕ) (h : isStore words ≡ true) (e : after ≡ words) where
+  not-written : (inTurn : Bool) → Wrote inTurn words after
+  unfolding writtenAll
+  not-written inTurn = record { committed = record { writes = []; words = e; kept = rw e h }; one = λ _. zero-le }
+
+  not-written-before : (inTurn : Bool) → WroteBefore inTurn words after
+  not-written-before false = e
+  not-written-before true = not-written true
+
+  pub kept-words : (inTurn : Bool) (o : Outcome) → WordsAfter inTurn o words after
+  kept-words inTurn (outcome.Refused n) = e
+  kept-words inTurn (outcome.Result c) = not-written inTurn
+  kept-words inTurn (outcome.TypeError n) = not-written-before inTurn
+  kept-words inTurn (outcome.Thrown v) = not-written-before inTurn
+
+-- the words after one write
+pub finished-words : (words sheet : List ℕ) → isStore words ≡ true → (inTurn : Bool) (after : List ℕ) (p : Performed) → Finished words after p → WordsAfter inTurn (performedReport sheet p .outcome) words after
+unfolding writtenAll
+finished-words words sheet h inTurn after (Failed f s) e = kept-words words after h e inTurn (reportOf (failureResponse (sheetOf sheet) f (stateOf sheet s)) .outcome)
+finished-words words sheet h inTurn after (Done c w s) e = record { committed = record { writes = w ∷ []; words = e .words; kept = e .kept }; one = λ _. le-refl 1 }
+
+-- writes in turns, by how the step ended; a refusal took them back
+pub turns-words : (words after : List ℕ) → isStore words ≡ true → Committed words after → (answers : List Answer) (f : Failure) (s : State) → isRefused f ≡ false
+    → WordsAfter true (reportOf (failureResponse answers f s) .outcome) words after
+turns-words words after h c answers (Refused n) s e = absurd (false≢true (sym e))
+turns-words words after h c answers (TypeError n) s e = record { committed = c; one = λ q. absurd (false≢true (sym q)) }
+turns-words words after h c answers (Thrown v) s e = record { committed = c; one = λ q. absurd (false≢true (sym q)) }

@@ -1,17 +1,18 @@
 -- The calls of the interface over lent memory: the store's words, the string table's cells, and the output. Assumes nothing.
-use Prim.Native.Nat.{ℕ}
+use Prim.Native.Nat.{ℕ, _≤_}
 use mathlib.Core.Path.{_≡_}
 use mathlib.Core.Bool.{Bool, true, false, _&&_, cond}
 use mathlib.Core.List.{List, []}
+use lib.ListN.{length}
 use Rattle.text.specs.Table.{isTable, stringsOf}
 use Rattle.text.specs.Answers.{enterCells, cellsAfter}
 use Rattle.store.specs.Store.{Store, World}
 use Rattle.store.specs.Words.{isStore, worldOf}
-use Rattle.store_write.specs.declared.write.Write.{Write}
-use Rattle.store_write.specs.Write.{writtenTo}
+use Rattle.store_write.specs.Write.{Committed}
 use Rattle.steps.specs.declared.Outcome.{Outcome}
 use Rattle.steps.specs.declared.Outcome.the-variants.{Refused, Result, TypeError, Thrown}
 use Rattle.steps.specs.declared.Report.{Report}
+use Rattle.steps.specs.Operation.{writesInTurn, asked}
 use Rattle.steps.specs.Response.{Response, Effect, reportOf}
 use Rattle.steps.specs.Step.{step, refusing}
 use Rattle.steps.specs.StringEntry.{enterString}
@@ -48,23 +49,27 @@ enterOver σ cells units =
     (enterString (record { store = σ; strings = stringsOf cells }) units)
     (refusing 1 (record { store = σ; strings = stringsOf cells }) [])
 
--- one write: the words that it names have changed, and no others; they are a store still
-pub record Committed (before after : List ℕ) : Type 0 where
-  pub write : Write
-  pub words : after ≡ writtenTo write before
-  pub kept : isStore after ≡ true
+-- the words were written: once at most, or in turns
+pub record Wrote (inTurn : Bool) (before after : List ℕ) : Type 0 where
+  pub committed : Committed before after
+  pub one : inTurn ≡ false → length (committed .writes) ≤ 1
 
--- the words themselves: only a result may change them, by one write
-abbrev pub WordsAfter : Outcome → List ℕ → List ℕ → Type 0
-WordsAfter (Refused n) before after = after ≡ before
-WordsAfter (Result c) before after = Committed before after
-WordsAfter (TypeError n) before after = after ≡ before
-WordsAfter (Thrown v) before after = after ≡ before
+-- before a TypeError or a throw: not at all, or in turns
+abbrev pub WroteBefore : Bool → List ℕ → List ℕ → Type 0
+WroteBefore false before after = after ≡ before
+WroteBefore true before after = Wrote true before after
 
--- What `step` ensures: the report, what the memory holds and every output byte are those of the definitions; the words change by one write, and only with a result
+-- the words themselves: only a result may change them, by one write; a step that writes in turns also changes them before a TypeError or a throw
+abbrev pub WordsAfter : Bool → Outcome → List ℕ → List ℕ → Type 0
+WordsAfter inTurn (Refused n) before after = after ≡ before
+WordsAfter inTurn (Result c) before after = Wrote inTurn before after
+WordsAfter inTurn (TypeError n) before after = WroteBefore inTurn before after
+WordsAfter inTurn (Thrown v) before after = WroteBefore inTurn before after
+
+-- What `step` ensures: the report, what the memory holds and every output byte are those of the definitions; and how the words changed
 pub record Stepped (words cells bytes sheet output : List ℕ) (r : Report) (after out : List ℕ) : Type 0 where
   pub shows : shown r after cells out ≡ shownBy (stepOver words cells bytes sheet output)
-  pub writes : WordsAfter (r .outcome) words after
+  pub writes : WordsAfter (writesInTurn (asked bytes)) (r .outcome) words after
 
 -- What `enter_string` ensures: the report and the strings are those of the definitions, whatever store stands beside the cells; every cell is determined
 pub record StringEntered (cells units : List ℕ) (r : Report) (after : List ℕ) : Type 0 where

@@ -5,10 +5,11 @@ use mathlib.Core.Bool.{Bool, true, false}
 use mathlib.Core.List.{List, []}
 use Rattle.store.specs.Store.{Store}
 use Rattle.store_write.specs.Write.{applied, fitsIn}
-use Rattle.internal_methods.specs.Monad.{Out, failed, done}
+use Rattle.internal_methods.specs.Monad.{failed, done}
 use Rattle.calls.specs.Outs.{stateOf}
 use Rattle.steps.specs.declared.Completion.{Completion}
 use Rattle.steps.specs.declared.Completion.the-variants as completion
+use Rattle.steps.specs.Sequence.{Ran}
 use Rattle.steps.specs.Perform.{Result}
 use Rattle.steps.specs.Perform as result
 use Rattle.reporting.specs.declared.Performed.{Performed}
@@ -21,9 +22,9 @@ resultOf (completion.Descriptor p) = result.descriptor p
 resultOf completion.Absent = result.absent
 resultOf (completion.Keys n) = result.keys []
 
-abbrev pub outPerformed : List ℕ → Store → Performed → Out (Result × Store)
-outPerformed sheet σ (Failed f s) = failed f (stateOf sheet s)
-outPerformed sheet σ (Done c w s) = done (resultOf c, applied w σ) (stateOf sheet s)
+abbrev pub outPerformed : List ℕ → Store → Performed → Ran Result
+outPerformed sheet σ (Failed f s) = (failed f (stateOf sheet s), σ)
+outPerformed sheet σ (Done c w s) = (done (resultOf c) (stateOf sheet s), applied w σ)
 
 -- a completion that is no key list
 abbrev pub isPlain : Completion → Bool

@@ -1,8 +1,9 @@
 -- A step and a string entry over lent memory are the definitions'. Assumes nothing.
-use Prim.Native.Nat.{ℕ, _≤_, _<_}
+use Prim.Native.Nat.{ℕ}
 use native.Mathlib.Omega.{arith}
 use mathlib.Core.Path.{_≡_, refl, sym, ap, _∙_}
 use mathlib.Core.Bool.{Bool, true, false, cond}
+use lib.Dec.{eqb}
 use mathlib.Core.Option.{none, some}
 use mathlib.Core.List.{List}
 use Rattle.value.proofs.Bools.{and-true}
@@ -15,19 +16,20 @@ use Rattle.text.specs.Answers.{entryOf, enterCells, cellsAfter}
 use Rattle.store.specs.Store.{Store}
 use Rattle.store.specs.Words.{isStore, storeOf, worldOf}
 use Rattle.store_read.proofs.ListLaws.{few-strings}
-use Rattle.internal_methods.specs.Monad.{Out}
-use Rattle.record.specs.Bytes.{byteAt}
+use Rattle.value.specs.Words.{pick}
+use Rattle.record.specs.Bytes.{byteAt, valueAt}
 use Rattle.record.specs.Step.{stepOf}
 use Rattle.record.specs.Tests.{firstFailing}
 use Rattle.record.specs.Sheet.{sheetOf, isSheet}
-use Rattle.step_records.proofs.PassedLaws.{step-length, key-fits, code-low, code-high}
+use Rattle.step_records.proofs.PassedLaws.{step-length, key-fits, sheet-formed, sheet-known}
 use Rattle.calls.specs.declared.Progress.{Progress}
 use Rattle.calls.specs.Outs.{Readable, context, stateOf}
 use Rattle.steps.specs.declared.Report.{Report}
-use Rattle.steps.specs.Operation.{ownPropertyKeys, operationOf, asked}
+use Rattle.steps.specs.Operation.{Level, ownPropertyKeys, setIntegrityLevel, testIntegrityLevel, naturalOf, levelOf, operationOf, asked, writesInTurn}
+use Rattle.steps.specs.Sequence.{Ran}
 use Rattle.steps.specs.Perform.{Result, perform, maximumCalls}
 use Rattle.steps.specs.Response.{reportOf, refusal}
-use Rattle.steps.specs.Step.{recordTests, ended, ran, step}
+use Rattle.steps.specs.Step.{countsOf, recordTests, ended, ran, step}
 use Rattle.steps.specs.StringEntry.{enterString, entered}
 use Rattle.reporting.specs.declared.Performed.{Performed}
 use Rattle.reporting.specs.Performed.{Taken, outPerformed}
@@ -35,7 +37,9 @@ use Rattle.reporting.specs.Reports.{start, performedReport, Finished}
 use Rattle.reporting.specs.Memory.{Shown, shown, shownBy, isMemory, stepOver, shownEntry, enterOver}
 use Rattle.reporting.proofs.EndLaws.{finished}
 use Rattle.reporting.proofs.SheetLaws.{begins}
+use Rattle.own_keys.specs.Lists.{areListsFit}
 use Rattle.performing.specs.Results.{Performable}
+use Rattle.performing.proofs.FitLaws.{sheet-fits}
 use Rattle.step.specs.Entry.{entryReport}
 
 pub memory-readable : (words cells : List ℕ) → isMemory words cells ≡ true → Readable words cells
@@ -53,16 +57,14 @@ module _ (words cells bytes sheet : List ℕ) (m : Readable words cells) (h : fi
     key = key-fits (worldOf words cells) bytes sheet h (few-strings cells (m .table));
   }
 
-  -- a code that lists no keys
-  pub other-codes : (byteAt bytes 0 ≡ 14 → ⊥) → (1 ≤ byteAt bytes 0) × (byteAt bytes 0 < 14)
-  unfolding stepOf
-  other-codes d = (code-low (worldOf words cells) bytes sheet h, below (byteAt bytes 0) (code-high (worldOf words cells) bytes sheet h) d)
-    where
-      below : (code : ℕ) → code ≤ 14 → (code ≡ 14 → ⊥) → code < 14
-      below code q e = omega (arith, q, e)
+  -- key lists of the sheet that can be loaded
+  pub lists-fit : (isSheet sheet ≡ true) × (areListsFit (sheetOf sheet) ≡ true)
+  lists-fit =
+      let formed = sheet-formed (worldOf words cells) bytes sheet h in
+      (formed, sheet-fits (countsOf (worldOf words cells)) (few-strings cells (m .table)) sheet formed (sheet-known (worldOf words cells) bytes sheet h))
 
 module _ (words cells bytes sheet output : List ℕ) where
-  abbrev endsAs : Out (Result × Store) → Shown
+  abbrev endsAs : Ran Result → Shown
   endsAs o = shownBy (ended (worldOf words cells) (sheetOf sheet) output o)
 
   abbrev runs : Shown
@@ -78,6 +80,19 @@ module _ (words cells bytes sheet output : List ℕ) where
   unfolding operationOf stepOf
   lists e = rw e
 
+  sets : byteAt bytes 0 ≡ 18 → operationOf (stepOf bytes) ≡ setIntegrityLevel (byteAt bytes 1) (levelOf (valueAt bytes 11))
+  unfolding operationOf stepOf
+  sets e = rw e
+
+  tests : byteAt bytes 0 ≡ 19 → operationOf (stepOf bytes) ≡ testIntegrityLevel (byteAt bytes 1) (levelOf (valueAt bytes 11))
+  unfolding operationOf stepOf
+  tests e = rw e
+
+  -- code 18 writes in turns
+  pub turns : byteAt bytes 0 ≡ 18 → writesInTurn (asked bytes) ≡ true
+  unfolding asked
+  turns e = ap writesInTurn (sets e)
+
   module _ (formed : isSheet sheet ≡ true) where
     pub run-shown : (s : Progress) (x : Shown) → s ≡ start sheet
         → x ≡ endsAs (perform maximumCalls (context words cells 256) (operationOf (stepOf bytes)) .run (stateOf sheet s)) → x ≡ runs
@@ -86,6 +101,14 @@ module _ (words cells bytes sheet output : List ℕ) where
     pub run-listed : (o : ℕ) (x : Shown) → o ≡ byteAt bytes 1 → byteAt bytes 0 ≡ 14
         → x ≡ endsAs (perform maximumCalls (context words cells 256) (ownPropertyKeys o) .run (stateOf sheet (start sheet))) → x ≡ runs
     run-listed o x e q h = run-shown (start sheet) x refl (rw (lists q, sym e) h)
+
+    pub run-set : (o : ℕ) (frozen : Bool) (x : Shown) → o ≡ byteAt bytes 1 → frozen ≡ eqb (naturalOf (valueAt bytes 11)) 1 → byteAt bytes 0 ≡ 18
+        → x ≡ endsAs (perform maximumCalls (context words cells 256) (setIntegrityLevel o (pick frozen Level.frozen Level.sealed)) .run (stateOf sheet (start sheet))) → x ≡ runs
+    run-set o frozen x e f q h = run-shown (start sheet) x refl (rw (sets q, sym e, sym f) h)
+
+    pub run-tested : (o : ℕ) (frozen : Bool) (x : Shown) → o ≡ byteAt bytes 1 → frozen ≡ eqb (naturalOf (valueAt bytes 11)) 1 → byteAt bytes 0 ≡ 19
+        → x ≡ endsAs (perform maximumCalls (context words cells 256) (testIntegrityLevel o (pick frozen Level.frozen Level.sealed)) .run (stateOf sheet (start sheet))) → x ≡ runs
+    run-tested o frozen x e f q h = run-shown (start sheet) x refl (rw (tests q, sym e, sym f) h)
 
     pub run-performed : (s : Progress) (after : List ℕ) (p : Performed) (r : Report) → s ≡ start sheet
         → outPerformed sheet (storeOf words) p ≡ perform maximumCalls (context words cells 256) (operationOf (stepOf bytes)) .run (stateOf sheet s)

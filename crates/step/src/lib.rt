@@ -1,5 +1,6 @@
 // The interface: a step over lent memory, and the entering of a string.
 use performing::MAXIMUM_PROPERTIES;
+use performing::levels;
 use performing::listing;
 use performing::reads;
 use record::Refusal;
@@ -16,6 +17,7 @@ ghost use Rattle.store.specs.Words.{worldOf};
 ghost use Rattle.record.specs.Tests.{firstFailing};
 ghost use Rattle.record.specs.Sheet.{sheetOf};
 ghost use Rattle.calls.specs.Outs.{Readable};
+ghost use Rattle.steps.specs.Operation.{writesInTurn, asked};
 ghost use Rattle.steps.specs.Step.{recordTests, ended, ran};
 ghost use Rattle.step.specs.Entry.{entryReport};
 ghost use Rattle.reporting.specs.Memory.{shown, shownBy, WordsAfter, Stepped, StringEntered};
@@ -24,11 +26,19 @@ ghost use Rattle.reporting.specs.Memory.{shown, shownBy, WordsAfter, Stepped, S
 fn run(words: &mut [u64], strings: &[u16], bytes: &[u8], sheet: &[u8], output: &mut [u8]) -> Report
     requires { ⌜ Readable (now words) (now strings) × (firstFailing (recordTests (worldOf (now words) (now strings)) (now bytes) (now sheet)) ≡ none) ⌝ }
     ensures { λ r. ⌜ shown r (now (words .exit)) (now (strings .entry)) (now (output .exit)) ≡ shownBy (ended (worldOf (now (words .entry)) (now (strings .entry))) (sheetOf (now (sheet .entry))) (now (output .entry)) (ran (worldOf (now (words .entry)) (now (strings .entry))) (now (bytes .entry)) (now (sheet .entry)))) ⌝ }
-    ensures { λ r. ⌜ WordsAfter (r .outcome) (now (words .entry)) (now (words .exit)) ⌝ }
+    ensures { λ r. ⌜ WordsAfter (writesInTurn (asked (now (bytes .entry)))) (r .outcome) (now (words .entry)) (now (words .exit)) ⌝ }
 {
     let code = bits::wide(bytes[0]);
     if code == 14 {
         return listing::list(words, strings, sheet, bits::wide(bytes[1]), output);
+    }
+    if code == 18 {
+        let frozen = levels::is_frozen(bytes);
+        return levels::set_level(words, strings, sheet, bits::wide(bytes[1]), frozen);
+    }
+    if code == 19 {
+        let frozen = levels::is_frozen(bytes);
+        return levels::test_level(words, strings, sheet, bits::wide(bytes[1]), frozen);
     }
     let s = reporting::start(sheet);
     if reads::is_reading(code) {

@@ -1,5 +1,5 @@
--- Refusal 3 by a value's kind, and a trap mask. Assumes nothing.
-use Prim.Native.Nat.{ℕ, zero, suc, _<_, _≤_}
+-- Refusal 3 by a value's kind, and an Integer32 within a bound. Assumes nothing.
+use Prim.Native.Nat.{ℕ, zero, suc, _+_, _<_, _≤_}
 use native.Mathlib.Omega.{arith}
 use mathlib.Core.Path.{_≡_, refl}
 use mathlib.Core.Bool.{Bool, true, false, _&&_, _||_}
@@ -11,7 +11,7 @@ use Rattle.value.specs.declared.Value.{Value}
 use Rattle.value.specs.declared.Value.the-variants.{Undefined, Integer32}
 use Rattle.value.specs.PropertyKey.{keyOf}
 use Rattle.value.specs.Words.{kindOf, valueOf}
-use Rattle.record.specs.Step.{isSome, isNullOrObject, isMaskIfInteger32}
+use Rattle.record.specs.Step.{isSome, isNullOrObject, isAtMostIfInteger32}
 
 by-kind : (P : ℕ → Type 0) → P 0 → P 1 → P 2 → P 3 → P 4 → P 5 → P 6 → P 7 → P 8 → ((k : ℕ) → 9 ≤ k → P k) → (k : ℕ) → P k
 by-kind P a b c d e f g h i r zero = a
@@ -68,21 +68,21 @@ module _ (p : ℕ) where
       refl refl refl (three (λ t v. false ≡ eqb (kindOf v) 8) refl refl) refl refl refl refl refl
       (λ k h. rw (above k p h, ne-eqb k 8 (λ e. omega arith)))
 
-  -- a trap mask
+  -- an Integer32 that is at most `most`
+  module _ (most : ℕ) where
+    pub small-integer : most < 2147483648 → p < 4294967296 → ltb p (most + 1) ≡ isAtMostIfInteger32 most (valueOf 3 p)
+    unfolding valueOf isAtMostIfInteger32
+    small-integer m h = rw (lt-ltb p 4294967296 h) (by (ltb p (most + 1)) (ltb p 2147483648) refl refl)
+      where
+        by : (s t : Bool) → ltb p (most + 1) ≡ s → ltb p 2147483648 ≡ t → ltb p (most + 1) ≡ isAtMostIfInteger32 most (Integer32 (toZ w32 p))
+        by true t d q =
+            rw (lt-ltb p 2147483648 (omega (arith, m, ltb-true p (most + 1) d)), d, le-leb p most (omega (arith, ltb-true p (most + 1) d)))
+        by false true d q = rw (q, d, lt-leb p most (omega (arith, ltb-false p (most + 1) d)))
+        by false false d q = rw (q, d)
 
-  pub small-mask : p < 4294967296 → ltb p 2048 ≡ isMaskIfInteger32 (valueOf 3 p)
-  unfolding valueOf isMaskIfInteger32
-  small-mask h = rw (lt-ltb p 4294967296 h) (by (ltb p 2048) (ltb p 2147483648) refl refl)
-    where
-      by : (s t : Bool) → ltb p 2048 ≡ s → ltb p 2147483648 ≡ t → ltb p 2048 ≡ isMaskIfInteger32 (Integer32 (toZ w32 p))
-      by true t d q =
-          rw (lt-ltb p 2147483648 (omega (arith, ltb-true p 2048 d)), d, le-leb p 2047 (omega (arith, ltb-true p 2048 d)))
-      by false true d q = rw (q, d, lt-leb p 2047 (omega (arith, ltb-false p 2048 d)))
-      by false false d q = rw (q, d)
-
-  pub other-mask : (k : ℕ) → (k ≡ 3 → ⊥) → true ≡ isMaskIfInteger32 (valueOf k p)
-  unfolding valueOf isMaskIfInteger32
-  other-mask =
-      by-kind (λ k. (k ≡ 3 → ⊥) → true ≡ isMaskIfInteger32 (valueOf k p))
-      (λ n. refl) (λ n. refl) (λ n. refl) (λ n. absurd (n refl)) (λ n. refl) (λ n. refl) (λ n. refl) (λ n. refl) (λ n. refl)
-      (λ k h n. rw (above k p h))
+    pub no-integer : (k : ℕ) → (k ≡ 3 → ⊥) → true ≡ isAtMostIfInteger32 most (valueOf k p)
+    unfolding valueOf isAtMostIfInteger32
+    no-integer =
+        by-kind (λ k. (k ≡ 3 → ⊥) → true ≡ isAtMostIfInteger32 most (valueOf k p))
+        (λ n. refl) (λ n. refl) (λ n. refl) (λ n. absurd (n refl)) (λ n. refl) (λ n. refl) (λ n. refl) (λ n. refl) (λ n. refl)
+        (λ k h n. rw (above k p h))

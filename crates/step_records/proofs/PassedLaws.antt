@@ -2,13 +2,13 @@
 use Prim.Native.Nat.{ℕ, _<_, _≤_, _^_}
 use native.Mathlib.Omega.{arith}
 use mathlib.Core.Path.{_≡_, refl}
-use mathlib.Core.Bool.{Bool, true, false}
+use mathlib.Core.Bool.{Bool, true, false, _&&_}
 use mathlib.Core.Option.{none}
 use mathlib.Core.List.{List, _∷_}
 use lib.Dec.{eqb, leb}
 use lib.ListN.{length}
 use borrow.Author.Tests.{ltb-true, leb-true, eqb-true}
-use Rattle.value.proofs.Bools.{and-true}
+use Rattle.value.proofs.Bools.{and-true, or-cases}
 use Rattle.value.specs.declared.Value.{Value}
 use Rattle.value.specs.declared.Value.the-variants.{Undefined, Null, Boolean, Integer32, Float64, String, Symbol, Object, Function}
 use Rattle.value.specs.PropertyKey.{keyOf}
@@ -16,7 +16,7 @@ use Rattle.store.specs.Store.{World}
 use Rattle.store_write.specs.Write.{numberIn}
 use Rattle.record.specs.Bytes.{byteAt}
 use Rattle.record.specs.Tests.{Counts, isKnown, firstFailing}
-use Rattle.record.specs.Step.{stepOf, isStep, isCode, areKindsUsable}
+use Rattle.record.specs.Step.{stepOf, usesLevel, isStep, isCode, areKindsUsable}
 use Rattle.record.specs.Sheet.{sheetOf, isSheet, sheetPasses}
 use Rattle.steps.specs.Operation.{keyOrFirst}
 use Rattle.steps.specs.Step.{countsOf, recordTests}
@@ -44,6 +44,13 @@ known-key n (Symbol s) h e = omega (arith, ltb-true s 256 e)
 known-key n (Object o) h e = omega arith
 known-key n (Function f) h e = omega arith
 
+-- the codes that are left
+below : (c : ℕ) → isCode c ≡ true → (c ≡ 14 → ⊥) → (c ≡ 18 → ⊥) → (c ≡ 19 → ⊥) → (1 ≤ c) × (c < 14)
+below c e n14 n18 n19 =
+    or-cases (leb 1 c && leb c 14) (usesLevel c) e
+    (λ h. let p = and-true (leb 1 c) (leb c 14) h in (leb-true 1 c (p .0), omega (arith, leb-true c 14 (p .1), n14)))
+    (λ h. absurd (or-cases (eqb c 18) (eqb c 19) h (λ q. n18 (eqb-true c 18 q)) (λ q. n19 (eqb-true c 19 q))))
+
 module _ (ω : World) (bytes sheet : List ℕ) (h : firstFailing (recordTests ω bytes sheet) ≡ none) where
   pub step-formed : isStep bytes ≡ true
   step-formed = passed _ _ _ h
@@ -62,13 +69,9 @@ module _ (ω : World) (bytes sheet : List ℕ) (h : firstFailing (recordTests ω
   unfolding isStep
   code-formed = and-true (isCode (byteAt bytes 0)) _ (and-true (eqb (length bytes) 58) _ step-formed .1) .0
 
-  pub code-low : 1 ≤ stepOf bytes .code
-  unfolding stepOf
-  code-low = leb-true _ _ (and-true _ (leb (byteAt bytes 0) 14) code-formed .0)
-
-  pub code-high : stepOf bytes .code ≤ 14
-  unfolding stepOf
-  code-high = leb-true _ _ (and-true (leb 1 (byteAt bytes 0)) _ code-formed .1)
+  -- a code that neither lists keys nor uses a level
+  pub other-code : (byteAt bytes 0 ≡ 14 → ⊥) → (byteAt bytes 0 ≡ 18 → ⊥) → (byteAt bytes 0 ≡ 19 → ⊥) → (1 ≤ byteAt bytes 0) × (byteAt bytes 0 < 14)
+  other-code = below (byteAt bytes 0) code-formed
 
   pub sheet-there : 0 < length sheet
   unfolding isSheet

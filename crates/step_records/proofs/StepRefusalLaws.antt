@@ -15,12 +15,12 @@ use Rattle.value.specs.Words.{kindOf, valueOf, isFormed}
 use Rattle.record.specs.Bytes.{byteAt, numberAt, areZero, valueAt, isValueAt, isPartAt}
 use Rattle.record.specs.Descriptor.{descriptorAt, isDescriptorAt}
 use Rattle.record.specs.Tests.{Counts, isMade, isKnown, descriptorPasses}
-use Rattle.record.specs.Step.{stepOf, usesObject, usesKey, usesPrototype, usesMask, usesValue, usesReceiver, unless, isCode, isObjectFormed, isDescriptorFormed, isMaskFormed, isStep, areObjectsMade, isSome, isNullOrObject, isMaskIfInteger32, areKindsUsable}
+use Rattle.record.specs.Step.{stepOf, usesObject, usesKey, usesPrototype, usesMask, usesLevel, usesValue, usesReceiver, unless, isCode, isObjectFormed, isDescriptorFormed, isMaskFormed, isLevelFormed, isStep, areObjectsMade, isSome, isNullOrObject, isAtMostIfInteger32, areKindsUsable}
 use Rattle.byte_records.proofs.ByteLaws.{zero-number, zero-join}
-use Rattle.step_records.specs.Refusals.{first, earlier, valueRefusal, partRefusal, objectRefusal, keyRefusal, prototypeRefusal, maskRefusal, receiverRefusal, descriptorRefusal, stepRefusal}
+use Rattle.step_records.specs.Refusals.{first, earlier, valueRefusal, partRefusal, objectRefusal, keyRefusal, prototypeRefusal, boundedRefusal, receiverRefusal, descriptorRefusal, stepRefusal}
 use Rattle.step_records.proofs.RefusalLaws.{earlier-first, first-least, first-most, by-form, earlier-left, earlier-right}
 use Rattle.step_records.proofs.ValueLaws.{refusal-0, refusal-1, refusal-5, refusal-6, refusal-7, zero-byte, no-fields, part-zero, part-nonzero}
-use Rattle.step_records.proofs.KindLaws.{key-kind, prototype-kind, integer-kind, function-kind, small-mask, other-mask}
+use Rattle.step_records.proofs.KindLaws.{key-kind, prototype-kind, integer-kind, function-kind, small-integer, no-integer}
 
 -- bytes that are zero, a word at a time: from `at` to i, and to 58
 
@@ -64,13 +64,17 @@ module _ (n : Counts) (k p : ℕ) where
 neither : (k i j : ℕ) → (k ≡ i → ⊥) → (k ≡ j → ⊥) → (eqb k i || eqb k j) ≡ false
 neither k i j s t = rw (ne-eqb k i s, ne-eqb k j t)
 
-mask-range : (n : Counts) (p : ℕ) → cond (ltb p 2048) 4 1 ≡ first (isMaskIfInteger32 (valueOf 3 p) && ltb p 4294967296) (isMade n (valueOf 3 p)) (eqb (kindOf (valueOf 3 p)) 3 && isKnown n (valueOf 3 p))
-unfolding valueOf isMade isKnown
-mask-range n p = by (ltb p 4294967296) refl
-  where
-    by : (t : Bool) → ltb p 4294967296 ≡ t → cond (ltb p 2048) 4 1 ≡ first (isMaskIfInteger32 (valueOf 3 p) && ltb p 4294967296) (isMade n (valueOf 3 p)) (eqb (kindOf (valueOf 3 p)) 3 && isKnown n (valueOf 3 p))
-    by true q = rw (← small-mask p (ltb-true p 4294967296 q), q, bool.and-true (ltb p 2048)) (by-form (ltb p 2048))
-    by false q = rw (q, le-ltb p 2048 (omega (arith, ltb-false p 4294967296 q)), bool.and-false)
+module _ (n : Counts) (p most : ℕ) (m : most < 2147483648) where
+  abbrev bounded : ℕ
+  bounded = first (isAtMostIfInteger32 most (valueOf 3 p) && ltb p 4294967296) (isMade n (valueOf 3 p)) (eqb (kindOf (valueOf 3 p)) 3 && isKnown n (valueOf 3 p))
+
+  bounded-range : cond (ltb p (most + 1)) 4 1 ≡ bounded
+  unfolding valueOf isMade isKnown
+  bounded-range = by (ltb p 4294967296) refl
+    where
+      by : (t : Bool) → ltb p 4294967296 ≡ t → cond (ltb p (most + 1)) 4 1 ≡ bounded
+      by true q = rw (← small-integer p most m (ltb-true p 4294967296 q), q, bool.and-true (ltb p (most + 1))) (by-form (ltb p (most + 1)))
+      by false q = rw (q, le-ltb p (most + 1) (omega (arith, m, ltb-false p 4294967296 q)), bool.and-false)
 
 module _ (n : Counts) (b : List ℕ) (k p : ℕ) where
   module _ (e : k ≡ byteAt b 2) (f : p ≡ numberAt b 3 8) where
@@ -99,13 +103,14 @@ module _ (n : Counts) (b : List ℕ) (k p : ℕ) where
     unfolding valueAt isValueAt
     prototype-other s t = rw (← e, ← f) (unusable n k p (isNullOrObject (valueOf k p)) (sym (prototype-kind p k) ∙ neither k 1 7 s t))
 
-    pub mask-integer : k ≡ 3 → cond (ltb p 2048) 4 1 ≡ maskRefusal n b
-    unfolding valueAt isValueAt isFormed
-    mask-integer h = rw (← e, ← f, h) (mask-range n p)
+    module _ (most : ℕ) where
+      pub bounded-integer : most < 2147483648 → k ≡ 3 → cond (ltb p (most + 1)) 4 1 ≡ boundedRefusal most n b
+      unfolding valueAt isValueAt isFormed
+      bounded-integer m h = rw (← e, ← f, h) (bounded-range n p most m)
 
-    pub mask-other : (k ≡ 3 → ⊥) → earlier 3 (valueRefusal n k p) ≡ maskRefusal n b
-    unfolding valueAt isValueAt
-    mask-other s = rw (← e, ← f, ← other-mask p k s) (unusable n k p (eqb (kindOf (valueOf k p)) 3) (sym (integer-kind p k) ∙ rw (ne-eqb k 3 s)))
+      pub bounded-other : (k ≡ 3 → ⊥) → earlier 3 (valueRefusal n k p) ≡ boundedRefusal most n b
+      unfolding valueAt isValueAt
+      bounded-other s = rw (← e, ← f, ← no-integer p most k s) (unusable n k p (eqb (kindOf (valueOf k p)) 3) (sym (integer-kind p k) ∙ rw (ne-eqb k 3 s)))
 
   module _ (e : k ≡ byteAt b 20) (f : p ≡ numberAt b 21 8) where
     pub receiver-function : k ≡ 8 → 3 ≡ receiverRefusal n b
@@ -122,13 +127,19 @@ past-14 c h s t = omega arith
 -- no code
 module _ (c : ℕ) where
   pub code-low : c < 1 → isCode c ≡ false
-  code-low h = rw (lt-leb 1 c h)
+  code-low h = rw (lt-leb 1 c h, ne-eqb c 18 (λ e. omega arith), ne-eqb c 19 (λ e. omega arith))
 
-  pub code-high : ((c ≡ 4) ⊎ (c ≡ 14) → ⊥) → ((c ≡ 8) ⊎ ((c ≡ 10) ⊎ (c ≡ 13)) → ⊥) → (c ≡ 9 → ⊥) → (c ≡ 11 → ⊥) → (c ≡ 12 → ⊥) → 8 ≤ c → isCode c ≡ false
-  code-high n4 n8 n9 n11 n12 h =
+  above-14 : 14 < c → (c ≡ 18 → ⊥) → (c ≡ 19 → ⊥) → isCode c ≡ false
+  above-14 h s t = rw (le-leb 1 c (omega arith), lt-leb c 14 h, ne-eqb c 18 s, ne-eqb c 19 t)
+
+  pub code-middle : ((c ≡ 4) ⊎ (c ≡ 14) → ⊥) → ((c ≡ 8) ⊎ ((c ≡ 10) ⊎ (c ≡ 13)) → ⊥) → (c ≡ 9 → ⊥) → (c ≡ 11 → ⊥) → (c ≡ 12 → ⊥) → 8 ≤ c → c < 18 → isCode c ≡ false
+  code-middle n4 n8 n9 n11 n12 h l =
       let n8' : c ≡ 8 → ⊥ = λ e. n8 (inl e) in
       let n10 : c ≡ 10 → ⊥ = λ e. n8 (inr (inl e)) in
-      rw (le-leb 1 c (omega arith), lt-leb c 14 (past-14 c (omega arith) (λ e. n8 (inr (inr e))) (λ e. n4 (inr e))))
+      above-14 (past-14 c (omega arith) (λ e. n8 (inr (inr e))) (λ e. n4 (inr e))) (λ e. omega arith) (λ e. omega arith)
+
+  pub code-high : 20 ≤ c → isCode c ≡ false
+  code-high h = above-14 (omega arith) (λ e. omega arith) (λ e. omega arith)
 
 -- the parts of a step by its code
 
@@ -137,11 +148,11 @@ and-left-comm true y z = refl
 and-left-comm false true z = refl
 and-left-comm false false z = refl
 
-formed : (o k v r d m : Bool) → (o && (k && ((m && v) && (r && d)))) ≡ (o && ((k && (v && r)) && (d && m)))
-formed o k v r d m = simp (and-assoc, and-comm, and-left-comm)
+formed : (o k v r d m l : Bool) → (o && (k && ((m && (l && v)) && (r && d)))) ≡ (o && ((k && (v && r)) && (d && (m && l))))
+formed o k v r d m l = simp (and-assoc, and-comm, and-left-comm)
 
-known : (k v r d i j l m o : Bool) → (m && ((i && k) && ((j && (l && v)) && ((o && r) && d)))) ≡ ((k && (v && (r && d))) && (i && (j && (l && (m && o)))))
-known k v r d i j l m o = simp (and-assoc, and-comm, and-left-comm)
+known : (k v r d i j m l o w : Bool) → (o && ((i && k) && ((j && (m && (l && v))) && ((w && r) && d)))) ≡ ((k && (v && (r && d))) && (i && (j && (m && (l && (o && w))))))
+known k v r d i j m l o w = simp (and-assoc, and-comm, and-left-comm)
 
 same : (a p b c r : Bool) → a ≡ p → c ≡ r → first a b c ≡ first p b r
 same a p b c r e f = rw (e, f)
@@ -209,7 +220,7 @@ module _ (proxy : Bool) (n : Counts) (b : List ℕ) where
   key c = first (isPartAt (usesKey c) b 2) (isMade n (valueAt b 2)) (unless (usesKey c) (isSome (keyOf (valueAt b 2))) && isKnown n (valueAt b 2))
 
   abbrev value : ℕ → ℕ
-  value c = first (isMaskFormed c b && isPartAt (usesValue c) b 11) (isMade n (valueAt b 11)) (unless (usesPrototype c) (isNullOrObject (valueAt b 11)) && (unless (usesMask c) (eqb (kindOf (valueAt b 11)) 3) && isKnown n (valueAt b 11)))
+  value c = first (isMaskFormed c b && (isLevelFormed c b && isPartAt (usesValue c) b 11)) (isMade n (valueAt b 11)) (unless (usesPrototype c) (isNullOrObject (valueAt b 11)) && (unless (usesMask c) (eqb (kindOf (valueAt b 11)) 3) && (unless (usesLevel c) (eqb (kindOf (valueAt b 11)) 3) && isKnown n (valueAt b 11))))
 
   abbrev receiver : ℕ → ℕ
   receiver c = first (isPartAt (usesReceiver c) b 20) (isMade n (valueAt b 20)) (unless (usesReceiver c) (not (eqb (kindOf (valueAt b 20)) 8)) && isKnown n (valueAt b 20))
@@ -233,9 +244,9 @@ module _ (proxy : Bool) (n : Counts) (b : List ℕ) where
     unfolding isStep stepOf areObjectsMade areKindsUsable
     parts c e h = rw (eq-eqb _ _ l, e, h, earlier-first, earlier-first, earlier-first, earlier-first)
         (same _ _ _ _ _
-        (formed (isObjectFormed c (byteAt b 1)) (isPartAt (usesKey c) b 2) (isPartAt (usesValue c) b 11) (isPartAt (usesReceiver c) b 20) (isDescriptorFormed c b) (isMaskFormed c b))
+        (formed (isObjectFormed c (byteAt b 1)) (isPartAt (usesKey c) b 2) (isPartAt (usesValue c) b 11) (isPartAt (usesReceiver c) b 20) (isDescriptorFormed c b) (isMaskFormed c b) (isLevelFormed c b))
         (known (isKnown n (valueAt b 2)) (isKnown n (valueAt b 11)) (isKnown n (valueAt b 20)) (descriptorPasses (isKnown n) (descriptorAt b 29))
-        (unless (usesKey c) (isSome (keyOf (valueAt b 2)))) (unless (usesPrototype c) (isNullOrObject (valueAt b 11))) (unless (usesMask c) (eqb (kindOf (valueAt b 11)) 3)) (unless (eqb c 3) proxy) (unless (usesReceiver c) (not (eqb (kindOf (valueAt b 20)) 8)))))
+        (unless (usesKey c) (isSome (keyOf (valueAt b 2)))) (unless (usesPrototype c) (isNullOrObject (valueAt b 11))) (unless (usesMask c) (eqb (kindOf (valueAt b 11)) 3)) (unless (usesLevel c) (eqb (kindOf (valueAt b 11)) 3)) (unless (eqb c 3) proxy) (unless (usesReceiver c) (not (eqb (kindOf (valueAt b 20)) 8)))))
 
   -- the parts that are not used, by the runs of bytes that are zero
 
@@ -271,8 +282,8 @@ module _ (proxy : Bool) (n : Counts) (b : List ℕ) where
   in-prototype : In (prototypeRefusal n b)
   in-prototype = in-first (isValueAt b 11) (isMade n (valueAt b 11)) (isNullOrObject (valueAt b 11) && isKnown n (valueAt b 11))
 
-  in-mask : In (maskRefusal n b)
-  in-mask = in-first (isMaskIfInteger32 (valueAt b 11) && isValueAt b 11) (isMade n (valueAt b 11)) (eqb (kindOf (valueAt b 11)) 3 && isKnown n (valueAt b 11))
+  in-bounded : (most : ℕ) → In (boundedRefusal most n b)
+  in-bounded most = in-first (isAtMostIfInteger32 most (valueAt b 11) && isValueAt b 11) (isMade n (valueAt b 11)) (eqb (kindOf (valueAt b 11)) 3 && isKnown n (valueAt b 11))
 
   in-value : In (partRefusal true n b 11)
   in-value = in-first (isPartAt true b 11) (isMade n (valueAt b 11)) (isKnown n (valueAt b 11))
@@ -312,6 +323,13 @@ module _ (proxy : Bool) (n : Counts) (b : List ℕ) where
     key-codes : (c ≡ 8) ⊎ ((c ≡ 10) ⊎ (c ≡ 13)) → Like c 8
     key-codes = ⊎-elim (like 8 8 (refl, refl)) (⊎-elim (like 10 8 (refl, refl)) (like 13 8 (refl, refl)))
 
+    level-codes : 18 ≤ c → c < 20 → Like c 18
+    level-codes h k = by (eqb c 18) refl
+      where
+        by : (t : Bool) → eqb c 18 ≡ t → Like c 18
+        by true q = like 18 18 (refl, refl) (eqb-true c 18 q)
+        by false q = let n18 : c ≡ 18 → ⊥ = eqb-false c 18 q in like 19 18 (refl, refl) (omega arith)
+
   alone : (x : ℕ) → In x → earlier x (earlier (partRefusal false n b 2) (earlier (partRefusal false n b 11) (earlier (partRefusal false n b 20) (descriptor 0)))) ≡ cond (areZero b 2 56) x 1
   alone x h = rw tail2 (last x (areZero b 2 56) h)
 
@@ -347,9 +365,13 @@ module _ (proxy : Bool) (n : Counts) (b : List ℕ) where
         (by-code 1 _ (same-code c 1 refl h)
         (with-value (first (eqb (byteAt b 1) 0) true true) (prototypeRefusal n b) (in-first (eqb (byteAt b 1) 0) true true) in-prototype))
 
-    pub proxy-code : c ≡ 2 → cond (areZero b 2 9 && areZero b 20 38) (earlier (objectRefusal n (byteAt b 1)) (maskRefusal n b)) 1 ≡ stepRefusal proxy n b
+    pub proxy-code : c ≡ 2 → cond (areZero b 2 9 && areZero b 20 38) (earlier (objectRefusal n (byteAt b 1)) (boundedRefusal 2047 n b)) 1 ≡ stepRefusal proxy n b
     unfolding isPartAt
-    proxy-code h = by-code 2 _ (same-code c 2 refl h) (with-value (objectRefusal n (byteAt b 1)) (maskRefusal n b) in-object in-mask)
+    proxy-code h = by-code 2 _ (same-code c 2 refl h) (with-value (objectRefusal n (byteAt b 1)) (boundedRefusal 2047 n b) in-object (in-bounded 2047))
+
+    pub level-code : 18 ≤ c → c < 20 → cond (areZero b 2 9 && areZero b 20 38) (earlier (objectRefusal n (byteAt b 1)) (boundedRefusal 1 n b)) 1 ≡ stepRefusal proxy n b
+    unfolding isPartAt
+    level-code h k = by-code 18 _ (level-codes c h k) (with-value (objectRefusal n (byteAt b 1)) (boundedRefusal 1 n b) in-object (in-bounded 1))
 
     pub prototype-code : c ≡ 5 → cond (areZero b 2 9 && areZero b 20 38) (earlier (objectRefusal n (byteAt b 1)) (prototypeRefusal n b)) 1 ≡ stepRefusal proxy n b
     unfolding isPartAt

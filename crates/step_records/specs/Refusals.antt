@@ -10,7 +10,7 @@ use Rattle.record.specs.declared.Refusal.the-variants.{Passed, Failed}
 use Rattle.record.specs.Bytes.{valueAt, isValueAt, isPartAt}
 use Rattle.record.specs.Descriptor.{descriptorAt, isDescriptorAt}
 use Rattle.record.specs.Tests.{Counts, isMade, isKnown, descriptorPasses}
-use Rattle.record.specs.Step.{stepOf, isMaskIfInteger32, isStep, areObjectsMade, isSome, isNullOrObject, areKindsUsable}
+use Rattle.record.specs.Step.{stepOf, isAtMostIfInteger32, isStep, areObjectsMade, isSome, isNullOrObject, areKindsUsable}
 use Rattle.record.specs.Sheet.{valuesAt, areValuesAt, keyCountAt, answerAt, isBodyAt, isSheet, sheetOf, valuesPass, answerPasses, sheetPasses}
 
 -- the first of three tests that does not pass: 1 the form, 2 what was made, 3 what is known; 4 where all pass
@@ -38,15 +38,16 @@ partRefusal used n bytes i = first (isPartAt used bytes i) (isMade n (valueAt by
 abbrev pub objectRefusal : Counts → ℕ → ℕ
 objectRefusal n object = first true (ltb object (n .objects)) true
 
--- a step's key, prototype, trap mask and receiver, with the kinds that they may have
+-- a step's key, prototype, number and receiver, with the kinds that they may have
 abbrev pub keyRefusal : Counts → List ℕ → ℕ
 keyRefusal n bytes = first (isValueAt bytes 2) (isMade n (valueAt bytes 2)) (isSome (keyOf (valueAt bytes 2)) && isKnown n (valueAt bytes 2))
 
 abbrev pub prototypeRefusal : Counts → List ℕ → ℕ
 prototypeRefusal n bytes = first (isValueAt bytes 11) (isMade n (valueAt bytes 11)) (isNullOrObject (valueAt bytes 11) && isKnown n (valueAt bytes 11))
 
-abbrev pub maskRefusal : Counts → List ℕ → ℕ
-maskRefusal n bytes = first (isMaskIfInteger32 (valueAt bytes 11) && isValueAt bytes 11) (isMade n (valueAt bytes 11)) (eqb (kindOf (valueAt bytes 11)) 3 && isKnown n (valueAt bytes 11))
+-- a trap mask or an integrity level: an Integer32 from 0 to `most`
+abbrev pub boundedRefusal : ℕ → Counts → List ℕ → ℕ
+boundedRefusal most n bytes = first (isAtMostIfInteger32 most (valueAt bytes 11) && isValueAt bytes 11) (isMade n (valueAt bytes 11)) (eqb (kindOf (valueAt bytes 11)) 3 && isKnown n (valueAt bytes 11))
 
 abbrev pub receiverRefusal : Counts → List ℕ → ℕ
 receiverRefusal n bytes = first (isValueAt bytes 20) (isMade n (valueAt bytes 20)) (not (eqb (kindOf (valueAt bytes 20)) 8) && isKnown n (valueAt bytes 20))

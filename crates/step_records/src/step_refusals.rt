@@ -8,11 +8,11 @@ use record::Counts;
 use value_operations::bits;
 ghost use mathlib.Core.Path.{_≡_};
 ghost use mathlib.Core.Bool.{cond, _&&_};
-ghost use Prim.Native.Nat.{_-_, _≤_};
+ghost use Prim.Native.Nat.{_-_, _≤_, _<_};
 ghost use lib.Dec.{ltb};
 ghost use lib.ListN.{length};
 ghost use Rattle.record.specs.Bytes.{byteAt, numberAt, areZero};
-ghost use Rattle.step_records.specs.Refusals.{earlier, valueRefusal, objectRefusal, keyRefusal, prototypeRefusal, maskRefusal, receiverRefusal, descriptorRefusal, stepRefusal};
+ghost use Rattle.step_records.specs.Refusals.{earlier, valueRefusal, objectRefusal, keyRefusal, prototypeRefusal, boundedRefusal, receiverRefusal, descriptorRefusal, stepRefusal};
 
 // Whether the bytes from `at` on are zero, a word at a time; the last word may overlap the one before it.
 pub fn are_zero_from(bytes: &[u8], at: usize) -> bool
@@ -63,14 +63,14 @@ fn prototype_refusal(n: Counts, bytes: &[u8]) -> u64
     }
 }
 
-// An Integer32 from 0 to 2047.
-fn mask_refusal(n: Counts, bytes: &[u8]) -> u64
-    requires { ⌜ length (now bytes) ≡ 58 ⌝ }
-    ensures { λ r. ⌜ r ≡ maskRefusal n (now (bytes .entry)) ⌝ }
+// An Integer32 from 0 to `most`.
+fn bounded_refusal(most: u64, n: Counts, bytes: &[u8]) -> u64
+    requires { ⌜ (length (now bytes) ≡ 58) × (most < 2147483648) ⌝ }
+    ensures { λ r. ⌜ r ≡ boundedRefusal most n (now (bytes .entry)) ⌝ }
 {
     let w = value_record::words_at(bytes, 11);
     if w.kind == 3 {
-        return number_refusal(w.payload, 2048, 1);
+        return number_refusal(w.payload, most + 1, 1);
     }
     earlier(3, value_refusals::value_refusal(n, w))
 }
@@ -184,13 +184,24 @@ fn creation_step(n: Counts, object: u64, bytes: &[u8]) -> u64
     1
 }
 
-// Code 2: an object and a trap mask.
+// Code 2: an object and a trap mask, 0 to 2047.
 fn proxy_step(n: Counts, object: u64, bytes: &[u8]) -> u64
     requires { ⌜ length (now bytes) ≡ 58 ⌝ }
-    ensures { λ r. ⌜ r ≡ cond (areZero (now (bytes .entry)) 2 9 && areZero (now (bytes .entry)) 20 38) (earlier (objectRefusal n object) (maskRefusal n (now (bytes .entry)))) 1 ⌝ }
+    ensures { λ r. ⌜ r ≡ cond (areZero (now (bytes .entry)) 2 9 && areZero (now (bytes .entry)) 20 38) (earlier (objectRefusal n object) (boundedRefusal 2047 n (now (bytes .entry)))) 1 ⌝ }
 {
     if has_value_alone(bytes) {
-        return earlier(object_refusal(n, object), mask_refusal(n, bytes));
+        return earlier(object_refusal(n, object), bounded_refusal(2047, n, bytes));
+    }
+    1
+}
+
+// Codes 18 and 19: an object and an integrity level, 0 or 1.
+fn level_step(n: Counts, object: u64, bytes: &[u8]) -> u64
+    requires { ⌜ length (now bytes) ≡ 58 ⌝ }
+    ensures { λ r. ⌜ r ≡ cond (areZero (now (bytes .entry)) 2 9 && areZero (now (bytes .entry)) 20 38) (earlier (objectRefusal n object) (boundedRefusal 1 n (now (bytes .entry)))) 1 ⌝ }
+{
+    if has_value_alone(bytes) {
+        return earlier(object_refusal(n, object), bounded_refusal(1, n, bytes));
     }
     1
 }
@@ -234,6 +245,7 @@ pub fn step_refusal(proxy: bool, n: Counts, bytes: &[u8]) -> u64
         9 => definition_step(n, object, bytes),
         11 => get_step(n, object, bytes),
         12 => set_step(n, object, bytes),
+        18 | 19 => level_step(n, object, bytes),
         _ => 1,
     }
 }

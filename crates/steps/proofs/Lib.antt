@@ -1,5 +1,7 @@
 pub mod Steps
 pub mod Outputs
+pub mod Sequences
+pub mod Integrity
 pub mod Made
 pub mod Performed
 pub mod Performs

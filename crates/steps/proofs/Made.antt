@@ -1,5 +1,5 @@
 -- A step whose records passed their tests names only objects that are made. Assumes nothing.
-use Prim.Native.Nat.{ℕ, zero, suc, _<_}
+use Prim.Native.Nat.{ℕ, zero, suc, _<_, suc-le-suc, zero-le}
 use native.Mathlib.Nat.{not-suc-le-zero, le-of-suc-le-suc}
 use mathlib.Core.Path.{_≡_, refl, sym, subst}
 use mathlib.Core.Bool.{Bool, true, false, not, false≢true}
@@ -22,7 +22,7 @@ use Rattle.record.specs.declared.Step.{Step}
 use Rattle.record.specs.Tests.{isMade, failing, firstFailing}
 use Rattle.record.specs.Step.{stepOf, usesObject, stepPasses, areObjectsMade, unless}
 use Rattle.record.specs.Sheet.{sheetOf, answerPasses, sheetPasses}
-use Rattle.steps.specs.Operation.{Operation, makeObject, makeProxy, revoke, getPrototypeOf, setPrototypeOf, isExtensible, preventExtensions, getOwnProperty, defineOwnProperty, hasProperty, get, set, delete, ownPropertyKeys, operationOf, asked}
+use Rattle.steps.specs.Operation.{Operation, makeObject, makeProxy, revoke, getPrototypeOf, setPrototypeOf, isExtensible, preventExtensions, getOwnProperty, defineOwnProperty, hasProperty, get, set, delete, ownPropertyKeys, setIntegrityLevel, testIntegrityLevel, operationOf, asked}
 use Rattle.steps.specs.Step.{countsOf, recordTests}
 
 -- the objects that an operation names are made
@@ -41,6 +41,8 @@ MadeOperation σ (get o k receiver) = Made σ o
 MadeOperation σ (set o k v receiver) = Made σ o × MadeValue σ receiver
 MadeOperation σ (delete o k) = Made σ o
 MadeOperation σ (ownPropertyKeys o) = Made σ o
+MadeOperation σ (setIntegrityLevel o level) = Made σ o
+MadeOperation σ (testIntegrityLevel o level) = Made σ o
 
 element-below : {A : Type 0} (l : List A) (i : ℕ) → i < length l → (x : A) × (getElem? l i ≡ some x)
 element-below [] i h = absurd (not-suc-le-zero h)
@@ -102,7 +104,9 @@ operation-made ω s h =
     (either P (eqb (s .code) 10) o
     (either P (eqb (s .code) 11) o
     (either P (eqb (s .code) 12) (o, value-made ω (s .receiver) r)
-    (either P (eqb (s .code) 13) o o))))))))))))
+    (either P (eqb (s .code) 13) o
+    (either P (eqb (s .code) 14) o
+    (either P (eqb (s .code) 18) o o))))))))))))))
   where
     used : (b : Bool) → b ≡ false → unless (not b) (ltb (s .object) (countsOf ω .objects)) ≡ true → ltb (s .object) (countsOf ω .objects) ≡ true
     used true e f = absurd (false≢true (sym e))
@@ -132,6 +136,28 @@ names-made ω bytes sheet h =
     let (_, h₅) = passed _ _ _ h₄ in
     let (answers, h₆) = passed _ _ _ h₅ in
     record { operation = operation-made ω (stepOf bytes) objects; answers = answers-made ω (sheetOf sheet) answers }
+
+-- As many objects --------------------------------------------------------------------
+
+some-below : {A : Type 0} (l : List A) (i : ℕ) (x : A) → getElem? l i ≡ some x → i < length l
+some-below [] i x e = absurd (false≢true cc)
+some-below (y ∷ l) zero x e = suc-le-suc zero-le
+some-below (y ∷ l) (suc i) x e = suc-le-suc (some-below l i x e)
+
+-- what was made is made in a store with as many objects
+pub made-kept : (σ τ : Store) → length (τ .objects) ≡ length (σ .objects) → (o : ℕ) → Made σ o → Made τ o
+unfolding lookup
+made-kept σ τ e o (x, f) = element-below (τ .objects) o (subst (λ (n : ℕ). o < n) (sym e) (some-below (σ .objects) o x f))
+
+pub answers-kept : (σ τ : Store) → length (τ .objects) ≡ length (σ .objects) → {l : List Answer} → MadeAnswers σ l → MadeAnswers τ l
+answers-kept σ τ e nil = nil
+answers-kept σ τ e (cons {a} m ms) = cons (answer-kept a m) (answers-kept σ τ e ms)
+  where
+    answer-kept : (a : Answer) → MadeAnswer σ a → MadeAnswer τ a
+    answer-kept (Answer.value v) m = record { made = λ o f. made-kept σ τ e o (m .made o f) }
+    answer-kept (Answer.descriptor d) m = tt
+    answer-kept (Answer.keys ks) m = tt
+    answer-kept (Answer.throw v) m = tt
 
 -- A new object ------------------------------------------------------------------------
 

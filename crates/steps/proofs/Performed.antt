@@ -1,7 +1,7 @@
 -- What each operation's result says of the store, and that every object lasts through it. Assumes nothing.
 use Prim.Native.Nat.{ℕ}
-use mathlib.Core.Path.{_≡_, refl}
-use mathlib.Core.Bool.{Bool, true}
+use mathlib.Core.Path.{_≡_, refl, sym, _∙_, subst}
+use mathlib.Core.Bool.{Bool, true, false, false≢true}
 use mathlib.Core.Option.{Option, none, some}
 use mathlib.Core.List.{List}
 use Rattle.value.specs.declared.Value.{Value}
@@ -11,14 +11,19 @@ use Rattle.property.specs.declared.OwnProperty.{OwnProperty}
 use Rattle.store.specs.declared.Object.{Object}
 use Rattle.store.specs.declared.Object.the-variants.{Ordinary, Proxy}
 use Rattle.store.specs.Store.{Store, lookup}
-use Rattle.internal_methods.specs.Monad.{M}
+use Rattle.internal_methods.specs.Monad.{State, Out, M}
 use Rattle.internal_methods.specs.Methods.{Context, Written}
-use Rattle.internal_methods.proofs.Ensures.{Ensures, ensures-pure, ensures-fails, ensures-bind, ensures-if}
+use Rattle.internal_methods.specs.Internal.{methods}
+use Rattle.internal_methods.proofs.Ensures.{Ensures, ensures-pure, ensures-fails, ensures-bind, ensures-if, ensures-then, ensures-all}
 use Rattle.internal_methods.proofs.Base.{Under, Frozen, Shut}
 use Rattle.internal_methods.proofs.Later.{Grows, grows-refl, grows-add, grows-proxy}
 use Rattle.internal_methods.proofs.Reports.{Changed, Faithful, SamePrototype, Defined, Gone, KeysTied, HasTied, isExtensible-report, getOwnProperty-report, get-report, preventExtensions-report, defineOwnProperty-report, delete-report, getPrototypeOf-report, setPrototypeOf-report, ownPropertyKeys-report, hasProperty-report, set-report}
-use Rattle.steps.specs.Operation.{Operation, makeObject, makeProxy, revoke, getPrototypeOf, setPrototypeOf, isExtensible, preventExtensions, getOwnProperty, defineOwnProperty, hasProperty, get, set, delete, ownPropertyKeys}
-use Rattle.steps.specs.Perform.{Result, value, keys, ownResult, boolean, reading, writing, make, revoked, perform}
+use Rattle.steps.specs.Operation.{Level, Operation, makeObject, makeProxy, revoke, getPrototypeOf, setPrototypeOf, isExtensible, preventExtensions, getOwnProperty, defineOwnProperty, hasProperty, get, set, delete, ownPropertyKeys, setIntegrityLevel, testIntegrityLevel}
+use Rattle.steps.specs.Sequence.{Ran, written}
+use Rattle.steps.specs.TestIntegrityLevel
+use Rattle.steps.specs.Perform.{Result, value, keys, ownResult, boolean, once, inTurn, reading, writing, make, revoked, perform}
+use Rattle.steps.proofs.Sequences.{Led, leads-pure, leads-bind}
+use Rattle.steps.proofs.Integrity.{integrity-grows}
 
 -- what a result says, from the store before it and the store after it
 abbrev pub Says : Store → Operation → Result → Store → Type 0
@@ -36,44 +41,91 @@ Says σ (get o k receiver) r τ = (x : Value) × (r ≡ value x) × ((v : Value)
 Says σ (set o k v receiver) r τ = r ≡ boolean true → (w : Value) → Frozen σ o k w → sameValue v w ≡ true
 Says σ (delete o k) r τ = r ≡ boolean true → Gone σ o k τ
 Says σ (ownPropertyKeys o) r τ = (ks : List PropertyKey) × (r ≡ keys ks) × Under σ o (λ b x. KeysTied σ b x ks)
+Says σ (setIntegrityLevel o level) r τ = r ≡ boolean true → Shut τ o
+Says σ (testIntegrityLevel o level) r τ = r ≡ boolean true → Shut σ o
 
-pub record Said (σ : Store) (asks : Operation) (a : Result × Store) : Type 0 where
-  pub grows : Grows σ (a .1)
-  pub says : Says σ asks (a .0) (a .1)
+-- every object lasts, whatever the end, and a result says what it says
+pub record Said (σ : Store) (asks : Operation) (x : Ran Result) : Type 0 where
+  pub grows : Grows σ (x .1)
+  pub says : (r : Result) (t : State) → x .0 ≡ Out.done r t → Says σ asks r (x .1)
 
 pub boolean-is : (x y : Bool) → boolean x ≡ boolean y → x ≡ y
 boolean-is x y h = cc
 
-written : {σ : Store} {P : Store → Type 0} {asks : Operation} (m : M Written) → Ensures m (Changed σ P)
-    → ((r : Result) (τ : Store) → (r ≡ boolean true → P τ) → Says σ asks r τ) → Ensures (writing m) (Said σ asks)
-written m h f = ensures-bind h (λ a c. ensures-pure _ (record { grows = c .grows; says = f _ _ (λ e. c .says (boolean-is (a .0) true e)) }))
+-- Operations that write at most once ----------------------------------------------------
+
+-- what is ensured of a run that is done
+record Gives (σ : Store) (asks : Operation) (a : Result × Store) : Type 0 where
+  grows : Grows σ (a .1)
+  says : Says σ asks (a .0) (a .1)
+
+said-once : (σ : Store) (asks : Operation) (m : M (Result × Store)) → Ensures m (Gives σ asks) → (s : State) → Said σ asks (once σ m .run s)
+unfolding once
+said-once σ asks m h s = go (m .run s) refl
+  where
+    go : (x : Out (Result × Store)) → m .run s ≡ x → Said σ asks (written σ x)
+    go (Out.failed f t) e = record { grows = grows-refl σ; says = λ r u i. absurd (false≢true cc) }
+    go (Out.done a t) e = let g = h .at s a t e in record {
+      grows = g .grows;
+      says = λ r u i. let j : a .0 ≡ r = cc in subst (λ (y : Result). Says σ asks y (a .1)) j (g .says);
+    }
+
+wrote : {σ : Store} {P : Store → Type 0} {asks : Operation} (m : M Written) → Ensures m (Changed σ P)
+    → ((r : Result) (τ : Store) → (r ≡ boolean true → P τ) → Says σ asks r τ) → (s : State) → Said σ asks (once σ (writing m) .run s)
+wrote {σ} {P} {asks} m h f = said-once σ asks (writing m) (ensures-bind h (λ a c. ensures-pure _ (record { grows = c .grows; says = f _ _ (λ e. c .says (boolean-is (a .0) true e)) })))
 
 read : {A : Type 0} (σ : Store) {Q : A → Type 0} (result : A → Result) {asks : Operation} (m : M A) → Ensures m Q
-    → ((a : A) → Q a → Says σ asks (result a) σ) → Ensures (reading σ result m) (Said σ asks)
-read σ result m h f = ensures-bind h (λ a q. ensures-pure _ (record { grows = grows-refl σ; says = f a q }))
+    → ((a : A) → Q a → Says σ asks (result a) σ) → (s : State) → Said σ asks (once σ (reading σ result m) .run s)
+read σ result {asks} m h f = said-once σ asks (reading σ result m) (ensures-bind h (λ a q. ensures-pure _ (record { grows = grows-refl σ; says = f a q })))
 
-made : (σ : Store) (x : Object) (asks : Operation) → ((r : Result) (τ : Store) → Says σ asks r τ) → Ensures (make σ x) (Said σ asks)
+made : (σ : Store) (x : Object) (asks : Operation) → ((r : Result) (τ : Store) → Says σ asks r τ) → (s : State) → Said σ asks (once σ (make σ x) .run s)
 unfolding make
-made σ x asks f = ensures-if _ (λ _. ensures-pure _ (record { grows = grows-add σ x; says = f _ _ })) (λ _. ensures-fails _)
+made σ x asks f = said-once σ asks _ (ensures-if _ (λ _. ensures-pure _ (record { grows = grows-add σ x; says = f _ _ })) (λ _. ensures-fails _))
 
 revoked-grows : (σ : Store) (o : ℕ) (x : Option Object) → lookup σ o ≡ x → Grows σ (revoked σ o x)
 revoked-grows σ o none e = grows-refl σ
 revoked-grows σ o (some (Ordinary r)) e = grows-refl σ
 revoked-grows σ o (some (Proxy p)) e = grows-proxy σ o p _ e refl
 
-pub performed : (n : ℕ) (c : Context) (asks : Operation) → Ensures (perform n c asks) (Said (c .store) asks)
+-- 7.3.16: only a non-extensible object passes
+test-report : (n : ℕ) (c : Context) (o : ℕ) (level : Level) → Ensures (TestIntegrityLevel.testIntegrityLevel (methods n c) o level) (λ b. b ≡ true → Shut (c .store) o)
+unfolding TestIntegrityLevel.testIntegrityLevel
+test-report n c o level = ensures-bind (isExtensible-report n c o) (λ x u. ensures-if x
+    (λ e. ensures-pure _ (λ f. absurd (false≢true f)))
+    (λ e. ensures-then _ (λ ks. ensures-all _ (λ b _. record { number = u .number; object = u .object; base = u .base; holds = sym (u .holds) ∙ e }))))
+
+-- What writes as it goes ---------------------------------------------------------------------
+
+set-said : (n : ℕ) (c : Context) (o : ℕ) (level : Level) (s : State) → Said (c .store) (setIntegrityLevel o level) (perform n c (setIntegrityLevel o level) .run s)
+unfolding perform inTurn
+set-said n c o level s = go (leads-bind (integrity-grows n c o (c .store) level) (λ b. leads-pure {Q = Tells} (boolean b) (λ σ q. by σ b q)) .from (c .store) (grows-refl _) s)
+  where
+    Tells : Result → Store → Type 0
+    Tells r τ = Grows (c .store) τ × (r ≡ boolean true → Shut τ o)
+
+    by : (τ : Store) (b : Bool) → (b ≡ true → Grows (c .store) τ × Shut τ o) × (b ≡ false → Grows (c .store) τ) → Tells (boolean b) τ
+    by τ true q = (q .0 refl .0, λ _. q .0 refl .1)
+    by τ false q = (q .1 refl, λ e. absurd (false≢true (boolean-is false true e)))
+
+    go : {x : Out Result} {τ : Store} → Led Tells (λ f υ. Grows (c .store) υ) x τ → Said (c .store) (setIntegrityLevel o level) (x, τ)
+    go (Led.failed g) = record { grows = g; says = λ r u i. absurd (false≢true cc) }
+    go (Led.done {a} {τ = τ} q) = record { grows = q .0; says = λ r u i e. let j : a ≡ r = cc in q .1 (j ∙ e) }
+
+pub performed : (n : ℕ) (c : Context) (asks : Operation) (s : State) → Said (c .store) asks (perform n c asks .run s)
 unfolding perform
 performed n c (makeObject v) = made (c .store) _ _ (λ _ _. tt)
 performed n c (makeProxy o traps) = made (c .store) _ _ (λ _ _. tt)
-performed n c (revoke o) = ensures-pure _ (record { grows = revoked-grows (c .store) o _ refl; says = tt })
+performed n c (revoke o) = said-once (c .store) (revoke o) _ (ensures-pure _ (record { grows = revoked-grows (c .store) o _ refl; says = tt }))
 performed n c (getPrototypeOf o) = read _ value _ (getPrototypeOf-report n c o) (λ v u. (v, refl, u))
-performed n c (setPrototypeOf o v) = written _ (setPrototypeOf-report n c o v) (λ r τ f. f)
+performed n c (setPrototypeOf o v) = wrote _ (setPrototypeOf-report n c o v) (λ r τ f. f)
 performed n c (isExtensible o) = read _ boolean _ (isExtensible-report n c o) (λ x u. (x, refl, u))
-performed n c (preventExtensions o) = written _ (preventExtensions-report n c o) (λ r τ f. f)
+performed n c (preventExtensions o) = wrote _ (preventExtensions-report n c o) (λ r τ f. f)
 performed n c (getOwnProperty o k) = read _ ownResult _ (getOwnProperty-report n c o k) (λ d u. (d, refl, u))
-performed n c (defineOwnProperty o k d) = written _ (defineOwnProperty-report n c o k d) (λ r τ f. f)
+performed n c (defineOwnProperty o k d) = wrote _ (defineOwnProperty-report n c o k d) (λ r τ f. f)
 performed n c (hasProperty o k) = read _ boolean _ (hasProperty-report n c o k) (λ x u. (x, refl, u))
 performed n c (get o k receiver) = read _ value _ (get-report n c o k receiver) (λ x u. (x, refl, u))
-performed n c (set o k v receiver) = written _ (set-report n c o k v receiver) (λ r τ f. f)
-performed n c (delete o k) = written _ (delete-report n c o k) (λ r τ f. f)
+performed n c (set o k v receiver) = wrote _ (set-report n c o k v receiver) (λ r τ f. f)
+performed n c (delete o k) = wrote _ (delete-report n c o k) (λ r τ f. f)
 performed n c (ownPropertyKeys o) = read _ keys _ (ownPropertyKeys-report n c o) (λ ks u. (ks, refl, u))
+performed n c (setIntegrityLevel o level) = set-said n c o level
+performed n c (testIntegrityLevel o level) = read _ boolean _ (test-report n c o level) (λ b u e. u (boolean-is b true e))

@@ -6,12 +6,11 @@ use mathlib.Core.Bool.{false≢true}
 use mathlib.Core.Option.{none}
 use mathlib.Core.List.{List, [], _∷_}
 use Rattle.store.specs.Store.{Store, World, empty, lookup}
-use Rattle.internal_methods.specs.Monad.{State, done}
 use Rattle.internal_methods.proofs.Later.{Grows, grows-refl, grows-trans}
 use Rattle.internal_methods.proofs.StoreClosed.{Closed}
 use Rattle.record.specs.Tests.{firstFailing}
 use Rattle.steps.specs.Operation.{asked}
-use Rattle.steps.specs.Perform.{Result, maximumCalls}
+use Rattle.steps.specs.Perform.{maximumCalls}
 use Rattle.steps.specs.Response.{Effect}
 use Rattle.steps.specs.Step.{recordTests, contextOf, ran}
 use Rattle.steps.specs.Run.{Call, effect, Event, At, runFrom, worldFrom, worldAt}
@@ -21,14 +20,14 @@ use Rattle.steps.proofs.Steps.{ends, kept-by, EntryEnds, refuses, enter
 use Rattle.steps.proofs.Performs.{performs}
 use Rattle.steps.proofs.Performed.{Said, performed}
 
--- a run that is done said so
-pub ran-said : (ω : World) (bytes sheet : List ℕ) (a : Result × Store) (s : State) → ran ω bytes sheet ≡ done a s → Said (ω .store) (asked bytes) a
+-- what a run says
+pub ran-said : (ω : World) (bytes sheet : List ℕ) → Said (ω .store) (asked bytes) (ran ω bytes sheet)
 unfolding ran
-ran-said ω bytes sheet a s e = performed maximumCalls (contextOf ω) (asked bytes) .at _ a s e
+ran-said ω bytes sheet = performed maximumCalls (contextOf ω) (asked bytes) _
 
--- the store that a run over a world gives
+-- the store that a run over a world leaves, whatever its end
 pub data Gives (ω : World) : Store → Type 0 where
-  gives : (bytes sheet : List ℕ) (a : Result × Store) (s : State) → firstFailing (recordTests ω bytes sheet) ≡ none → ran ω bytes sheet ≡ done a s → Gives ω (a .1)
+  gives : (bytes sheet : List ℕ) → firstFailing (recordTests ω bytes sheet) ≡ none → Gives ω (ran ω bytes sheet .1)
 
 entry-kept : (ω : World) (units : List ℕ) (P : Store → Type 0) → P (ω .store) → {x : Effect} → EntryEnds ω units x → P (x .world .store)
 entry-kept ω units P h (refuses e) = h
@@ -37,7 +36,7 @@ entry-kept ω units P h (enters e) = h
 -- what holds of a store and of all that runs give from it holds after a call
 pub effect-kept : (ω : World) (P : Store → Type 0) → P (ω .store) → ((σ : Store) → Gives ω σ → P σ) → (c : Call) → P (effect ω c .world .store)
 unfolding effect
-effect-kept ω P h f (call.step bytes sheet output) = kept-by ω bytes sheet output P h (λ a s p e. f (a .1) (gives bytes sheet a s p e)) (ends ω bytes sheet output)
+effect-kept ω P h f (call.step bytes sheet output) = kept-by ω bytes sheet output P h (λ p. f _ (gives bytes sheet p)) (ends ω bytes sheet output)
 effect-kept ω P h f (call.enter units) = entry-kept ω units P h (entry-ends ω units)
 
 -- what holds of a store and passes from each to all that runs give from it holds at every place
@@ -55,9 +54,9 @@ closed-empty = record { ordinary = λ o r e. absurd (false≢true cc); proxy = �
 
 closed-given : (ω : World) → Closed (ω .store) → (σ : Store) → Gives ω σ → Closed σ
 unfolding ran
-closed-given ω h σ (gives bytes sheet a s p e) =
+closed-given ω h σ (gives bytes sheet p) =
     let m = names-made ω bytes sheet p in
-    performs (contextOf ω) maximumCalls h (asked bytes) (m .operation) .closes _ s a (le-refl _) (m .answers) e
+    performs (contextOf ω) maximumCalls h (asked bytes) (m .operation) .closes _ (le-refl _) (m .answers)
 
 pub closed-at : (calls : List Call) (i : ℕ) → Closed (worldAt calls i .store)
 closed-at calls i = kept-from Closed closed-given empty calls i closed-empty
@@ -68,7 +67,7 @@ pub effect-grows : (ω : World) (c : Call) → Grows (ω .store) (effect ω c .w
 effect-grows ω c = effect-kept ω (Grows (ω .store)) (grows-refl (ω .store)) given c
   where
     given : (σ : Store) → Gives ω σ → Grows (ω .store) σ
-    given σ (gives bytes sheet a s p e) = ran-said ω bytes sheet a s e .grows
+    given σ (gives bytes sheet p) = ran-said ω bytes sheet .grows
 
 pub grows-from : (ω : World) (cs : List Call) (i j : ℕ) → i ≤ j → Grows (worldFrom ω cs i .store) (worldFrom ω cs j .store)
 unfolding worldFrom

@@ -1,7 +1,7 @@
 -- How a step and the entering of a string end, and what they leave. Assumes nothing.
 use Prim.Native.Nat.{ℕ, _+_, _-_, _≤_}
 use native.Mathlib.Omega.{arith}
-use mathlib.Core.Path.{_≡_, refl, ap, _∙_}
+use mathlib.Core.Path.{_≡_, refl, ap, _∙_, subst}
 use mathlib.Core.Bool.{Bool, true, false, false≢true}
 use mathlib.Core.Option.{Option, none, some}
 use mathlib.Core.List.{List, []}
@@ -14,6 +14,7 @@ use Rattle.internal_methods.specs.declared.Failure.the-variants.{Refused, TypeE
 use Rattle.internal_methods.specs.Monad.{Answer, State, Out, failed, done}
 use Rattle.record.specs.Sheet.{sheetOf}
 use Rattle.record.specs.Tests.{firstFailing}
+use Rattle.steps.specs.Sequence.{Ran}
 use Rattle.steps.specs.Perform.{Result, value, maximumCalls}
 use Rattle.steps.specs.Response.{Ending, refused, result, typeError, thrown, Effect}
 use Rattle.steps.specs.Step.{recordTests, outputHolds, outputAfter, withStore, refusing, responding, completed, ended, ran, tested, step}
@@ -22,19 +23,19 @@ use Rattle.steps.specs.StringEntry.{enterString, entered}
 -- Why a step ended as it did, with all that it answered and left
 pub data Ends (ω : World) (bytes sheet output : List ℕ) : Effect → Type 0 where
   inadmissible : {n : ℕ} → firstFailing (recordTests ω bytes sheet) ≡ some n → Ends ω bytes sheet output (refusing n ω output)
-  refuses : {n : ℕ} {s : State} → firstFailing (recordTests ω bytes sheet) ≡ none → ran ω bytes sheet ≡ failed (Refused n) s → Ends ω bytes sheet output (refusing n ω output)
-  errs : {n : ℕ} {s : State} → firstFailing (recordTests ω bytes sheet) ≡ none → ran ω bytes sheet ≡ failed (TypeError n) s
-      → Ends ω bytes sheet output (record { response = responding (typeError n) (sheetOf sheet) s; world = ω; output = output })
-  throws : {v : Value} {s : State} → firstFailing (recordTests ω bytes sheet) ≡ none → ran ω bytes sheet ≡ failed (Thrown v) s
-      → Ends ω bytes sheet output (record { response = responding (thrown v) (sheetOf sheet) s; world = ω; output = output })
-  short : {a : Result × Store} {s : State} → firstFailing (recordTests ω bytes sheet) ≡ none → ran ω bytes sheet ≡ done a s → outputHolds (a .0) output ≡ false
+  refuses : {n : ℕ} {s : State} {σ : Store} → firstFailing (recordTests ω bytes sheet) ≡ none → ran ω bytes sheet ≡ (failed (Refused n) s, σ) → Ends ω bytes sheet output (refusing n ω output)
+  errs : {n : ℕ} {s : State} {σ : Store} → firstFailing (recordTests ω bytes sheet) ≡ none → ran ω bytes sheet ≡ (failed (TypeError n) s, σ)
+      → Ends ω bytes sheet output (record { response = responding (typeError n) (sheetOf sheet) s; world = withStore ω σ; output = output })
+  throws : {v : Value} {s : State} {σ : Store} → firstFailing (recordTests ω bytes sheet) ≡ none → ran ω bytes sheet ≡ (failed (Thrown v) s, σ)
+      → Ends ω bytes sheet output (record { response = responding (thrown v) (sheetOf sheet) s; world = withStore ω σ; output = output })
+  short : {r : Result} {s : State} {σ : Store} → firstFailing (recordTests ω bytes sheet) ≡ none → ran ω bytes sheet ≡ (done r s, σ) → outputHolds r output ≡ false
       → Ends ω bytes sheet output (refusing 11 ω output)
-  results : {a : Result × Store} {s : State} → firstFailing (recordTests ω bytes sheet) ≡ none → ran ω bytes sheet ≡ done a s → outputHolds (a .0) output ≡ true
-      → Ends ω bytes sheet output (record { response = responding (result (a .0)) (sheetOf sheet) s; world = withStore ω (a .1); output = outputAfter (a .0) output })
+  results : {r : Result} {s : State} {σ : Store} → firstFailing (recordTests ω bytes sheet) ≡ none → ran ω bytes sheet ≡ (done r s, σ) → outputHolds r output ≡ true
+      → Ends ω bytes sheet output (record { response = responding (result r) (sheetOf sheet) s; world = withStore ω σ; output = outputAfter r output })
 
 module _ (ω : World) (bytes sheet output : List ℕ) where
   -- a step by its tests and its run
-  pub step-is : (t : Option ℕ) (x : Out (Result × Store)) → firstFailing (recordTests ω bytes sheet) ≡ t → ran ω bytes sheet ≡ x
+  pub step-is : (t : Option ℕ) (x : Ran Result) → firstFailing (recordTests ω bytes sheet) ≡ t → ran ω bytes sheet ≡ x
       → step ω bytes sheet output ≡ tested ω (sheetOf sheet) output x t
   unfolding step
   step-is t x e f = rw (e, f)
@@ -43,37 +44,38 @@ module _ (ω : World) (bytes sheet output : List ℕ) where
   unfolding step
   ends = by-tests (firstFailing (recordTests ω bytes sheet)) refl
     where
-      by-room : (a : Result × Store) (s : State) (b : Bool) → outputHolds (a .0) output ≡ b → firstFailing (recordTests ω bytes sheet) ≡ none → ran ω bytes sheet ≡ done a s
-          → Ends ω bytes sheet output (completed ω (sheetOf sheet) output a s b)
-      by-room a s false h p e = short p e h
-      by-room a s true h p e = results p e h
+      by-room : (r : Result) (s : State) (σ : Store) (b : Bool) → outputHolds r output ≡ b → firstFailing (recordTests ω bytes sheet) ≡ none → ran ω bytes sheet ≡ (done r s, σ)
+          → Ends ω bytes sheet output (completed ω (sheetOf sheet) output σ r s b)
+      by-room r s σ false h p e = short p e h
+      by-room r s σ true h p e = results p e h
 
-      by-run : (x : Out (Result × Store)) → ran ω bytes sheet ≡ x → firstFailing (recordTests ω bytes sheet) ≡ none → Ends ω bytes sheet output (ended ω (sheetOf sheet) output x)
-      by-run (failed (Refused n) s) e p = refuses p e
-      by-run (failed (TypeError n) s) e p = errs p e
-      by-run (failed (Thrown v) s) e p = throws p e
-      by-run (done a s) e p = by-room a s (outputHolds (a .0) output) refl p e
+      by-run : (x : Out Result) (σ : Store) → ran ω bytes sheet ≡ (x, σ) → firstFailing (recordTests ω bytes sheet) ≡ none → Ends ω bytes sheet output (ended ω (sheetOf sheet) output (x, σ))
+      by-run (failed (Refused n) s) σ e p = refuses p e
+      by-run (failed (TypeError n) s) σ e p = errs p e
+      by-run (failed (Thrown v) s) σ e p = throws p e
+      by-run (done r s) σ e p = by-room r s σ (outputHolds r output) refl p e
 
       by-tests : (t : Option ℕ) → firstFailing (recordTests ω bytes sheet) ≡ t → Ends ω bytes sheet output (tested ω (sheetOf sheet) output (ran ω bytes sheet) t)
       by-tests (some n) p = inadmissible p
-      by-tests none p = by-run (ran ω bytes sheet) refl p
+      by-tests none p = by-run (ran ω bytes sheet .0) (ran ω bytes sheet .1) refl p
 
-  -- what holds of the store before a step, and of the store that a run gives, holds of the store after it
-  pub kept-by : (P : Store → Type 0) → P (ω .store) → ((a : Result × Store) (s : State) → firstFailing (recordTests ω bytes sheet) ≡ none → ran ω bytes sheet ≡ done a s → P (a .1))
+  -- what holds of the store before a step, and of the store that its run left, holds of the store after it
+  pub kept-by : (P : Store → Type 0) → P (ω .store) → (firstFailing (recordTests ω bytes sheet) ≡ none → P (ran ω bytes sheet .1))
       → {x : Effect} → Ends ω bytes sheet output x → P (x .world .store)
   kept-by P h f (inadmissible p) = h
   kept-by P h f (refuses p e) = h
-  kept-by P h f (errs p e) = h
-  kept-by P h f (throws p e) = h
+  kept-by P h f (errs p e) = subst (λ (x : Ran Result). P (x .1)) e (f p)
+  kept-by P h f (throws p e) = subst (λ (x : Ran Result). P (x .1)) e (f p)
   kept-by P h f (short p e q) = h
-  kept-by P h f (results {a = a} {s = s} p e q) = f a s p e
+  kept-by P h f (results p e q) = subst (λ (x : Ran Result). P (x .1)) e (f p)
 
 -- the step was run to this result, and left this world
 pub record Resulted (ω : World) (bytes sheet : List ℕ) (x : Effect) (r : Result) : Type 0 where
   pub store : Store
   pub rest : State
-  pub runs : ran ω bytes sheet ≡ done (r, store) rest
+  pub runs : ran ω bytes sheet ≡ (done r rest, store)
   pub world : x .world ≡ withStore ω store
+  pub passes : firstFailing (recordTests ω bytes sheet) ≡ none
 
 pub resulted : {ω : World} {bytes sheet output : List ℕ} {x : Effect} (r : Result) → Ends ω bytes sheet output x → x .response .ending ≡ result r → Resulted ω bytes sheet x r
 resulted r (inadmissible {n = n} p) h = let g : refused n ≡ result r = h in absurd (false≢true cc)
@@ -81,10 +83,10 @@ resulted r (refuses {n = n} p e) h = let g : refused n ≡ result r = h in absur
 resulted r (errs {n = n} p e) h = let g : typeError n ≡ result r = h in absurd (false≢true cc)
 resulted r (throws {v = v} p e) h = let g : thrown v ≡ result r = h in absurd (false≢true cc)
 resulted r (short p e q) h = let g : refused 11 ≡ result r = h in absurd (false≢true cc)
-resulted r (results {a = a} {s = s} p e q) h =
-    let g : result (a .0) ≡ result r = h in
-    let i : a .0 ≡ r = cc in
-    record { store = a .1; rest = s; runs = e ∙ ap (λ (y : Result). done (y, a .1) s) i; world = refl }
+resulted r (results {r = a} {s = s} {σ = σ} p e q) h =
+    let g : result a ≡ result r = h in
+    let i : a ≡ r = cc in
+    record { store = σ; rest = s; runs = e ∙ ap (λ (y : Result). (done y s, σ)) i; world = refl; passes = p }
 
 -- the calls made and the calls left are all that a step may make
 pub calls-counted : (e : Ending) (answers : List Answer) (s : State) → s .calls ≤ maximumCalls → responding e answers s .calls + s .calls ≡ maximumCalls

@@ -1,7 +1,7 @@
 -- In every world of a list of calls, the bound on the walk of 10.1.2.1 step 7 never decides. Assumes nothing.
 use Prim.Native.Nat.{ℕ, _≤_}
 use mathlib.Core.Path.{_≡_, refl}
-use mathlib.Core.Bool.{true, false, false≢true}
+use mathlib.Core.Bool.{Bool, true, false, false≢true}
 use mathlib.Core.Option.{Option, none, some}
 use mathlib.Core.List.{List}
 use lib.ListN.{length}
@@ -10,16 +10,19 @@ use Rattle.value.specs.Value.{objectOf}
 use Rattle.store.specs.declared.Object.{Object}
 use Rattle.store.specs.declared.Object.the-variants.{Ordinary, Proxy}
 use Rattle.store.specs.Store.{Store, World, empty, lookup}
-use Rattle.internal_methods.specs.Monad.{M}
+use Rattle.internal_methods.specs.Monad.{State, Out, M}
 use Rattle.internal_methods.specs.Methods.{Context, Written}
 use Rattle.internal_methods.specs.Ordinary.{reaches}
 use Rattle.internal_methods.proofs.Ensures.{Ensures, ensures-pure, ensures-fails, ensures-bind, ensures-if, ensures-then}
 use Rattle.internal_methods.proofs.StoreClosed.{MadeValue, MadeObject}
 use Rattle.internal_methods.proofs.Chain.{Chain, value, Ends, proxies-alike, walk-enough, ends-put, ends-add, setPrototypeOf-ends, preventExtensions-ends, defineOwnProperty-ends, set-ends, delete-ends}
-use Rattle.steps.specs.Operation.{Operation, makeObject, makeProxy, revoke, getPrototypeOf, setPrototypeOf, isExtensible, preventExtensions, getOwnProperty, defineOwnProperty, hasProperty, get, set, delete, ownPropertyKeys, asked}
-use Rattle.steps.specs.Perform.{Result, keys, ownResult, boolean, reading, writing, make, revoked, maximumCalls, perform}
+use Rattle.steps.specs.Operation.{Level, Operation, makeObject, makeProxy, revoke, getPrototypeOf, setPrototypeOf, isExtensible, preventExtensions, getOwnProperty, defineOwnProperty, hasProperty, get, set, delete, ownPropertyKeys, setIntegrityLevel, testIntegrityLevel, asked}
+use Rattle.steps.specs.Sequence.{written}
+use Rattle.steps.specs.Perform.{Result, keys, ownResult, boolean, once, inTurn, reading, writing, make, revoked, maximumCalls, perform}
 use Rattle.steps.specs.Step.{contextOf, ran}
 use Rattle.steps.specs.Run.{Call, worldAt}
+use Rattle.steps.proofs.Sequences.{Led, leads-pure, leads-bind}
+use Rattle.steps.proofs.Integrity.{integrity-ends}
 use Rattle.steps.proofs.Made.{MadeOperation, names-made}
 use Rattle.steps.proofs.Places.{Gives, gives, kept-from}
 
@@ -28,27 +31,49 @@ use Rattle.steps.proofs.Places.{Gives, gives, kept-from}
 abbrev EndsIn : Result × Store → Type 0
 EndsIn a = Ends (a .1)
 
+-- a run that writes at most once
+once-ends : (σ : Store) → Ends σ → (m : M (Result × Store)) → Ensures m EndsIn → (s : State) → Ends (once σ m .run s .1)
+unfolding once
+once-ends σ h m e s = go (m .run s) refl
+  where
+    go : (x : Out (Result × Store)) → m .run s ≡ x → Ends (written σ x .1)
+    go (Out.failed f t) i = h
+    go (Out.done a t) i = e .at s a t i
+
 module _ (c : Context) (h : Ends (c .store)) where
-  reads : {A : Type 0} (result : A → Result) (m : M A) → Ensures (reading (c .store) result m) EndsIn
-  reads result m = ensures-then m (λ a. ensures-pure _ h)
+  reads : {A : Type 0} (result : A → Result) (m : M A) (s : State) → Ends (once (c .store) (reading (c .store) result m) .run s .1)
+  reads result m = once-ends (c .store) h _ (ensures-then m (λ a. ensures-pure _ h))
 
-  writes : (m : M Written) → Ensures m (λ a. Ends (a .1)) → Ensures (writing m) EndsIn
-  writes m e = ensures-bind e (λ a k. ensures-pure _ k)
+  writes : (m : M Written) → Ensures m (λ a. Ends (a .1)) → (s : State) → Ends (once (c .store) (writing m) .run s .1)
+  writes m e = once-ends (c .store) h _ (ensures-bind e (λ a k. ensures-pure _ k))
 
-  makes : (x : Object) → MadeObject (c .store) x → Ensures (make (c .store) x) EndsIn
+  makes : (x : Object) → MadeObject (c .store) x → (s : State) → Ends (once (c .store) (make (c .store) x) .run s .1)
   unfolding make
-  makes x m = ensures-if _ (λ _. ensures-pure _ (ends-add (c .store) x m h)) (λ _. ensures-fails _)
+  makes x m = once-ends (c .store) h _ (ensures-if _ (λ _. ensures-pure _ (ends-add (c .store) x m h)) (λ _. ensures-fails _))
 
   revokes : (o : ℕ) (x : Option Object) → lookup (c .store) o ≡ x → Ends (revoked (c .store) o x)
   revokes o none e = h
   revokes o (some (Ordinary r)) e = h
   revokes o (some (Proxy p)) e = ends-put (c .store) o _ _ e proxies-alike h
 
-  perform-ends : (n : ℕ) (asks : Operation) → MadeOperation (c .store) asks → Ensures (perform n c asks) EndsIn
+  -- what writes as it goes
+  sets : (n o : ℕ) (level : Level) (s : State) → Ends (perform n c (setIntegrityLevel o level) .run s .1)
+  unfolding perform inTurn
+  sets n o level s = go (leads-bind (integrity-ends n c o level) (λ b. leads-pure (boolean b) (λ σ q. by σ b q)) .from (c .store) h s)
+    where
+      by : (τ : Store) (b : Bool) → (b ≡ true → Ends τ) × (b ≡ false → Ends τ) → Ends τ
+      by τ true q = q .0 refl
+      by τ false q = q .1 refl
+
+      go : {x : Out Result} {τ : Store} → Led (λ r υ. Ends υ) (λ f υ. Ends υ) x τ → Ends τ
+      go (Led.failed e) = e
+      go (Led.done e) = e
+
+  perform-ends : (n : ℕ) (asks : Operation) → MadeOperation (c .store) asks → (s : State) → Ends (perform n c asks .run s .1)
   unfolding perform
   perform-ends n (makeObject v) m = makes _ m
   perform-ends n (makeProxy o traps) m = makes _ m
-  perform-ends n (revoke o) m = ensures-pure _ (revokes o (lookup (c .store) o) refl)
+  perform-ends n (revoke o) m = once-ends (c .store) h _ (ensures-pure _ (revokes o (lookup (c .store) o) refl))
   perform-ends n (getPrototypeOf o) m = reads _ _
   perform-ends n (setPrototypeOf o v) m = writes _ (setPrototypeOf-ends c h n o v (m .1))
   perform-ends n (isExtensible o) m = reads boolean _
@@ -60,12 +85,14 @@ module _ (c : Context) (h : Ends (c .store)) where
   perform-ends n (set o k v receiver) m = writes _ (set-ends c h n o k v receiver)
   perform-ends n (delete o k) m = writes _ (delete-ends c h n o k)
   perform-ends n (ownPropertyKeys o) m = reads keys _
+  perform-ends n (setIntegrityLevel o level) m = sets n o level
+  perform-ends n (testIntegrityLevel o level) m = reads boolean _
 
 -- Calls ---------------------------------------------------------------------------------
 
 given-ends : (ω : World) → Ends (ω .store) → (σ : Store) → Gives ω σ → Ends σ
 unfolding ran
-given-ends ω h σ (gives bytes sheet a s p e) = perform-ends (contextOf ω) h maximumCalls (asked bytes) (names-made ω bytes sheet p .operation) .at _ a s e
+given-ends ω h σ (gives bytes sheet p) = perform-ends (contextOf ω) h maximumCalls (asked bytes) (names-made ω bytes sheet p .operation) _
 
 ends-empty : Ends (empty .store)
 unfolding lookup

@@ -1,4 +1,7 @@
 pub mod Operation
+pub mod Sequence
+pub mod SetIntegrityLevel
+pub mod TestIntegrityLevel
 pub mod Perform
 pub mod Response
 pub mod Step

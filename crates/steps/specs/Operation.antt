@@ -16,6 +16,11 @@ use Rattle.property.specs.Descriptor.{toPropertyDescriptor}
 use Rattle.record.specs.declared.Step.{Step}
 use Rattle.record.specs.Step.{stepOf}
 
+-- 7.3.15 and 7.3.16: sealed or frozen
+pub data Level : Type 0 where
+  sealed : Level
+  frozen : Level
+
 -- the object comes first, and the receiver last
 pub data Operation : Type 0 where
   makeObject : Value → Operation
@@ -32,6 +37,8 @@ pub data Operation : Type 0 where
   set : ℕ → PropertyKey → Value → Value → Operation
   delete : ℕ → PropertyKey → Operation
   ownPropertyKeys : ℕ → Operation
+  setIntegrityLevel : ℕ → Level → Operation
+  testIntegrityLevel : ℕ → Level → Operation
 
 -- codes 1 and 2
 abbrev pub makesObject : Operation → Bool
@@ -49,32 +56,57 @@ makesObject (get o k receiver) = false
 makesObject (set o k v receiver) = false
 makesObject (delete o k) = false
 makesObject (ownPropertyKeys o) = false
+makesObject (setIntegrityLevel o level) = false
+makesObject (testIntegrityLevel o level) = false
+
+-- code 18, whose writes are made one after another
+abbrev pub writesInTurn : Operation → Bool
+writesInTurn (makeObject v) = false
+writesInTurn (makeProxy o traps) = false
+writesInTurn (revoke o) = false
+writesInTurn (getPrototypeOf o) = false
+writesInTurn (setPrototypeOf o v) = false
+writesInTurn (isExtensible o) = false
+writesInTurn (preventExtensions o) = false
+writesInTurn (getOwnProperty o k) = false
+writesInTurn (defineOwnProperty o k d) = false
+writesInTurn (hasProperty o k) = false
+writesInTurn (get o k receiver) = false
+writesInTurn (set o k v receiver) = false
+writesInTurn (delete o k) = false
+writesInTurn (ownPropertyKeys o) = false
+writesInTurn (setIntegrityLevel o level) = true
+writesInTurn (testIntegrityLevel o level) = false
 
 -- the key that a value is; one that is none is refused before it is asked for
 abbrev pub keyOrFirst : Option PropertyKey → PropertyKey
 keyOrFirst none = String 0
 keyOrFirst (some k) = k
 
--- the trap mask that a value is; one that is none is refused before it is asked for
-abbrev pub maskNumber : ℤ → ℕ
-maskNumber (pos n) = n
-maskNumber (negsuc n) = 0
+-- the natural number that a value is; one that is none is refused before it is asked for
+abbrev pub naturalNumber : ℤ → ℕ
+naturalNumber (pos n) = n
+naturalNumber (negsuc n) = 0
 
-abbrev pub maskOf : Value → ℕ
-maskOf value.Undefined = 0
-maskOf value.Null = 0
-maskOf (value.Boolean b) = 0
-maskOf (value.Integer32 n) = maskNumber n
-maskOf (value.Float64 x) = 0
-maskOf (value.String s) = 0
-maskOf (value.Symbol s) = 0
-maskOf (value.Object o) = 0
-maskOf (value.Function f) = 0
+abbrev pub naturalOf : Value → ℕ
+naturalOf value.Undefined = 0
+naturalOf value.Null = 0
+naturalOf (value.Boolean b) = 0
+naturalOf (value.Integer32 n) = naturalNumber n
+naturalOf (value.Float64 x) = 0
+naturalOf (value.String s) = 0
+naturalOf (value.Symbol s) = 0
+naturalOf (value.Object o) = 0
+naturalOf (value.Function f) = 0
+
+-- 0 is sealed, and 1 frozen
+abbrev pub levelOf : Value → Level
+levelOf v = pick (eqb (naturalOf v) 1) frozen sealed
 
 abbrev pub byCode : ℕ → ℕ → PropertyKey → Value → Value → PropertyDescriptor → Operation
 byCode code o k v receiver d =
     pick (eqb code 1) (makeObject v)
-    (pick (eqb code 2) (makeProxy o (maskOf v))
+    (pick (eqb code 2) (makeProxy o (naturalOf v))
     (pick (eqb code 3) (revoke o)
     (pick (eqb code 4) (getPrototypeOf o)
     (pick (eqb code 5) (setPrototypeOf o v)
@@ -86,7 +118,9 @@ byCode code o k v receiver d =
     (pick (eqb code 11) (get o k receiver)
     (pick (eqb code 12) (set o k v receiver)
     (pick (eqb code 13) (delete o k)
-    (ownPropertyKeys o)))))))))))))
+    (pick (eqb code 14) (ownPropertyKeys o)
+    (pick (eqb code 18) (setIntegrityLevel o (levelOf v))
+    (testIntegrityLevel o (levelOf v))))))))))))))))
 
 unfoldable pub operationOf : Step → Operation
 operationOf s = byCode (s .code) (s .object) (keyOrFirst (keyOf (s .key))) (s .value) (s .receiver) (toPropertyDescriptor (s .descriptor))

@@ -1,6 +1,6 @@
 -- What each operation does to the store, and its result. Assumes nothing.
 use Prim.Native.Nat.{ℕ}
-use mathlib.Core.Bool.{Bool, true, false, not}
+use mathlib.Core.Bool.{Bool, true, false}
 use mathlib.Core.Option.{Option, none, some}
 use mathlib.Core.List.{List}
 use lib.Dec.{ltb}
@@ -15,10 +15,13 @@ use Rattle.store.specs.declared.Object.{Object}
 use Rattle.store.specs.declared.Object.the-variants.{Ordinary, Proxy}
 use Rattle.store.specs.Store.{Store, lookup, put, add, maximumObjects}
 use Rattle.internal_methods.specs.declared.Failure.the-variants.{Refused}
-use Rattle.internal_methods.specs.Monad.{M, pure, fails, _>>=_, _>>_, if_then_else_}
+use Rattle.internal_methods.specs.Monad.{State, M, pure, fails, _>>=_, _>>_, if_then_else_}
 use Rattle.internal_methods.specs.Methods.{Context, Written}
 use Rattle.internal_methods.specs.Internal.{methods}
-use Rattle.steps.specs.Operation.{Operation, makeObject, makeProxy, revoke, getPrototypeOf, setPrototypeOf, isExtensible, preventExtensions, getOwnProperty, defineOwnProperty, hasProperty, get, set, delete, ownPropertyKeys}
+use Rattle.steps.specs.Operation.{Operation, makeObject, makeProxy, revoke, getPrototypeOf, setPrototypeOf, isExtensible, preventExtensions, getOwnProperty, defineOwnProperty, hasProperty, get, set, delete, ownPropertyKeys, setIntegrityLevel, testIntegrityLevel}
+use Rattle.steps.specs.Sequence.{Ran, Sequence, written, giving}
+use Rattle.steps.specs.SetIntegrityLevel
+use Rattle.steps.specs.TestIntegrityLevel
 
 pub data Result : Type 0 where
   value : Value → Result
@@ -36,6 +39,18 @@ ownResult (Present p) = descriptor p
 
 abbrev pub boolean : Bool → Result
 boolean b = value (language.Boolean b)
+
+-- how an operation runs: its end, and the store after it
+pub record Run : Type 0 where
+  pub run : State → Ran Result
+
+-- one that writes at most once, when it is done
+unfoldable pub once : Store → M (Result × Store) → Run
+once σ m = record { run = λ s. written σ (m .run s) }
+
+-- one that writes as it goes
+unfoldable pub inTurn : Store → Sequence Result → Run
+inTurn σ m = record { run = λ s. m .run σ s }
 
 -- a result that leaves the store as it is
 abbrev pub reading : {A : Type 0} → Store → (A → Result) → M A → M (Result × Store)
@@ -55,19 +70,26 @@ revoked σ o none = σ
 revoked σ o (some (Ordinary r)) = σ
 revoked σ o (some (Proxy p)) = put σ o (Proxy (record { target = p .target; traps = p .traps; revoked = true }))
 
+-- the same strings and allowance, over another store
+abbrev pub over : Context → Store → Context
+over c σ = record { store = σ; strings = c .strings; allowance = c .allowance }
+
 -- `depth` bounds how deep methods call one another
-unfoldable pub perform : ℕ → Context → Operation → M (Result × Store)
-perform depth c (makeObject v) = make (c .store) (Ordinary (record { prototype = v; extensible = true }))
-perform depth c (makeProxy o traps) = make (c .store) (Proxy (record { target = o; traps = traps; revoked = false }))
-perform depth c (revoke o) = pure (boolean true, revoked (c .store) o (lookup (c .store) o))
-perform depth c (getPrototypeOf o) = reading (c .store) value (methods depth c .getPrototypeOf o)
-perform depth c (setPrototypeOf o v) = writing (methods depth c .setPrototypeOf o v)
-perform depth c (isExtensible o) = reading (c .store) boolean (methods depth c .isExtensible o)
-perform depth c (preventExtensions o) = writing (methods depth c .preventExtensions o)
-perform depth c (getOwnProperty o k) = reading (c .store) ownResult (methods depth c .getOwnProperty o k)
-perform depth c (defineOwnProperty o k d) = writing (methods depth c .defineOwnProperty o k d)
-perform depth c (hasProperty o k) = reading (c .store) boolean (methods depth c .hasProperty o k)
-perform depth c (get o k receiver) = reading (c .store) value (methods depth c .get o k receiver)
-perform depth c (set o k v receiver) = writing (methods depth c .set o k v receiver)
-perform depth c (delete o k) = writing (methods depth c .delete o k)
-perform depth c (ownPropertyKeys o) = reading (c .store) keys (methods depth c .ownPropertyKeys o)
+unfoldable pub perform : ℕ → Context → Operation → Run
+perform depth c (makeObject v) = once (c .store) (make (c .store) (Ordinary (record { prototype = v; extensible = true })))
+perform depth c (makeProxy o traps) = once (c .store) (make (c .store) (Proxy (record { target = o; traps = traps; revoked = false })))
+perform depth c (revoke o) = once (c .store) (pure (boolean true, revoked (c .store) o (lookup (c .store) o)))
+perform depth c (getPrototypeOf o) = once (c .store) (reading (c .store) value (methods depth c .getPrototypeOf o))
+perform depth c (setPrototypeOf o v) = once (c .store) (writing (methods depth c .setPrototypeOf o v))
+perform depth c (isExtensible o) = once (c .store) (reading (c .store) boolean (methods depth c .isExtensible o))
+perform depth c (preventExtensions o) = once (c .store) (writing (methods depth c .preventExtensions o))
+perform depth c (getOwnProperty o k) = once (c .store) (reading (c .store) ownResult (methods depth c .getOwnProperty o k))
+perform depth c (defineOwnProperty o k d) = once (c .store) (writing (methods depth c .defineOwnProperty o k d))
+perform depth c (hasProperty o k) = once (c .store) (reading (c .store) boolean (methods depth c .hasProperty o k))
+perform depth c (get o k receiver) = once (c .store) (reading (c .store) value (methods depth c .get o k receiver))
+perform depth c (set o k v receiver) = once (c .store) (writing (methods depth c .set o k v receiver))
+perform depth c (delete o k) = once (c .store) (writing (methods depth c .delete o k))
+perform depth c (ownPropertyKeys o) = once (c .store) (reading (c .store) keys (methods depth c .ownPropertyKeys o))
+perform depth c (setIntegrityLevel o level) =
+    inTurn (c .store) (giving boolean (SetIntegrityLevel.setIntegrityLevel (λ σ. methods depth (over c σ)) o level))
+perform depth c (testIntegrityLevel o level) = once (c .store) (reading (c .store) boolean (TestIntegrityLevel.testIntegrityLevel (methods depth c) o level))

@@ -19,6 +19,7 @@ use Rattle.record.specs.Tests.{Counts, isMade, isKnown, isDescriptor, firstFail
 use Rattle.record.specs.Step.{stepOf, isStep, areObjectsMade, areKindsUsable}
 use Rattle.record.specs.Sheet.{sheetOf, isSheet, sheetPasses}
 use Rattle.steps.specs.Operation.{asked}
+use Rattle.steps.specs.Sequence.{Ran}
 use Rattle.steps.specs.Perform.{Result, value, descriptor, absent, keys, maximumCalls, perform}
 use Rattle.steps.specs.Response.{Ending, refused, result, typeError, thrown, Response, refusal, Effect}
 
@@ -81,34 +82,38 @@ abbrev pub withStore : World → Store → World
 withStore ω σ = record { store = σ; strings = ω .strings }
 
 -- a result, unless the output cannot hold its keys
-abbrev pub completed : World → List Answer → List ℕ → Result × Store → State → Bool → Effect
-completed ω answers output a s false = refusing 11 ω output
-completed ω answers output a s true = record {
-  response = responding (result (a .0)) answers s;
-  world = withStore ω (a .1);
-  output = outputAfter (a .0) output;
+abbrev pub completed : World → List Answer → List ℕ → Store → Result → State → Bool → Effect
+completed ω answers output σ r s false = refusing 11 ω output
+completed ω answers output σ r s true = record {
+  response = responding (result r) answers s;
+  world = withStore ω σ;
+  output = outputAfter r output;
 }
 
-abbrev pub ended : World → List Answer → List ℕ → Out (Result × Store) → Effect
-ended ω answers output (failed (Refused n) s) = refusing n ω output
-ended ω answers output (failed (TypeError n) s) = record { response = responding (typeError n) answers s; world = ω; output = output }
-ended ω answers output (failed (Thrown v) s) = record { response = responding (thrown v) answers s; world = ω; output = output }
-ended ω answers output (done a s) = completed ω answers output a s (outputHolds (a .0) output)
+-- a refusal brings back the store from before; any other end leaves the store that the run left
+abbrev pub endedWith : World → List Answer → List ℕ → Store → Out Result → Effect
+endedWith ω answers output σ (failed (Refused n) s) = refusing n ω output
+endedWith ω answers output σ (failed (TypeError n) s) = record { response = responding (typeError n) answers s; world = withStore ω σ; output = output }
+endedWith ω answers output σ (failed (Thrown v) s) = record { response = responding (thrown v) answers s; world = withStore ω σ; output = output }
+endedWith ω answers output σ (done r s) = completed ω answers output σ r s (outputHolds r output)
+
+abbrev pub ended : World → List Answer → List ℕ → Ran Result → Effect
+ended ω answers output x = endedWith ω answers output (x .1) (x .0)
 
 -- the run of a step whose records passed their tests
-unfoldable pub ran : World → List ℕ → List ℕ → Out (Result × Store)
+unfoldable pub ran : World → List ℕ → List ℕ → Ran Result
 ran ω bytes sheet = perform maximumCalls (contextOf ω) (asked bytes) .run (state (sheetOf sheet) maximumCalls)
 
 -- the same step with another allowance of properties, other answers and another budget of calls
-abbrev pub runWith : World → List ℕ → ℕ → List Answer → ℕ → Out (Result × Store)
+abbrev pub runWith : World → List ℕ → ℕ → List Answer → ℕ → Ran Result
 runWith ω bytes allowance answers calls = perform calls (record { store = ω .store; strings = ω .strings; allowance = allowance }) (asked bytes) .run (state answers calls)
 
 -- the calls that a run made of its budget
-abbrev pub callsMade : ℕ → Out (Result × Store) → ℕ
+abbrev pub callsMade : ℕ → Out Result → ℕ
 callsMade budget (failed f s) = budget - s .calls
-callsMade budget (done a s) = budget - s .calls
+callsMade budget (done r s) = budget - s .calls
 
-abbrev pub tested : World → List Answer → List ℕ → Out (Result × Store) → Option ℕ → Effect
+abbrev pub tested : World → List Answer → List ℕ → Ran Result → Option ℕ → Effect
 tested ω answers output run (some n) = refusing n ω output
 tested ω answers output run none = ended ω answers output run
 

@@ -1,1 +1,3 @@
 pub mod WriteLaws
+pub mod CommittedLaws
+pub mod CopyLaws

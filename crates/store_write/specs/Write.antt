@@ -107,6 +107,17 @@ pub record Becomes (after expected : List ℕ) (σ : Store) : Type 0 where
   pub store : storeOf after ≡ σ
   pub kept : isStore after ≡ true
 
+-- the words after writes, one after another
+unfoldable pub writtenAll : List Write → List ℕ → List ℕ
+writtenAll [] words = words
+writtenAll (w ∷ ws) words = writtenAll ws (writtenTo w words)
+
+-- writes were made, one after another: the words that they name have changed, and no others; they are a store still
+pub record Committed (before after : List ℕ) : Type 0 where
+  pub writes : List Write
+  pub words : after ≡ writtenAll writes before
+  pub kept : isStore after ≡ true
+
 -- the words of an empty store: only the two counts change
 abbrev pub emptied : List ℕ → List ℕ
 emptied words = cond (eqb (length words) storeSize) (set (set words 0 0) 1 0) words

@@ -1,12 +1,14 @@
-// Writing the store's words: the one write of a step.
-// write: what a write is, and objects. properties: set and add one. removal: remove one.
+// Writing the store's words, one write at a time.
+// write: what a write is, and objects. properties: set and add one. removal: remove one. copying: all the words.
 ghost use Rattle.store.specs.Words.{storeOf};
 ghost use Rattle.store_write.specs.Write.{Becomes, applied, writtenTo, fitsIn};
 
+mod copying;
 pub mod properties;
 pub mod removal;
 mod write;
 
+pub use copying::copy_words;
 pub use write::PropertyWords;
 pub use write::Write;
 pub use write::add_object;
@@ -14,7 +16,7 @@ pub use write::make_empty;
 pub use write::room;
 pub use write::set_object;
 
-// The one write of a step.
+// Makes the write.
 pub fn commit(words: &mut [u64], w: Write)
     requires { ⌜ fitsIn w (now words) ⌝ }
     ensures { λ _. ⌜ Becomes (now (words .exit)) (writtenTo w (now (words .entry))) (applied w (storeOf (now (words .entry)))) ⌝ }

@@ -10,7 +10,7 @@ use Rattle.record.specs.Sheet.{answersAt, areAnswersAt, sheetOf, isSheet, sheet
 use Rattle.record.specs.Tests.{isMade, isKnown, isDescriptor, firstFailing}
 use Rattle.record.specs.Step.{stepOf, isStep, areObjectsMade, areKindsUsable}
 use Rattle.steps.specs.Operation.{operationOf, asked}
-use Rattle.steps.specs.Perform.{make, perform}
+use Rattle.steps.specs.Perform.{once, make, perform}
 use Rattle.steps.specs.Step.{ran, step}
 use Rattle.steps.specs.StringEntry.{enterString}
 use Rattle.steps.specs.Run.{effect, runFrom, run}
@@ -21,5 +21,5 @@ use Rattle.text_form.specs.Text.{withoutEmptyLast, callsOf, rows, runTex
 use Rattle.text_form.specs.Examples.{Example, examples}
 
 pub examples-hold : map (λ (x : Example). runText (x .input)) examples ≡ map (λ (x : Example). x .output) examples
-unfolding valueOf payloadOf isFormed sameText numberOf enter pure if_then_else_ numberAt bytesOf areZero valueAt isValueAt valueBytes isPartAt descriptorAt answersAt areAnswersAt sheetOf isSheet sheetPasses isMade isKnown isDescriptor firstFailing stepOf isStep areObjectsMade areKindsUsable operationOf asked make perform ran step enterString effect runFrom run pieces digitOf bytesIn unitsOf isDash someBytesIn partIn sheetIn textIn allOf columnsOf recordIn callIn decimalWithin hexadecimal rowOf withoutEmptyLast callsOf rows runText
+unfolding valueOf payloadOf isFormed sameText numberOf enter pure if_then_else_ numberAt bytesOf areZero valueAt isValueAt valueBytes isPartAt descriptorAt answersAt areAnswersAt sheetOf isSheet sheetPasses isMade isKnown isDescriptor firstFailing stepOf isStep areObjectsMade areKindsUsable operationOf asked once make perform ran step enterString effect runFrom run pieces digitOf bytesIn unitsOf isDash someBytesIn partIn sheetIn textIn allOf columnsOf recordIn callIn decimalWithin hexadecimal rowOf withoutEmptyLast callsOf rows runText
 examples-hold = refl

@@ -55,7 +55,7 @@ step-told l (refuses p e) = record { held = tt; bytes = refl }
 step-told l (errs p e) = record { held = tt; bytes = refl }
 step-told l (throws p e) = record { held = tt; bytes = refl }
 step-told l (short p e h) = record { held = tt; bytes = refl }
-step-told {output = output} l (results {a = a} p e h) = let t = result-told (a .0) output l h in record { held = t .0; bytes = t .1 }
+step-told {output = output} l (results {r = r} p e h) = let t = result-told r output l h in record { held = t .0; bytes = t .1 }
 
 entry-told : {ω : World} {units : List ℕ} {x : Effect} → EntryEnds ω units x → Told x
 entry-told (entry.refuses e) = record { held = tt; bytes = refl }

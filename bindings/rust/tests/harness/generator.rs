@@ -115,6 +115,13 @@ impl Generator {
         }
     }
 
+    /// An object to seal or freeze: often a proxy over one that has properties.
+    fn closing(&mut self, world: &World) -> usize {
+        let likely = |o: &usize| matches!(world.objects[*o], Object::Proxy { .. }) && world.ordinary(world.base(*o)).properties.len() > 1;
+        let tried: Vec<usize> = (0..1 + self.random.below(8)).map(|_| self.object(world) as usize).collect();
+        tried.iter().copied().find(likely).unwrap_or(tried[0])
+    }
+
     fn key(&mut self, world: &World) -> Key {
         let n = self.habits.keys;
         if world.strings.is_empty() || self.random.once_in(3) {
@@ -210,7 +217,7 @@ impl Generator {
 
     /// An answer to what was asked.
     fn answer(&mut self, world: &World, asked: Asked) -> Answer {
-        if self.random.once_in(40) {
+        if self.random.once_in(7 * self.habits.wild) {
             return Answer::Throw(self.value(world));
         }
         if self.random.once_in(self.habits.wild) {
@@ -267,13 +274,17 @@ impl Generator {
         if self.random.once_in(150) {
             return 3;
         }
-        self.random.pick(&[4, 5, 6, 7, 8, 8, 9, 9, 9, 9, 9, 10, 10, 11, 11, 12, 12, 12, 13, 14, 14])
+        self.random.pick(&[4, 5, 6, 7, 8, 8, 9, 9, 9, 9, 9, 10, 10, 11, 11, 12, 12, 12, 13, 14, 14, 18, 19])
     }
 
     /// A step that the world can take, but for seldom an object to revoke that is no proxy, and the like.
     pub fn step(&mut self, world: &World) -> Step {
         let code = self.code(world);
-        let object = if code == 1 { 0 } else { self.object(world) as usize };
+        let object = match code {
+            1 => 0,
+            18 | 19 => self.closing(world),
+            _ => self.object(world) as usize,
+        };
         let mut step =
             Step { code, object, key: Value::Undefined, value: Value::Undefined, receiver: Value::Undefined, descriptor: Descriptor::default() };
         if (8..=13).contains(&code) {
@@ -288,10 +299,12 @@ impl Generator {
                 }
             }
             2 => {
-                let traps = match self.random.below(4) {
+                let traps = match self.random.below(5) {
                     0 => 0,
                     1 => 1 << self.random.below(11),
                     2 => 2047,
+                    // neither preventExtensions nor defineProperty: it can be frozen key by key
+                    3 => self.random.below(2048) as i32 & !(8 + 32),
                     _ => self.random.below(2048) as i32,
                 };
                 step.value = Value::Integer32(traps);
@@ -316,6 +329,13 @@ impl Generator {
                     };
                 }
             }
+            18 | 19 => {
+                step.value = match self.random.below(30) {
+                    0 => Value::Integer32(self.random.pick(&[2, -1, 3, 256, i32::MIN])),
+                    1 => self.value(world),
+                    n => Value::Integer32((n % 2) as i32),
+                };
+            }
             _ => {}
         }
         step
@@ -323,12 +343,23 @@ impl Generator {
 
     /// A sheet on which the step does not run out of answers, or seldom does.
     fn sheet(&mut self, world: &World, bytes: &[u8]) -> Vec<Answer> {
+        let habits = self.habits;
+        // many answers, each of which can end it
+        if matches!(bytes[0], 18 | 19) && !self.random.once_in(3) {
+            self.habits.wild *= 20;
+        }
+        let answers = self.answers(world, bytes);
+        self.habits = habits;
+        answers
+    }
+
+    fn answers(&mut self, world: &World, bytes: &[u8]) -> Vec<Answer> {
         let mut answers = Vec::new();
         let mut output = vec![0; 9 * 256];
         while answers.len() < 64 && !self.random.once_in(60) {
             let stepped = step::step(&mut world.clone(), bytes, &sheet_bytes(&answers), &mut output);
-            let Some(asked) = stepped.wanted else { break };
-            answers.push(self.answer(world, asked));
+            let Some(wanted) = stepped.wanted else { break };
+            answers.push(self.answer(&wanted.world, wanted.asked));
         }
         if self.random.once_in(20) && answers.len() < 64 {
             answers.push(Answer::Value(self.value(world)));
@@ -354,7 +385,7 @@ impl Generator {
                 2 | 3 => bytes[at] ^= 1 << self.random.below(8),
                 4 | 5 => bytes[at] = bytes[at].wrapping_add(1),
                 6 => bytes[at] = bytes[at].wrapping_sub(1),
-                7 => bytes[at] = self.random.pick(&[0, 1, 2, 5, 6, 7, 8, 9, 14, 15, 32, 64, 65, 255]),
+                7 => bytes[at] = self.random.pick(&[0, 1, 2, 5, 6, 7, 8, 9, 14, 15, 16, 17, 18, 19, 20, 32, 64, 65, 255]),
                 8 => drop(bytes.remove(at)),
                 _ => bytes[at] = self.random.next() as u8,
             }

@@ -5,14 +5,22 @@ use crate::plain::world::World;
 use demnyaluz::lent;
 
 /// How often each outcome came, over all entries.
-#[derive(Clone, Default, Debug)]
+#[derive(Clone, Debug)]
 pub struct Tally {
     pub calls: u64,
     pub results: u64,
     pub thrown: u64,
     pub refusals: [u64; 12],
-    pub messages: [u64; 32],
-    pub codes: [u64; 15],
+    pub messages: [u64; 33],
+    pub codes: [u64; 20],
+    /// Steps of code 18 without a result that changed the store.
+    pub midway: u64,
+}
+
+impl Default for Tally {
+    fn default() -> Self {
+        Tally { calls: 0, results: 0, thrown: 0, refusals: [0; 12], messages: [0; 33], codes: [0; 20], midway: 0 }
+    }
 }
 
 impl Tally {
@@ -30,10 +38,16 @@ impl Tally {
         self.calls += other.calls;
         self.results += other.results;
         self.thrown += other.thrown;
+        self.midway += other.midway;
         let all = |mine: &mut [u64], theirs: &[u64]| mine.iter_mut().zip(theirs).for_each(|(a, b)| *a += b);
         all(&mut self.refusals, &other.refusals);
         all(&mut self.messages, &other.messages);
         all(&mut self.codes, &other.codes);
+    }
+
+    /// How many steps there were of each code.
+    pub fn steps(&self) -> impl Iterator<Item = (usize, u64)> + '_ {
+        (1..=14).chain([18, 19]).map(|code| (code, self.codes[code]))
     }
 
     /// The refusals and messages that never came.
@@ -85,15 +99,23 @@ impl Pair {
         assert_eq!(report, expected, "report\n{}", input());
         assert_eq!(output, expected_output, "output\n{}", input());
         assert_eq!(self.strings, before.1, "strings\n{}", input());
-        if let Outcome::Result(_) = stepped.report.outcome {
+        let changes = match stepped.report.outcome {
+            Outcome::Result(_) => true,
+            Outcome::TypeError(_) | Outcome::Thrown(_) => bytes[0] == 18,
+            Outcome::Refused(_) => false,
+        };
+        if changes {
             let (ours, theirs) = (layout::image(&layout::world(&self.words, &self.strings)), layout::image(&self.world));
             assert_eq!(ours, theirs, "store\n{}\nlibrary {:?}\nplain {:?}", input(), layout::world(&self.words, &self.strings), self.world);
         } else {
-            assert_eq!(self.words, before.0, "words without a result\n{}", input());
+            assert_eq!(self.words, before.0, "words of a step that changes nothing\n{}", input());
         }
         self.tally.count(&stepped.report);
-        if let Some(code) = bytes.first().filter(|c| **c <= 14) {
-            self.tally.codes[*code as usize] += 1;
+        if changes && !matches!(stepped.report.outcome, Outcome::Result(_)) && self.words != before.0 {
+            self.tally.midway += 1;
+        }
+        if let Some(count) = bytes.first().and_then(|code| self.tally.codes.get_mut(usize::from(*code))) {
+            *count += 1;
         }
         stepped
     }

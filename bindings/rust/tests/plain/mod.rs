@@ -5,6 +5,7 @@
 #![allow(dead_code)]
 
 pub mod descriptor;
+pub mod integrity;
 pub mod methods;
 pub mod record;
 pub mod step;

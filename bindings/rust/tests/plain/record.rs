@@ -119,7 +119,7 @@ fn uses(code: u8) -> Option<[bool; 5]> {
         1 => [N, N, Y, N, N],
         2 => [Y, N, Y, N, N],
         3 | 4 | 6 | 7 | 14 => [Y, N, N, N, N],
-        5 => [Y, N, Y, N, N],
+        5 | 18 | 19 => [Y, N, Y, N, N],
         8 | 10 | 13 => [Y, Y, N, N, N],
         9 => [Y, Y, N, N, Y],
         11 => [Y, Y, N, Y, N],
@@ -150,6 +150,7 @@ pub fn step(bytes: &[u8]) -> Option<Step> {
     };
     match (step.code, step.value) {
         (2, Value::Integer32(mask)) if !(0..=2047).contains(&mask) => None,
+        (18 | 19, Value::Integer32(level)) if !(0..=1).contains(&level) => None,
         _ => Some(step),
     }
 }
@@ -180,7 +181,7 @@ impl Step {
         let key = !(8..=13).contains(&self.code) || Key::of(self.key).is_some();
         let value = match self.code {
             1 | 5 => matches!(self.value, Value::Null | Value::Object(_)),
-            2 => matches!(self.value, Value::Integer32(_)),
+            2 | 18 | 19 => matches!(self.value, Value::Integer32(_)),
             3 => matches!(world.objects[self.object], Object::Proxy { .. }),
             _ => true,
         };

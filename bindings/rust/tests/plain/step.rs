@@ -1,5 +1,6 @@
 //! The entries: a step, entering a string, and descriptors by themselves.
 use super::descriptor::{validate, Descriptor};
+use super::integrity::Level;
 use super::methods::{Asked, Run, Stop};
 use super::record::{self, Step};
 use super::value::{Key, Value};
@@ -45,10 +46,16 @@ impl Report {
 /// What a step leaves: its report, and what the sheet lacked where it was refused as 8.
 pub struct Stepped {
     pub report: Report,
-    pub wanted: Option<Asked>,
+    pub wanted: Option<Wanted>,
 }
 
-/// One step. World and output change only with a result.
+/// What the next answer is wanted for, and the world of that moment.
+pub struct Wanted {
+    pub asked: Asked,
+    pub world: World,
+}
+
+/// One step. The output changes only with a result, and so does the world, but for code 18: what was changed before a TypeError or a throw stays.
 pub fn step(world: &mut World, bytes: &[u8], sheet: &[u8], output: &mut [u8]) -> Stepped {
     let (step, answers) = match record::read(world, bytes, sheet) {
         Ok(read) => read,
@@ -62,7 +69,10 @@ pub fn step(world: &mut World, bytes: &[u8], sheet: &[u8], output: &mut [u8]) ->
         }
     }
     let outcome = match ended {
-        Err(Stop::Refused(n)) => return Stepped { report: Report::refused(n), wanted: run.wanted },
+        Err(Stop::Refused(n)) => {
+            let wanted = run.wanted.map(|asked| Wanted { asked, world: run.world });
+            return Stepped { report: Report::refused(n), wanted };
+        }
         Err(Stop::TypeError(n)) => Outcome::TypeError(n),
         Err(Stop::Thrown(v)) => Outcome::Thrown(v),
         Ok(completion) => {
@@ -71,10 +81,12 @@ pub fn step(world: &mut World, bytes: &[u8], sheet: &[u8], output: &mut [u8]) ->
                     place.copy_from_slice(&key.value().bytes());
                 }
             }
-            *world = run.world;
             Outcome::Result(completion)
         }
     };
+    if matches!(outcome, Outcome::Result(_)) || step.code == 18 {
+        *world = run.world;
+    }
     Stepped { report: Report { outcome, answers: run.used as u64, calls: run.calls }, wanted: None }
 }
 
@@ -120,6 +132,8 @@ fn perform(run: &mut Run, step: &Step) -> Result<Completion, Stop> {
         12 => run.set(o, key, step.value, step.receiver).map(boolean),
         13 => run.delete(o, key).map(boolean),
         14 => run.own_property_keys(o).map(Completion::Keys),
+        18 => run.set_integrity_level(o, Level::of(step.value).unwrap()).map(boolean),
+        19 => run.test_integrity_level(o, Level::of(step.value).unwrap()).map(boolean),
         _ => unreachable!(),
     }
 }

@@ -4,10 +4,10 @@ use Rattle.replay.proofs.tally.print_messages.Statement.{statement}
 use Rattle.replay.proofs.tally.print_messages.Tie as tie
 
 abbrev Inv-loop : tie.InvT-loop
-Inv-loop tally n₀ n = n ≤ 32
+Inv-loop tally n₀ n = n ≤ 33
 
 abbrev μ-loop : tie.MeasureT-loop
-μ-loop tally n₀ n = 32 - n
+μ-loop tally n₀ n = 33 - n
 
 pub print-messages-spec : {M : Type 1} → statement M
 print-messages-spec =

@@ -1,0 +1,3 @@
+pub mod SequenceLaws
+pub mod TestLaws
+pub mod KeyLaws
