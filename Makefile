@@ -86,10 +86,10 @@ lib:
 	mkdir -p target/lib
 	cp target/staticlib/libdemnyaluz.a target/lib/libdemnyaluz.a
 
-# The library through its header, by four C programs, one of them as C++ too and one under valgrind too. It needs gcc, g++ and valgrind, which is not
+# The library through its header, by five C programs, one of them as C++ too and one under valgrind too. It needs gcc, g++ and valgrind, which is not
 # asked for undefined values: it takes the sign of a word for undefined where other bits of the word are padding. The library has no other names.
 c-test: lib
-	for program in sealed text records null; do \
+	for program in sealed functions text records null; do \
 		gcc -Wall -Wextra -Wpedantic -Werror -std=c11 -O1 -fsanitize=undefined -fno-sanitize-recover=undefined -Iinclude \
 			-o target/lib/$$program tests/c/$$program.c target/lib/libdemnyaluz.a && target/lib/$$program || exit 1; \
 	done

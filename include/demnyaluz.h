@@ -1,5 +1,7 @@
 /*
- * Property descriptors, ordinary objects and proxies of ECMA-262 (2024) over a fixed store.
+ * Property descriptors, ordinary objects, functions and proxies of ECMA-262 (2024) over a fixed store.
+ *
+ * A function is an ordinary object that can be called. It has no code: a call of it takes an answer that comes with the step.
  *
  * Every function is proved against definitions written from the standard, takes memory of any content and length, and ends.
  *
@@ -25,10 +27,10 @@
  *               (two bytes, at most 256) and values. Each call of a trap, a getter or a setter takes the next answer.
  *
  * What the memory holds is read through steps. How it is laid out today, which later versions may change:
- *   words     0 objects made, 1 properties; from 2 on 32 objects of 3 words: 0 or 1 (not extensible, extensible), then the kind and payload of
- *             the prototype; or 2 or 3 (a proxy, a revoked one), then target and traps; from 98 on 256 key words: owner + 64 * string,
- *             or owner + 32 + 64 * symbol; from 354 on 256 properties of 5 words: flags, then kind and payload of value or getter and of the
- *             setter. Properties are in the order of creation.
+ *   words     0 objects made, 1 properties, 2 marks: bit o is set where object o is a function; from 3 on 32 objects of 3 words: 0 or 1 (not
+ *             extensible, extensible), then the kind and payload of the prototype; or 2 or 3 (a proxy, a revoked one), then target and traps;
+ *             from 99 on 256 key words: owner + 64 * string, or owner + 32 + 64 * symbol; from 355 on 256 properties of 5 words: flags, then
+ *             kind and payload of value or getter and of the setter. Properties are in the order of creation.
  *   strings   0 strings entered; then 256 rows: a length, and 32 code units
  */
 #ifndef DEMNYALUZ_H
@@ -44,7 +46,7 @@ extern "C" {
 #endif
 
 enum {
-    DEMNYALUZ_STORE_WORDS = 1634,
+    DEMNYALUZ_STORE_WORDS = 1635,
     DEMNYALUZ_STRING_CELLS = 8449,
     DEMNYALUZ_REPORT_WORDS = 10,
     DEMNYALUZ_VALUE_BYTES = 9,
@@ -56,7 +58,7 @@ enum {
     DEMNYALUZ_TEXT_LINE = 16384,    /* the longest line, its line feed not counted */
     DEMNYALUZ_TEXT_ROW = 4800,      /* holds every row, and the heading with row 0 */
 
-    DEMNYALUZ_MAXIMUM_OBJECTS = 32,
+    DEMNYALUZ_MAXIMUM_OBJECTS = 32, /* functions and proxies included */
     DEMNYALUZ_MAXIMUM_PROPERTIES = 256,
     DEMNYALUZ_MAXIMUM_STRINGS = 256,
     DEMNYALUZ_MAXIMUM_UNITS = 32, /* code units of a string */
@@ -93,8 +95,8 @@ enum demnyaluz_kind {
     DEMNYALUZ_KIND_FLOAT64 = 4,   /* its bits; every NaN comes back as 0x7ff8000000000000 */
     DEMNYALUZ_KIND_STRING = 5,    /* the number that entering it answered */
     DEMNYALUZ_KIND_SYMBOL = 6,    /* 0 to 255 */
-    DEMNYALUZ_KIND_OBJECT = 7,    /* the number that making it answered */
-    DEMNYALUZ_KIND_FUNCTION = 8   /* 0 to 255 */
+    DEMNYALUZ_KIND_OBJECT = 7,    /* no function: the number that making it answered */
+    DEMNYALUZ_KIND_FUNCTION = 8   /* the number that making it answered; functions and other objects share their numbers */
 };
 
 /*
@@ -111,13 +113,13 @@ enum demnyaluz_field {
     DEMNYALUZ_FIELD_SET = 32
 };
 
-/* Codes of steps, and the parts that each uses. */
+/* Codes of steps, and the parts that each uses. The object is a number alone: that of a function too, but for codes 2 and 3. */
 enum demnyaluz_code {
-    DEMNYALUZ_CODE_MAKE_OBJECT = 1,          /* value: the prototype, null or an object; answers the new object */
-    DEMNYALUZ_CODE_MAKE_PROXY = 2,           /* object: the target; value: Integer32, the traps; answers the new object */
+    DEMNYALUZ_CODE_MAKE_OBJECT = 1,          /* value: the prototype, null, an object or a function; answers the new object */
+    DEMNYALUZ_CODE_MAKE_PROXY = 2,           /* object: the target, no function; value: Integer32, the traps; answers the new object */
     DEMNYALUZ_CODE_REVOKE = 3,               /* object: a proxy; answers true */
     DEMNYALUZ_CODE_GET_PROTOTYPE_OF = 4,     /* object */
-    DEMNYALUZ_CODE_SET_PROTOTYPE_OF = 5,     /* object; value: null or an object */
+    DEMNYALUZ_CODE_SET_PROTOTYPE_OF = 5,     /* object; value: null, an object or a function */
     DEMNYALUZ_CODE_IS_EXTENSIBLE = 6,        /* object */
     DEMNYALUZ_CODE_PREVENT_EXTENSIONS = 7,   /* object */
     DEMNYALUZ_CODE_GET_OWN_PROPERTY = 8,     /* object, key */
@@ -127,6 +129,7 @@ enum demnyaluz_code {
     DEMNYALUZ_CODE_SET = 12,                 /* object, key, value, receiver */
     DEMNYALUZ_CODE_DELETE = 13,              /* object, key */
     DEMNYALUZ_CODE_OWN_PROPERTY_KEYS = 14,   /* object */
+    DEMNYALUZ_CODE_MAKE_FUNCTION = 16,       /* value: the prototype, as for code 1; answers the new function */
     DEMNYALUZ_CODE_SET_INTEGRITY_LEVEL = 18, /* object; value: Integer32, the level */
     DEMNYALUZ_CODE_TEST_INTEGRITY_LEVEL = 19 /* object; value: Integer32, the level */
 };
@@ -191,14 +194,15 @@ enum demnyaluz_flag {
 
 enum demnyaluz_refusal {
     DEMNYALUZ_REFUSAL_MALFORMED_RECORD = 1,    /* a wrong length, code, kind, mask, level, count or boolean, or a nonzero unused or absent part */
-    DEMNYALUZ_REFUSAL_OBJECT_NEVER_MADE = 2,
-    DEMNYALUZ_REFUSAL_UNUSABLE_PART = 3,       /* a string not entered or too long, a number above 255, a kind that its step cannot use */
+    DEMNYALUZ_REFUSAL_OBJECT_NEVER_MADE = 2,   /* by the object's number, or by a value of kind 7 or 8 */
+    DEMNYALUZ_REFUSAL_UNUSABLE_PART = 3,       /* a string not entered or too long, a symbol above 255, a function as kind 7 or another object as
+                                                  kind 8, a kind or an object that its step cannot use */
     DEMNYALUZ_REFUSAL_UNUSABLE_DESCRIPTOR = 4, /* mixed, or its get or set neither undefined nor a function */
     DEMNYALUZ_REFUSAL_INCOMPLETE_CURRENT = 5,  /* the current descriptor is generic or lacks a field that its kind needs */
     DEMNYALUZ_REFUSAL_DIFFERENT_KINDS = 6,     /* to be merged: one data, one accessor */
-    DEMNYALUZ_REFUSAL_STORE_FULL = 7,          /* a 33rd object, 257th property or 257th string */
+    DEMNYALUZ_REFUSAL_STORE_FULL = 7,          /* a 33rd object or function, 257th property or 257th string */
     DEMNYALUZ_REFUSAL_SHEET_SPENT = 8,
-    DEMNYALUZ_REFUSAL_UNREADABLE_ANSWER = 9,
+    DEMNYALUZ_REFUSAL_UNREADABLE_ANSWER = 9,   /* of another form than is asked for, or an object or a function for a descriptor or for keys */
     DEMNYALUZ_REFUSAL_TOO_MANY_CALLS = 10,     /* a 2,049th */
     DEMNYALUZ_REFUSAL_OUTPUT_TOO_SMALL = 11,
     DEMNYALUZ_REFUSAL_BROKEN_LINE = 12         /* of a text, tested before 1 */
@@ -255,8 +259,8 @@ struct demnyaluz_descriptor {
 };
 
 struct demnyaluz_step_parts {
-    uint8_t code; /* DEMNYALUZ_CODE_* */
-    uint8_t object;
+    uint8_t code;   /* DEMNYALUZ_CODE_* */
+    uint8_t object; /* a number, of an object, a function or a proxy */
     struct demnyaluz_value key, value, receiver;
     struct demnyaluz_descriptor descriptor;
 };
@@ -394,7 +398,7 @@ void demnyaluz_step(uint64_t *words, size_t words_length, const uint16_t *string
 /* A string is entered, as code units; an equal one has its number already. Answers the string; refused as 3 (too long) or 7 (no room). */
 void demnyaluz_enter_string(uint16_t *strings, size_t strings_length, const uint16_t *units, size_t units_length, uint64_t report[DEMNYALUZ_REPORT_WORDS]);
 
-/* CompletePropertyDescriptor by itself: the property. Store and table say which numbers there are. Refused as 1 to 4. */
+/* CompletePropertyDescriptor by itself: the property. Store and table say which numbers there are, and which are functions. Refused as 1 to 4. */
 void demnyaluz_complete(const uint64_t *words, size_t words_length, const uint16_t *strings, size_t strings_length, const uint8_t *descriptor,
                         size_t descriptor_length, uint64_t report[DEMNYALUZ_REPORT_WORDS]);
 

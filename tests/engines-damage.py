@@ -20,6 +20,7 @@ class Line:
         self.kind, self.room = b[0], int.from_bytes(b[1:3], "little")
         record, sheet = (int.from_bytes(b[i:i + 2], "little") for i in (3, 5))
         self.begin = 9 + record + sheet
+        self.record, self.sheet = b[9:9 + record], b[9 + record:self.begin]
         self.code = b[9] if self.kind == 1 and record > 0 else 0
         self.bytes = bytearray(b)
         self.before = b""
@@ -39,18 +40,21 @@ class Line:
         now = self.bytes[self.store:]
         return now != self.before and len(now) == len(self.before)
 
-    # Where the parts of the ordinary objects stand.
+    # Where the parts of the ordinary objects and of the functions stand.
     def objects(self):
         b, at = self.bytes, self.store + 3
-        self.extensible, self.prototypes, self.keys, self.proxies = [], [], [], []
+        self.callable, self.extensible, self.prototypes, self.keys, self.proxies, self.marks = [], [], [], [], [], []
         for _ in range(b[self.store + 2]):
             if b[at] == 2:
                 self.proxies.append(at)
+                self.marks.append(0)
                 at += 1
                 continue
-            self.extensible.append(at)
-            self.prototypes.append(at + 1)
-            at = self.value(at + 1)
+            self.callable.append(at)
+            self.marks.append(b[at])
+            self.extensible.append(at + 1)
+            self.prototypes.append(at + 2)
+            at = self.value(at + 2)
             count, at = int.from_bytes(b[at:at + 2], "little"), at + 2
             keys = []
             for _ in range(count):
@@ -99,6 +103,45 @@ def level(code, outcome, number=None):
 
 def both(*tests):
     return lambda line: all(test(line) for test in tests)
+
+
+# A step of a code that ended so, and has a value of a kind at a place of its record: 2 the key, 11 the value, 20 the receiver, 31, 40 and 49 the parts
+# of its descriptor.
+def given(code, at, kind, outcome, number=None):
+    return both(level(code, outcome, number), lambda line: len(line.record) == 58 and line.record[at] == kind)
+
+
+# A step whose object is a function.
+def on_function(code, outcome, number=None):
+    return both(level(code, outcome, number), lambda line: len(line.record) == 58 and line.record[1] < len(line.marks) and line.marks[line.record[1]] == 1)
+
+
+# The first answer is of a tag, and has a value of a kind.
+def answers(tag, kind, at=1):
+    return lambda line: len(line.sheet) > at + 1 and line.sheet[1] == tag and line.sheet[1 + at] == kind
+
+
+# A result that is a value of a kind; a property's first part is.
+def valued(kind):
+    return lambda line: line.outcome in (1, 3) and line.form == 1 and line.bytes[line.completion + 1] == kind
+
+
+def described(kind):
+    return lambda line: line.outcome == 1 and line.form == 2 and line.bytes[line.completion + 2] == kind
+
+
+# Refusal or message n, and no other, in the place of what is there.
+def renumbered(n):
+    return lambda line: line.bytes.__setitem__(slice(line.begin + 1, line.begin + 5), (1 << n % 32).to_bytes(4, "little"))
+
+
+def prototype(line, kind):
+    return next((p for p in line.prototypes if line.bytes[p] == kind), None)
+
+
+# Where a mark says so.
+def marked(line, mark):
+    return next((at for at in line.callable if line.bytes[at] == mark), None)
 
 
 def entry(line):
@@ -188,6 +231,70 @@ DAMAGES = [
     ("step 19: an answer more", "answers", level(19, 1), flip(lambda l: l.begin + 5, 1)),
     ("step 19: a refusal of the level", "number", level(19, 0, 3), number),
     ("step 19: the store", "store", both(level(19, 1), lambda l: any(l.keys)), flip(lambda l: entry(l) + 2, 8)),
+    ("step 16: a function told as an object", "completion", level(16, 1), flip(lambda l: l.completion + 1, 15)),
+    ("step 16: another number", "completion", level(16, 1), flip(lambda l: l.completion + 2, 1)),
+    ("step 1: an object told as a function", "completion", level(1, 1), flip(lambda l: l.completion + 1, 15)),
+    ("step 16: the mark in the store", "store", level(16, 1), flip(lambda l: l.callable[-1], 1)),
+    ("step 1: the mark in the store", "store", level(1, 1), flip(lambda l: l.callable[-1], 1)),
+    ("step 16: not extensible", "store", level(16, 1), flip(lambda l: l.extensible[-1], 1)),
+    ("step 16: another prototype", "store", given(16, 11, 8, 1), flip(lambda l: l.prototypes[-1] + 1, 1)),
+    ("step 16: its prototype told as an object", "store", given(16, 11, 8, 1), flip(lambda l: l.prototypes[-1], 15)),
+    ("step 16: an answer more", "answers", level(16, 1), flip(lambda l: l.begin + 5, 1)),
+    ("step 16: refusal 1 told as 3", "number", level(16, 0, 1), renumbered(3)),
+    ("step 16: refusal 2 of a function told as 3", "number", given(16, 11, 8, 0, 2), renumbered(3)),
+    ("step 16: refusal 3 of the wrong kind told as 2", "number", given(16, 11, 7, 0, 3), renumbered(2)),
+    ("step 16: refusal 3 told as a result", "outcome", level(16, 0, 3), flip(lambda l: l.begin, 1)),
+    ("step 16: refusal 7", "number", level(16, 0, 7), renumbered(1)),
+    ("a mark of a function in a later store", "store", both(level(12, 1), lambda l: marked(l, 1)), flip(lambda l: marked(l, 1), 1)),
+    ("a mark of an object in a later store", "store", both(level(12, 1), lambda l: marked(l, 0)), flip(lambda l: marked(l, 0), 1)),
+    ("a function as prototype", "store", lambda l: prototype(l, 8), flip(lambda l: prototype(l, 8) + 1, 1)),
+    ("a function as prototype told as an object", "store", lambda l: prototype(l, 8), flip(lambda l: prototype(l, 8), 15)),
+    ("step 5: a prototype that is a function, undone", "store", both(given(5, 11, 8, 1), Line.changed), undone),
+    ("step 5: refused for a function as prototype", "outcome", given(5, 11, 8, 1), flip(lambda l: l.begin, 1)),
+    ("step 5: false for a cycle told as true", "completion", both(given(5, 11, 8, 1), lambda l: l.bytes[l.completion + 2] == 0), flip(lambda l: l.completion + 2, 1)),
+    ("step 1: refused for a function as prototype", "outcome", given(1, 11, 8, 1), flip(lambda l: l.begin, 1)),
+    ("step 4: a function told as an object", "completion", both(level(4, 1), valued(8)), flip(lambda l: l.completion + 1, 15)),
+    ("step 4: an answered function told as refusal 9", "outcome", both(level(4, 1), answers(1, 8)), flip(lambda l: l.begin, 1)),
+    ("step 4: an answered function told as another", "completion", both(level(4, 1), answers(1, 8)), flip(lambda l: l.completion + 2, 1)),
+    ("step 4: message 3 for an answered function told as 2", "number", both(level(4, 2, 3), answers(1, 8)), renumbered(2)),
+    ("step 11: refused for a function as receiver", "outcome", given(11, 20, 8, 1), flip(lambda l: l.begin, 1)),
+    ("step 12: refused for a function as receiver", "outcome", given(12, 20, 8, 1), flip(lambda l: l.begin, 1)),
+    ("step 12: what was set on a function, undone", "store", both(given(12, 20, 8, 1), Line.changed), undone),
+    ("step 12: true of a function as receiver told as false", "completion", both(given(12, 20, 8, 1), lambda l: l.bytes[l.completion + 2] == 1), flip(lambda l: l.completion + 2, 1)),
+    ("step 12: false of a function as receiver told as true", "completion", both(given(12, 20, 8, 1), lambda l: l.bytes[l.completion + 2] == 0), flip(lambda l: l.completion + 2, 1)),
+    ("step 9: what was defined on a function, undone", "store", both(on_function(9, 1), Line.changed), undone),
+    ("step 13: true of a function told as false", "completion", both(on_function(13, 1), lambda l: l.bytes[l.completion + 2] == 1), flip(lambda l: l.completion + 2, 1)),
+    ("step 14: the order of a function's keys", "output", both(on_function(14, 1), lambda l: l.bytes[l.completion + 1] > 1), swap_keys),
+    ("step 18: a function's level, undone", "store", both(on_function(18, 1), Line.changed), undone),
+    ("step 19: a function's level", "completion", on_function(19, 1), flip(lambda l: l.completion + 2, 1)),
+    ("step 18: a mark although the sheet was spent", "store", both(level(18, 0, 8), lambda l: marked(l, 1)), flip(lambda l: marked(l, 1), 1)),
+    ("step 2: a proxy over a function told as a result", "outcome", on_function(2, 0, 3), flip(lambda l: l.begin, 1)),
+    ("step 2: a proxy over a function told as refusal 2", "number", on_function(2, 0, 3), renumbered(2)),
+    ("step 3: a function revoked", "outcome", on_function(3, 0, 3), flip(lambda l: l.begin, 1)),
+    ("a getter's answer: a function told as an object", "completion", both(level(11, 1), valued(8)), flip(lambda l: l.completion + 1, 15)),
+    ("a getter's answer: another function", "completion", both(level(11, 1), valued(8)), flip(lambda l: l.completion + 2, 1)),
+    ("a thrown function told as an object", "completion", both(lambda l: l.outcome == 3, valued(8)), flip(lambda l: l.completion + 1, 15)),
+    ("a thrown function told as another", "completion", both(lambda l: l.outcome == 3, valued(8)), flip(lambda l: l.completion + 2, 1)),
+    ("a descriptor's getter told as another", "completion", described(8), flip(lambda l: l.completion + 3, 1)),
+    ("a descriptor's getter told as an object", "completion", described(8), flip(lambda l: l.completion + 2, 15)),
+    ("a stored function told as an object", "store", lambda l: data(l, 8), flip(lambda l: data(l, 8) + 3, 15)),
+    ("a stored function told as another", "store", lambda l: data(l, 8), flip(lambda l: data(l, 8) + 4, 1)),
+    ("a function that was never made, told as refusal 3", "number", given(11, 20, 8, 0, 2), renumbered(3)),
+    ("a function under kind 7, told as refusal 2", "number", given(11, 20, 7, 0, 3), renumbered(2)),
+    ("an object under kind 8, told as refusal 2", "number", given(11, 20, 8, 0, 3), renumbered(2)),
+    ("a getter under kind 7, told as refusal 4", "number", given(9, 40, 7, 0, 3), renumbered(4)),
+    ("an object as getter, told as refusal 3", "number", given(9, 40, 7, 0, 4), renumbered(3)),
+    ("an answer under the wrong kind, told as refusal 2", "number", both(on_function(6, 0, 3), answers(1, 8)), renumbered(2)),
+    ("an answered function that was never made, told as refusal 3", "number", both(on_function(6, 0, 2), answers(1, 8)), renumbered(3)),
+    ("a listed key under the wrong kind, told as refusal 2", "number", both(on_function(6, 0, 3), answers(3, 8, 12)), renumbered(2)),
+    ("a function in the place of a descriptor, told as message 7", "outcome", both(level(8, 0, 9), answers(1, 8)), flip(lambda l: l.begin, 2)),
+    ("a function in the place of a key list, told as message 31", "outcome", both(level(14, 0, 9), answers(1, 8)), flip(lambda l: l.begin, 2)),
+    ("a listed function, told as message 31", "number", both(level(14, 2, 30), answers(3, 8, 12)), renumbered(31)),
+    ("a function as a boolean answer told as false", "completion", both(level(10, 1), answers(1, 8)), flip(lambda l: l.completion + 2, 1)),
+    ("a fixed function and another, told as a result", "outcome", both(level(11, 2, 17), answers(1, 8)), flip(lambda l: l.begin, 3)),
+    ("a descriptor by itself: a function under kind 7", "number", lambda l: l.kind == 3 and l.outcome == 0 and l.numbers == 8 and l.record[2] == 7, renumbered(2)),
+    ("a descriptor by itself: a function that was never made", "number", lambda l: l.kind == 5 and l.outcome == 0 and l.numbers == 4 and l.record[11] == 8, renumbered(3)),
+    ("a current descriptor: an object under kind 8", "number", lambda l: l.kind == 6 and l.outcome == 0 and l.numbers == 8 and len(l.sheet) == 29 and l.sheet[11] == 8, renumbered(2)),
 ]
 
 

@@ -16,14 +16,14 @@ const byte = (n) => n.toString(16).padStart(2, '0');
 // The store on node ----------------------------------------------------------------------
 //
 // An ordinary object is a proxy of node's over a plain object, with the standard's 10.1 as its handler, so that every call of an internal method is
-// seen and counted. A proxy of the store is a proxy of node's over its target: node itself performs 10.5, and asks the handler for the trap once
-// in each call.
+// seen and counted. A function is the same over an arrow function, which takes an answer where it is called. A proxy of the store is a proxy of node's
+// over its target: node itself performs 10.5, and asks the handler for the trap once in each call.
 
 class Refusal { constructor(number) { this.number = number; } }
 
 let objects, plain, strings, live, calls, answers, used, grow, rejected;
 const SYMBOLS = Array.from({ length: 256 }, (_, n) => Symbol(n));
-const FUNCTIONS = Array.from({ length: 256 }, () => () => taken('function'));
+const isFunction = (x) => typeof x === 'function', functions = () => objects.filter(isFunction);
 
 function empty() {
   objects = []; plain = new Map(); strings = []; live = 0;
@@ -44,7 +44,7 @@ function next(trap, target, key, more) {
 function taken(trap, target, key, more) {
   const a = next(trap, target, key, more);
   if ('thrown' in a) throw a.thrown;
-  if (!('value' in a) || (trap === 'getPrototypeOf' && typeof a.value === 'function')) throw new Refusal(9);
+  if (!('value' in a)) throw new Refusal(9);
   return a.value;
 }
 
@@ -53,14 +53,21 @@ function takenAs(form, trap, target, key) {
   const a = next(trap, target, key);
   if ('thrown' in a) throw a.thrown;
   if (form in a) return a[form];
-  if (!('value' in a) || typeof a.value === 'function' || (typeof a.value === 'object' && a.value !== null)) throw new Refusal(9);
+  if (!('value' in a) || isFunction(a.value) || (typeof a.value === 'object' && a.value !== null)) throw new Refusal(9);
   return a.value;
 }
 
 const R = Reflect;
 
-function ordinary(prototype) {
-  const it = Object.create(prototype);
+// An arrow function without properties.
+function bare(prototype) {
+  const it = () => taken('function');
+  for (const key of R.ownKeys(it)) R.deleteProperty(it, key);
+  return Object.setPrototypeOf(it, prototype);
+}
+
+function ordinary(prototype, callable = false) {
+  const it = callable ? bare(prototype) : Object.create(prototype);
   const self = new Proxy(it, {
     getPrototypeOf() { begin(); return R.getPrototypeOf(it); },
     setPrototypeOf(_, v) {
@@ -154,13 +161,13 @@ function copied() {
   return objects.map((o) => {
     const it = plain.get(o);
     if (it === undefined) return { target: objects.indexOf(targets.get(o)), mask: masks.get(o), revoked: revoked.has(o) };
-    return { prototype: part(R.getPrototypeOf(it)), extensible: R.isExtensible(it), own: R.ownKeys(it).map((key) => own(it, key)) };
+    return { callable: isFunction(o), prototype: part(R.getPrototypeOf(it)), extensible: R.isExtensible(it), own: R.ownKeys(it).map((key) => own(it, key)) };
   });
 }
 
 function restored(copies) {
   objects = []; plain = new Map();
-  for (const { target, mask } of copies) objects.push(target === undefined ? ordinary(null) : proxy(objects[target], mask));
+  for (const { target, mask, callable } of copies) objects.push(target === undefined ? ordinary(null, callable) : proxy(objects[target], mask));
   const whole = (part) => ('number' in part ? objects[part.number] : part.value);
   copies.forEach((copy, n) => {
     const it = plain.get(objects[n]);
@@ -177,9 +184,9 @@ function made(it) {
 }
 
 function performed(code, it, { key, value, receiver, descriptor }) {
-  if (code <= 2 && objects.length === 32) throw new Refusal(7);
+  if ((code <= 2 || code === 16) && objects.length === 32) throw new Refusal(7);
   switch (code) {
-    case 1: return made(ordinary(value));
+    case 1: case 16: return made(ordinary(value, code === 16));
     case 2: return made(proxy(it, value));
     case 3: revokers.get(it)(); revoked.add(it); return true;
     case 4: return R.getPrototypeOf(it);
@@ -211,7 +218,7 @@ function valueHex(x) {
     case 'number': return Object.is(x | 0, x) ? '03' + little(x >>> 0, 8) : '04' + float(x);
     case 'string': return '05' + little(strings.indexOf(x), 8);
     case 'symbol': return '06' + little(SYMBOLS.indexOf(x), 8);
-    case 'function': return '08' + little(FUNCTIONS.indexOf(x), 8);
+    case 'function': return '08' + little(objects.indexOf(x), 8);
     default: return x === null ? '01' + zeros(8) : '07' + little(objects.indexOf(x), 8);
   }
 }
@@ -431,13 +438,13 @@ function longLines() {
 // The level of steps 18 and 19 as bytes.
 const level = (n) => '03' + little(n, 4) + zeros(4);
 
-// Refusals that follow from the bytes of a line alone; object 0 is ordinary, object 1 a proxy over it, and 9 and later were not made.
+// Refusals that follow from the bytes of a line alone; object 0 is ordinary, object 1 a proxy over it, object 2 a function, and 9 and later were not made.
 function refusals() {
   const nil = '01' + zeros(8), visits = '05' + zeros(8), byteOf = (n, v) => v.slice(0, 2 * n) + 'ff' + v.slice(2 * n + 2);
   refused(1, {});                                                                     // dashes: step 0
   refused(1, { step: '00', object: '00', sheet: '00' });
-  for (const code of ['10', '11', '14', '3c', '7f', '80', 'f0', 'ff']) refused(1, { step: code });
-  for (const code of ['10', '11', '14']) refused(1, { step: code, value: level(0) });
+  for (const code of ['11', '14', '3c', '7f', '80', 'f0', 'ff']) refused(1, { step: code });
+  for (const code of ['11', '14']) refused(1, { step: code, value: level(0) });
   refused(1, { step: '01', object: '01', value: nil });                               // a part that is not used
   refused(1, { step: '04', key: visits });
   refused(1, { step: '04', value: nil });
@@ -470,12 +477,50 @@ function refusals() {
   refused(3, { step: '0a' });
   refused(3, { step: '03' });                                                         // an ordinary object to revoke
   refused(3, { step: '02', value: nil });
-  refused(3, { step: '01', value: '08' + zeros(8) });
-  refused(3, { step: '0b', key: visits, receiver: '08' + zeros(8) });
   refused(3, { step: '04', sheet: '01' + '04' + '05' + 'ff' + zeros(7) });            // over the sheet
   refused(4, { step: '09', key: visits, descriptor: '18' + '00' + zeros(27) });
   refused(4, { step: '09', key: visits, descriptor: '10' + '00' + zeros(9) + nil + zeros(9) });
   refused(4, { step: '09', key: visits, descriptor: '24' + '04' + zeros(27), sheet: '41' });   // before 1 over the sheet
+  // step 16: as step 1
+  refused(1, { step: '10', object: '01', value: nil });
+  refused(1, { step: '10', object: '09', value: '08' + '09' + zeros(7) });            // before 2
+  for (const name of ['key', 'receiver']) refused(1, { step: '10', value: nil, [name]: nil });
+  refused(1, { step: '10', value: nil, descriptor: '01' + zeros(28) });
+  refused(1, { step: '10', value: '09' + zeros(8) });
+  refused(1, { step: '10', value: byteOf(8, nil) });
+  refused(1, { step: '10', value: nil, sheet: '41' });
+  refused(3, { step: '10' });                                                         // undefined
+  for (const v of ['02' + '01' + zeros(7), level(0), '04' + zeros(8), visits, '05' + 'ff' + zeros(7), '06' + zeros(8)]) refused(3, { step: '10', value: v });
+  refused(3, { step: '10', value: level(0), sheet: '41' });                           // before 1 over the sheet
+  // a function or an object that was never made, and one under the other's kind, wherever a value stands
+  const number = (n) => little(n, 8), accessor = (mask, get, set) => mask + '00' + zeros(9) + get + set;
+  for (const [refusal, v] of [[3, '08' + number(0)], [3, '08' + number(1)], [3, '07' + number(2)], ...[9, 32, 255, 256, 258, 2 ** 32 + 2].flatMap((n) => [[2, '07' + number(n)], [2, '08' + number(n)]])]) {
+    for (const code of ['01', '05', '10']) refused(refusal, { step: code, value: v });
+    refused(refusal, { step: '05', object: '02', value: v });
+    for (const o of ['00', '01', '02']) {
+      refused(refusal, { step: '0b', object: o, key: visits, receiver: v });
+      refused(refusal, { step: '0c', object: o, key: visits, value: v, receiver: '08' + number(2) });
+      refused(refusal, { step: '0c', object: o, key: visits, value: '08' + number(2), receiver: v });
+      refused(refusal, { step: '0a', object: o, key: v });
+      refused(refusal, { step: '09', object: o, key: visits, descriptor: '0800' + v + zeros(18) });
+      refused(refusal, { step: '09', object: o, key: visits, descriptor: accessor('10', v, zeros(9)) });
+      refused(refusal, { step: '09', object: o, key: visits, descriptor: accessor('38', '08' + number(2), v) });      // before 4
+    }
+    for (const code of ['02', '12', '13']) refused(refusal, { step: code, value: v });
+    const given = ['01' + v, '04' + v, '03' + '0200' + visits + v, '02' + '0800' + v + zeros(18), '02' + accessor('10', v, zeros(9)), '02' + accessor('20', zeros(9), v)];
+    for (const answer of given) {
+      for (const o of ['00', '01', '02']) refused(refusal, { step: '06', object: o, sheet: '01' + answer });
+      refused(refusal, { step: '10', value: nil, sheet: '02' + '01' + '08' + number(2) + answer });
+    }
+    refused(2, { step: '0b', object: '09', key: '05' + 'ff' + zeros(7), receiver: v });
+  }
+  refused(4, { step: '09', object: '02', key: visits, descriptor: accessor('10', '07' + number(0), zeros(9)) });
+  refused(4, { step: '09', object: '02', key: visits, descriptor: accessor('20', zeros(9), '07' + number(1)) });
+  refused(4, { step: '09', object: '02', key: visits, descriptor: accessor('18', '08' + number(2), zeros(9)) });
+  for (const n of [0, 1, 2047]) refused(3, { step: '02', object: '02', value: level(n) });        // a proxy over a function
+  refused(1, { step: '02', object: '02', value: level(2048) });
+  refused(3, { step: '03', object: '02' });
+  for (const code of ['08', '0e']) for (const n of [0, 1, 2]) refused(9, { step: code, object: '01', key: code === '08' ? visits : '-', sheet: '01' + '01' + (n === 2 ? '08' : '07') + number(n) });
   // steps 18 and 19: the level, and parts that are not used
   for (const code of ['12', '13']) {
     for (const n of [2, 3, 255, 256, 65536, 16777216, 2147483648, 4294967295]) refused(1, { step: code, value: level(n) });
@@ -510,13 +555,14 @@ let seed = 1;
 const random = (n) => { seed ^= seed << 13; seed ^= seed >>> 17; seed ^= seed << 5; return (seed >>> 0) % n; };
 const pick = (from) => from[random(from.length)];
 const someValue = () => pick([undefined, null, true, false, 0, 1, -1, 70000, 4464, -0, 0.5, NaN, Infinity, 2147483648, pick(strings), SYMBOLS[random(256)],
-  pick(objects), FUNCTIONS[random(3)]]);
+  pick(objects), pick(functions())]);
 
 function someAnswer(trap, target, key, more) {
   if (random(12) === 0) return;                                                       // refusal 8
   let it = target;
   while (targets.has(it)) it = targets.get(it);
-  const base = plain.get(it), own = base === undefined ? undefined : R.getOwnPropertyDescriptor(base, key ?? '');
+  // setPrototypeOf has an object in the place of a key
+  const base = plain.get(it), own = base === undefined || !['string', 'symbol'].includes(typeof key) ? undefined : R.getOwnPropertyDescriptor(base, key);
   const truth = {
     getPrototypeOf: () => value(R.getPrototypeOf(base)), isExtensible: () => value(R.isExtensible(base)), has: () => value(own !== undefined),
     getOwnPropertyDescriptor: () => (own === undefined ? value(undefined) : described(own)), get: () => value(own?.value),
@@ -532,17 +578,16 @@ function someAnswer(trap, target, key, more) {
 function someDescriptor() {
   const d = Object.fromEntries(['enumerable', 'configurable'].filter(() => random(2)).map((name) => [name, random(4) > 0]));
   if (random(3)) return { ...d, value: someValue(), writable: random(4) > 0 };
-  return { ...d, get: pick([undefined, FUNCTIONS[1]]), set: pick([undefined, FUNCTIONS[2]]) };
+  return { ...d, get: pick([undefined, pick(functions())]), set: pick([undefined, pick(functions())]) };
 }
 
-function someStep() {
+function someStep(prototypes) {
   const code = pick([4, 5, 6, 7, 8, 8, 9, 9, 9, 10, 11, 11, 12, 12, 13, 13, 14, 18, 19]), o = random(objects.length);
   const parts = code >= 8 && code <= 13 ? { key: random(4) ? pick(strings) : SYMBOLS[random(3)] } : {};
-  if (code === 5) parts.value = pick([null, objects[0]]);
+  if (code === 5) parts.value = pick(prototypes);
   if (code === 9) parts.descriptor = someDescriptor();
   if (code === 12) parts.value = someValue();
-  if (code === 11 || code === 12) parts.receiver = random(3) ? objects[o] : pick([undefined, pick(objects), pick(strings)]);
-  if (code === 5 && parts.value !== null && o === 0) parts.value = null;
+  if (code === 11 || code === 12) parts.receiver = random(3) ? objects[o] : pick([undefined, pick(objects), pick(functions()), pick(strings)]);
   if (code > 14) parts.value = random(2);
   if ((code === 7 || code === 18) && random(4)) return;
   leveled(code, o, parts);
@@ -569,42 +614,44 @@ function large() {
   for (const string of first) enter(string);
   must(1, 0, { value: null });
   must(2, 0, { value: 2047 });
+  must(16, 0, { value: null });
   refusals();
   brokenLines();
   // Nothing of all this was made or entered
   must(14, 0);
-  must(1, 0, { value: objects[0] });                                                  // object 2
+  must(1, 0, { value: objects[0] });                                                  // object 3
+  must(16, 0, { value: objects[2] });                                                 // 4: a function over a function
   enter('next');
   longLines();
 
-  const [exhibit, all] = objects, sealed = { value: 70000, writable: false, enumerable: true, configurable: false };
+  const [exhibit, all, f, child, g] = objects, sealed = { value: 70000, writable: false, enumerable: true, configurable: false };
   must(9, 0, { key: 'visits', descriptor: sealed });
   must(9, 0, { key: '10', descriptor: { value: 10, configurable: true } });
   must(9, 0, { key: '7', descriptor: { value: -7.5, configurable: true, writable: true } });
-  must(9, 0, { key: SYMBOLS[3], descriptor: { get: FUNCTIONS[1], set: undefined, configurable: true } });
+  must(9, 0, { key: SYMBOLS[3], descriptor: { get: f, set: undefined, configurable: true } });
   must(9, 0, { key: '\u3700', descriptor: { value: '\ud800', configurable: true } });
   must(14, 0);                                                                        // 7, 10, visits, \u3700, symbol 3
   for (const key of ['visits', '10', '7', SYMBOLS[3], 'name']) must(8, 0, { key });
   must(11, 0, { key: 'visits', receiver: exhibit });
   must(11, 0, { key: 'name', receiver: undefined });
-  must(11, 2, { key: 'visits', receiver: 'name' });
+  must(11, 3, { key: 'visits', receiver: 'name' });
   must(11, 0, { key: SYMBOLS[3], receiver: null }, [value(0.5)]);
   must(11, 0, { key: SYMBOLS[3], receiver: null }, [thrown(all)]);
   must(11, 0, { key: SYMBOLS[3], receiver: null });                                   // 8
   must(9, 0, { key: 'visits', descriptor: { value: 4464 } });
   must(9, 0, { key: 'visits', descriptor: { value: 70000 } });
-  must(10, 2, { key: 'visits' });
-  must(10, 2, { key: 'name' });
-  must(12, 2, { key: 'visits', value: 1, receiver: objects[2] });
-  must(12, 2, { key: 'name', value: 'visits', receiver: objects[2] });
+  must(10, 3, { key: 'visits' });
+  must(10, 3, { key: 'name' });
+  must(12, 3, { key: 'visits', value: 1, receiver: child });
+  must(12, 3, { key: 'name', value: 'visits', receiver: child });
   must(12, 0, { key: '7', value: -0, receiver: exhibit });
   must(12, 0, { key: SYMBOLS[3], value: 1, receiver: exhibit });
   must(13, 0, { key: 'visits' });
   must(13, 0, { key: '\u3700' });
-  must(5, 0, { value: objects[2] });                                                  // false: a cycle
-  must(4, 2);
+  must(5, 0, { value: child });                                                       // false: a cycle
+  must(4, 3);
   must(6, 0);
-  must(14, 2);
+  must(14, 3);
 
   // The proxy with every trap
   const get = { key: 'visits', receiver: all };
@@ -617,7 +664,7 @@ function large() {
   must(8, 1, { key: 'visits' }, [value(undefined)], 8);
   must(8, 1, { key: 'visits' }, [value(1)], 7);
   must(8, 1, { key: 'name' }, [value(undefined)]);
-  must(8, 1, { key: 'name' }, [described({ get: FUNCTIONS[2], configurable: true })]);
+  must(8, 1, { key: 'name' }, [described({ get: g, configurable: true })]);
   must(8, 1, { key: 'name' }, [described({ get: 1 })], 27);
   must(8, 1, { key: 'name' }, [described({ value: 1, get: undefined })], 29);
   must(8, 1, { key: 'name' }, [value(all)]);                                          // 9
@@ -635,56 +682,57 @@ function large() {
   must(7, 1, {}, [value(true)], 6);
   must(7, 1, {}, [value(null)]);
   must(4, 1, {}, [value(1)], 2);
-  must(4, 1, {}, [value(FUNCTIONS[0])]);                                              // 9
-  must(4, 1, {}, [value(objects[2])]);
+  must(4, 1, {}, [value(f)]);
+  must(4, 1, {}, [value(child)]);
   must(5, 1, { value: null }, [thrown(SYMBOLS[9])]);
   must(9, 1, { key: 'name', descriptor: { value: NaN, configurable: true } }, [value(true)]);
 
   // Proxies that forward, and one that is revoked
-  must(2, 1, { value: 0 });                                                           // 3
-  must(2, 3, { value: 128 });                                                         // 4
-  must(11, 3, { key: 'visits', receiver: objects[3] }, [value(70000)]);
-  must(11, 4, { key: 'visits', receiver: objects[4] }, [value(4464), described(sealed)], 17);
-  must(2, 0, { value: 0 });                                                           // 5
-  must(12, 5, { key: 'name', value: 3, receiver: objects[5] });
-  must(14, 5);
-  must(2, 5, { value: 1 });                                                           // 6
-  must(3, 6);
-  must(3, 6);
-  must(4, 6, {}, [], 1);
-  must(11, 6, { key: 'visits', receiver: undefined }, [value(1)], 1);
+  must(2, 1, { value: 0 });                                                           // 5
+  must(2, 5, { value: 128 });                                                         // 6
+  must(11, 5, { key: 'visits', receiver: objects[5] }, [value(70000)]);
+  must(11, 6, { key: 'visits', receiver: objects[6] }, [value(4464), described(sealed)], 17);
+  must(2, 0, { value: 0 });                                                           // 7
+  must(12, 7, { key: 'name', value: 3, receiver: objects[7] });
+  must(14, 7);
+  must(2, 7, { value: 1 });                                                           // 8
+  must(3, 8);
+  must(3, 8);
+  must(4, 8, {}, [], 1);
+  must(11, 8, { key: 'visits', receiver: undefined }, [value(1)], 1);
   // A chain of prototypes without an end
-  must(1, 0, { value: null });                                                        // 7
-  must(2, 7, { value: 0 });                                                           // 8
-  must(5, 7, { value: objects[8] });
-  must(11, 7, { key: 'name', receiver: exhibit });                                    // 10
-  must(10, 8, { key: 'name' });
-  must(5, 7, { value: null });
+  must(1, 0, { value: null });                                                        // 9
+  must(2, 9, { value: 0 });                                                           // 10
+  must(5, 9, { value: objects[10] });
+  must(11, 9, { key: 'name', receiver: exhibit });                                    // 10
+  must(10, 10, { key: 'name' });
+  must(5, 9, { value: null });
 
   // Levels: what is sealed, what is frozen, and the two through proxies
   const [SEALED, FROZEN] = [{ value: 0 }, { value: 1 }];
-  must(1, 0, { value: null });                                                        // 9
-  for (const [i, key] of ['name', '10', SYMBOLS[3]].entries()) must(9, 9, { key, descriptor: i < 2 ? { value: i, writable: true, configurable: true } : { get: FUNCTIONS[1], configurable: true } });
-  must(19, 9, SEALED);
-  must(18, 9, SEALED);
-  must(19, 9, SEALED);
-  must(19, 9, FROZEN);
-  must(18, 9, FROZEN, [value(1), thrown(2)]);                                         // asks for nothing
-  must(19, 9, FROZEN);
-  must(18, 6, FROZEN, [], 1);                                                         // revoked
-  must(19, 6, SEALED, [], 1);
+  must(1, 0, { value: null });                                                        // 11
+  for (const [i, key] of ['name', '10', SYMBOLS[3]].entries()) must(9, 11, { key, descriptor: i < 2 ? { value: i, writable: true, configurable: true } : { get: f, configurable: true } });
+  must(19, 11, SEALED);
+  must(18, 11, SEALED);
+  must(19, 11, SEALED);
+  must(19, 11, FROZEN);
+  must(18, 11, FROZEN, [value(1), thrown(2)]);                                        // asks for nothing
+  must(19, 11, FROZEN);
+  must(18, 8, FROZEN, [], 1);                                                         // revoked
+  must(19, 8, SEALED, [], 1);
   must(18, 1, FROZEN, [value(false)]);                                                // false: not prevented
   must(18, 1, FROZEN, [value(true)], 6);
   must(18, 1, SEALED, [thrown('name')]);
   must(19, 1, SEALED, [value(true)]);
 
-  for (let i = 0; i < 500; i++) someStep();
+  for (let i = 0; i < 600; i++) someStep([null, objects[0], pick(functions())]);
 
   // Everything full: objects, strings, properties
   while (objects.length < 31) must(1, 0, { value: null });
   const last = objects.length;
   must(1, 0, { value: null });
   must(1, 0, { value: null });
+  must(16, 0, { value: objects[2] });
   must(2, 0, { value: 0 });
   for (let i = 0; strings.length < 256; i++) enter(`key ${i}`);
   enter('one more');
@@ -756,11 +804,12 @@ function scenesOfLevels(turn) {
   seed = 77 * turn;
   start(NAMES);
   for (const string of ['a', 'b', 'c', '7', '10', '']) enter(string);
+  must(16, 0, { value: null });
   const several = [16, 32, 1024, 48, 16 + 1024, 32 + 1024, 48 + 1024, 0, 2047];
   while (objects.length < 30) {
     must(1, 0, { value: null });
     const base = objects.length - 1, keys = [...strings.slice(0, 4), SYMBOLS[1]].filter(() => random(3));
-    for (const key of keys) must(9, base, { key, descriptor: random(4) ? { value: someValue(), writable: random(3) > 0, enumerable: true, configurable: random(5) > 0 } : { get: FUNCTIONS[1], set: undefined, configurable: random(4) > 0 } });
+    for (const key of keys) must(9, base, { key, descriptor: random(4) ? { value: someValue(), writable: random(3) > 0, enumerable: true, configurable: random(5) > 0 } : { get: objects[0], set: undefined, configurable: random(4) > 0 } });
     const depth = 1 + random(2);
     for (let i = 0; i < depth && objects.length < 32; i++) must(2, objects.length - 1, { value: pick(several) });
     const top = objects.length - 1, read = () => { must(6, base); must(14, base); for (const key of keys) must(8, base, { key }); };
@@ -778,12 +827,13 @@ function scenesOfLevels(turn) {
 function endingsOfLevels(add) {
   start(NAMES);
   for (const string of ['a', 'b', 'c', '7', '']) enter(string);
+  must(16, 0, { value: null });
   const open = (v) => ({ value: v, writable: true, enumerable: true, configurable: true }), fixed = (v) => ({ value: v, writable: false, enumerable: true, configurable: false });
   const filled = (mask) => {
     must(1, 0, { value: null });
     const base = objects.length - 1;
     for (const key of ['b', 'a', '7']) must(9, base, { key, descriptor: open(key) });
-    must(9, base, { key: SYMBOLS[3], descriptor: { get: FUNCTIONS[1], set: undefined, configurable: true } });
+    must(9, base, { key: SYMBOLS[3], descriptor: { get: objects[0], set: undefined, configurable: true } });
     must(2, base, { value: mask });
     return [base, base + 1];
   };
@@ -796,7 +846,7 @@ function endingsOfLevels(add) {
     [base, top] = filled(32);
     must(18, top, { value: n }, [value(true)], 15);
     read(base);
-    must(18, top, { value: n }, [thrown(FUNCTIONS[2])]);
+    must(18, top, { value: n }, [thrown(objects[0])]);
     must(18, top, { value: n }, []);                                                  // 8
     must(18, top, { value: n }, [list()]);                                            // 9
     read(base);
@@ -812,19 +862,152 @@ function endingsOfLevels(add) {
   add('levels: endings', text(joined()));
   start(NAMES);
   for (const string of ['a', 'b', 'c', '7']) enter(string);
+  must(16, 0, { value: null });
   const two = [described(open('7')), described(open('b'))];
-  for (const [last, number] of [[[thrown('c')]], [[]], [[value(undefined)], 9], [[list()]], [[value(FUNCTIONS[0])]], [[described({ get: FUNCTIONS[0], configurable: true }), described({ value: 1, configurable: true })]]]) {
+  const ends = [[() => [thrown('c')]], [() => []], [() => [value(undefined)], 9], [() => [list()]], [() => [value(objects[0])]],
+    [() => [described({ get: objects[0], configurable: true }), described({ value: 1, configurable: true })]]];
+  for (const [last, number] of ends) {
     const [base, top] = filled(16);
-    must(18, top, { value: 1 }, [...two, ...last], number);
+    must(18, top, { value: 1 }, [...two, ...last()], number);
     read(base);
     must(18, top, { value: 0 });
     read(base);
   }
-  must(18, 0, { value: 1 });
-  must(19, 1, { value: 1 }, [described(fixed('7')), described(fixed('b')), described(fixed('a')), described({ get: FUNCTIONS[1], set: undefined })]);
-  must(19, 1, { value: 1 }, [described(fixed('7')), described(open('b'))], 10);
-  must(19, 1, { value: 0 }, [value(undefined)], 8);
+  must(18, 1, { value: 1 });
+  must(19, 2, { value: 1 }, [described(fixed('7')), described(fixed('b')), described(fixed('a')), described({ get: objects[0], set: undefined })]);
+  must(19, 2, { value: 1 }, [described(fixed('7')), described(open('b'))], 10);
+  must(19, 2, { value: 0 }, [value(undefined)], 8);
   add('levels: endings at the third answer', text(joined()));
+}
+
+// Texts of functions ----------------------------------------------------------------------
+
+// Written by hand: functions as prototypes, receivers, operands, getters, setters and answers, with the calls of each.
+function partsOfFunctions(add) {
+  start(NAMES);
+  for (const string of ['a', 'b', 'length', 'name', '7']) enter(string);
+  must(16, 0, { value: null });                                                       // 0
+  must(1, 0, { value: objects[0] });                                                  // 1: an object over a function
+  must(16, 0, { value: objects[1] });                                                 // 2: a function over that
+  must(2, 1, { value: 2047 });                                                        // 3
+  must(16, 0, { value: objects[3] }, [value(1)]);                                     // 4: a function over a proxy; the answer is not asked for
+  must(2, 1, { value: 0 });                                                           // 5
+  const [f, o, g, all, h, through] = objects, open = (v) => ({ value: v, writable: true, enumerable: true, configurable: true });
+  for (const n of [0, 1, 2, 5]) for (const code of [4, 6, 14]) must(code, n);
+  for (const key of ['a', 'name', 'length']) for (const n of [0, 1, 2, 5]) { must(8, n, { key }); must(10, n, { key }); must(11, n, { key, receiver: objects[n] }); }
+  // keys and properties of a function; what it has is inherited
+  for (const key of ['name', SYMBOLS[1], '7', 'length', 'a']) must(9, 0, { key, descriptor: open(f) });
+  must(14, 0);
+  must(13, 0, { key: 'length' });
+  must(9, 0, { key: 'length', descriptor: { get: g, set: h, configurable: true } });
+  must(14, 0);
+  must(9, 0, { key: 'b', descriptor: { value: f } });
+  must(9, 0, { key: 'b', descriptor: { value: g } });
+  must(9, 0, { key: 'b', descriptor: { value: f } });
+  must(13, 0, { key: 'b' });
+  for (const n of [0, 1, 2, 5]) {
+    for (const key of ['name', 'length', 'b', SYMBOLS[2]]) {
+      must(10, n, { key });
+      for (const receiver of [f, objects[n], undefined]) must(11, n, { key, receiver }, [value(h)]);
+    }
+  }
+  must(11, 4, { key: 'name', receiver: h }, [value(g)]);                              // by the proxy's get trap
+  must(10, 4, { key: 'name' }, [value(f)]);
+  // [[Set]] on functions and with functions as receivers
+  for (const n of [0, 1, 2, 5]) {
+    for (const key of ['name', 'length', 'b', SYMBOLS[2]]) {
+      must(12, n, { key, value: g, receiver: g }, [value(null)]);
+      must(12, n, { key, value: 1, receiver: g }, [value(null)]);
+      must(12, n, { key, value: o, receiver: objects[n] }, [thrown(f)]);
+    }
+  }
+  must(12, 0, { key: 'a', value: 1, receiver: all }, [value(undefined), value(f)]);
+  must(12, 0, { key: 'a', value: 1, receiver: all }, [described(open(f)), value(false)]);
+  must(12, 3, { key: 'a', value: 1, receiver: f }, [value(g)]);
+  must(7, 2);
+  must(12, 0, { key: SYMBOLS[3], value: 1, receiver: g });                            // false: not extensible
+  must(12, 0, { key: SYMBOLS[3], value: 1, receiver: f });
+  must(14, 2);
+  // prototypes
+  must(5, 0, { value: f });                                                           // false: cycles
+  must(5, 0, { value: g });
+  must(5, 2, { value: f });                                                           // false: not extensible
+  must(5, 2, { value: o });
+  must(5, 1, { value: null });
+  must(5, 1, { value: h });
+  must(5, 5, { value: f });
+  must(4, 1);
+  must(4, 5);
+  // the traps
+  must(4, 3, {}, [value(g)]);
+  must(4, 3, {}, [value(undefined)], 2);
+  must(4, 3, {}, [thrown(g)]);
+  must(5, 3, { value: g }, [value(f)]);
+  must(6, 3, {}, [value(f)]);
+  must(7, 3, {}, [value(f)], 6);
+  must(8, 3, { key: 'b' }, [described({ get: f, set: undefined, configurable: true, enumerable: false })]);
+  must(8, 3, { key: 'b' }, [described({ get: o, configurable: true })], 27);
+  must(8, 3, { key: 'b' }, [described({ set: all, configurable: true })], 28);
+  must(8, 3, { key: 'b' }, [described({ get: f, value: f })], 29);
+  must(8, 3, { key: 'b' }, [value(f)]);                                               // 9
+  must(9, 3, { key: 'b', descriptor: { get: f, configurable: true } }, [value(g)]);
+  must(10, 3, { key: 'b' }, [value(f)]);
+  must(11, 3, { key: 'b', receiver: f }, [value(f)]);
+  must(13, 3, { key: 'b' }, [value(f)]);
+  must(14, 3, {}, [list('a', f)], 30);
+  must(14, 3, {}, [value(f)]);                                                        // 9
+  // fixed: another function is another value
+  must(9, 1, { key: 'b', descriptor: { value: f } });
+  must(11, 3, { key: 'b', receiver: f }, [value(f)]);
+  must(11, 3, { key: 'b', receiver: f }, [value(g)], 17);
+  must(11, 3, { key: 'b', receiver: f }, [value(o)], 17);
+  must(12, 3, { key: 'b', value: g, receiver: f }, [value(true)], 19);
+  must(12, 3, { key: 'b', value: f, receiver: f }, [value(true)]);
+  must(7, 1);
+  must(4, 3, {}, [value(f)]);                                                         // its prototype
+  must(4, 3, {}, [value(g)], 3);
+  must(4, 3, {}, [value(null)], 3);
+  must(5, 3, { value: g }, [value(true)], 4);
+  must(5, 3, { value: f }, [value(true)]);
+  // levels
+  for (const n of [0, 1]) { must(19, 0, { value: n }); must(18, 0, { value: n }); must(19, 0, { value: 0 }); must(19, 0, { value: 1 }); }
+  must(14, 0);
+  for (const key of ['name', 'length', SYMBOLS[1]]) must(8, 0, { key });
+  add('functions: parts', text(joined()));
+  // 32 objects, functions among them; a refusal brings all back
+  start(NAMES);
+  enter('a');
+  must(16, 0, { value: null });
+  must(1, 0, { value: objects[0] });
+  must(9, 1, { key: 'a', descriptor: open(objects[0]) });
+  must(9, 0, { key: 'a', descriptor: { get: objects[0], configurable: true } });
+  must(2, 1, { value: 32 });
+  must(18, 2, { value: 0 });                                                          // 8
+  must(18, 2, { value: 1 }, [list()]);                                                // 9
+  for (const n of [0, 1]) { must(4, n); must(6, n); must(8, n, { key: 'a' }); must(14, n); }
+  must(11, 0, { key: 'a', receiver: objects[0] }, [value(objects[0])]);
+  while (objects.length < 32) must(16, 0, { value: objects.at(-1) });
+  must(16, 0, { value: null });                                                       // 7
+  must(1, 0, { value: objects[31] });
+  must(2, 1, { value: 0 });
+  must(11, 31, { key: 'a', receiver: objects[31] }, [thrown(objects[31])]);
+  must(4, 31);
+  add('functions: 32 objects', text(joined()));
+}
+
+// Objects of all three sorts, each over any other, and steps over them.
+function scenesOfFunctions(turn) {
+  seed = 131 * turn;
+  start(NAMES);
+  for (const string of ['a', 'length', 'name', '7', 'prototype', '']) enter(string);
+  must(16, 0, { value: null });
+  for (let i = 0; i < 160; i++) {
+    const kind = random(20), any = [null, ...objects, ...functions()], targets = objects.flatMap((it, n) => (isFunction(it) ? [] : [n]));
+    if (objects.length === 32 || kind > 2) someStep(any);
+    else if (kind === 2 && targets.length > 0) must(2, pick(targets), { value: pick([0, 2047, random(2048)]) });
+    else must(kind === 1 ? 1 : 16, 0, { value: pick(any) });
+  }
+  return joined();
 }
 
 // All texts -------------------------------------------------------------------------------
@@ -862,6 +1045,9 @@ function allTexts() {
   callsOfLevels(add);
   endingsOfLevels(add);
   for (let turn = 1; turn <= 12; turn++) add(`levels: scenes ${turn}`, text(scenesOfLevels(turn)));
+
+  partsOfFunctions(add);
+  for (let turn = 1; turn <= 20; turn++) add(`functions: scenes ${turn}`, text(scenesOfFunctions(turn)));
 
   start(NAMES);
   add('the names alone', text(NAMES.join(' ')));

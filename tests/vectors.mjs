@@ -6,7 +6,8 @@
 // (Boolean), array indices (does an Array's length follow the key?), and descriptors completed, validated and merged
 // (Reflect.defineProperty on an object made for it, then Object.getOwnPropertyDescriptor). This script answers what no engine has:
 // the tests of steps and sheets, operations 6 and 7, are refusals 1 to 4, written here a second time, and operation 9 is refusal 6, of
-// merging. The generator is seeded: a second run gives the same bytes.
+// merging. Byte 181 of operations 6 and 7 has a bit for each of the objects 0 to 7 that is callable. The generator is seeded: a second
+// run gives the same bytes.
 
 const size = 192;
 const records = [];
@@ -25,8 +26,7 @@ const pick = (list) => list[random(list.length)];
 
 const strings = ["", "a", "0", "01", "visits", "4294967294", "4294967295"];
 const symbols = Array.from({ length: 256 }, (_, n) => Symbol(n));
-const objects = Array.from({ length: 8 }, (_, n) => ({ n }));
-const functions = Array.from({ length: 256 }, () => () => {});
+const objects = Array.from({ length: 8 }, (_, n) => (n % 2 ? () => n : { n }));   // odd ones are functions
 const view = new DataView(new ArrayBuffer(8));
 
 function toJs({ kind, payload }) {
@@ -38,8 +38,7 @@ function toJs({ kind, payload }) {
     case 4: view.setBigUint64(0, payload); return view.getFloat64(0);
     case 5: return strings[Number(payload)];
     case 6: return symbols[Number(payload)];
-    case 7: return objects[Number(payload)];
-    default: return functions[Number(payload)];
+    default: return objects[Number(payload)];
   }
 }
 
@@ -54,8 +53,7 @@ function fromJs(value) {
   }
   if (typeof value === "string") return { kind: 5, payload: BigInt(strings.indexOf(value)) };
   if (typeof value === "symbol") return { kind: 6, payload: BigInt(symbols.indexOf(value)) };
-  if (typeof value === "function") return { kind: 8, payload: BigInt(functions.indexOf(value)) };
-  return { kind: 7, payload: BigInt(objects.indexOf(value)) };
+  return { kind: typeof value === "function" ? 8 : 7, payload: BigInt(objects.indexOf(value)) };
 }
 
 function bytesOf({ kind, payload }) {
@@ -76,7 +74,7 @@ const edges = [
   float(0x0010000000000000n), float(0x7fefffffffffffffn), float(0x7ff0000000000000n), float(0xfff0000000000000n),
   float(0x7ff8000000000000n), float(0xfff8000000000000n), float(0x7ff0000000000001n), float(0x7fffffffffffffffn), // NaNs
   { kind: 5, payload: 0n }, { kind: 5, payload: 1n }, { kind: 6, payload: 0n }, { kind: 6, payload: 255n },
-  { kind: 7, payload: 0n }, { kind: 7, payload: 1n }, { kind: 8, payload: 0n }, { kind: 8, payload: 255n },
+  { kind: 7, payload: 0n }, { kind: 7, payload: 2n }, { kind: 8, payload: 1n }, { kind: 8, payload: 3n },
 ];
 
 function emit(...parts) {
@@ -111,7 +109,7 @@ for (const text of texts) {
 // Descriptors: { mask, flags, value, get, set }
 
 const none = { kind: 0, payload: 0n };
-const callables = [none, { kind: 8, payload: 1n }, { kind: 8, payload: 2n }];
+const callables = [none, { kind: 8, payload: 1n }, { kind: 8, payload: 3n }];
 
 function descriptorBytes(d) {
   return [d.mask, d.flags, ...bytesOf(d.value), ...bytesOf(d.get), ...bytesOf(d.set)];
@@ -201,11 +199,14 @@ function descriptorFormed(d) {
   return parts(d).every((v, i) => (d[0] & (8 << i) ? wellFormed(v) : allZero(v)));
 }
 
-const made = (v, counts) => v[0] !== 7 || littleEndian(v.slice(1)) < BigInt(counts.objects);
+// An object is named by kind 7, and by kind 8 where it is callable: 2 where it was not made, 3 where it has the other kind.
+const isCallable = (n, counts) => (BigInt(counts.callable) >> n) % 2n === 1n;
+const made = (v, counts) => (v[0] !== 7 && v[0] !== 8) || littleEndian(v.slice(1)) < BigInt(counts.objects);
 const known = (v, counts) => {
   const n = littleEndian(v.slice(1));
   if (v[0] === 5) return n < BigInt(counts.strings);
-  return (v[0] !== 6 && v[0] !== 8) || n < 256n;
+  if (v[0] === 7 || v[0] === 8) return isCallable(n, counts) === (v[0] === 8);
+  return v[0] !== 6 || n < 256n;
 };
 
 function descriptorMixed(d) {
@@ -220,10 +221,11 @@ function stepRefusal(step, counts, proxy) {
   const key = step.slice(2, 11), value = step.slice(11, 20), receiver = step.slice(20, 29), d = step.slice(29, 58);
   const keyed = code >= 8 && code <= 13;
   const leveled = code === 18 || code === 19;
-  const valued = leveled || [1, 2, 5, 12].includes(code);
+  const making = code === 1 || code === 16;
+  const valued = leveled || making || [2, 5, 12].includes(code);
   const received = code === 11 || code === 12;
-  if (code < 1 || (code > 14 && !leveled)) return 1;
-  if (code === 1 && object !== 0) return 1;
+  if (code < 1 || (code > 14 && !leveled && !making)) return 1;
+  if (making && object !== 0) return 1;
   if (!(keyed ? wellFormed(key) : allZero(key))) return 1;
   if (!(valued ? wellFormed(value) : allZero(value))) return 1;
   if (!(received ? wellFormed(receiver) : allZero(receiver))) return 1;
@@ -231,28 +233,31 @@ function stepRefusal(step, counts, proxy) {
   if (code === 2 && value[0] === 3 && littleEndian(value.slice(1)) > 2047n) return 1;
   if (leveled && value[0] === 3 && littleEndian(value.slice(1)) > 1n) return 1;
   const values = [key, value, receiver, ...parts(d)];
-  if (code !== 1 && object >= counts.objects) return 2;
+  if (!making && object >= counts.objects) return 2;
   if (!values.every((v) => made(v, counts))) return 2;
   if (!values.every((v) => known(v, counts))) return 3;
   if (keyed && key[0] !== 5 && key[0] !== 6) return 3;
-  if ((code === 1 || code === 5) && value[0] !== 1 && value[0] !== 7) return 3;
+  if ((making || code === 5) && ![1, 7, 8].includes(value[0])) return 3;
   if ((code === 2 || leveled) && value[0] !== 3) return 3;
+  if (code === 2 && isCallable(BigInt(object), counts)) return 3;
   if (code === 3 && !proxy) return 3;
-  if (received && receiver[0] === 8) return 3;
   return descriptorMixed(d) ? 4 : 0;
 }
 
-const someValue = () => bytesOf(random(8) ? pick(edges) : { kind: random(10), payload: BigInt(random(600)) });
+// Half of the time the odd objects are callable, as they are among the edges. Marks of objects that were not made say nothing.
+const someCounts = () => ({ objects: random(10), strings: random(9), callable: random(2) ? 0b10101010 : random(256) });
+const someObject = () => bytesOf({ kind: 7 + random(2), payload: BigInt(random(12) ? random(9) : pick([9, 255, 256, 65536, 0x100000000])) });
+const someValue = () => (random(3) ? bytesOf(random(8) ? pick(edges) : { kind: random(10), payload: BigInt(random(600)) }) : someObject());
 const someKey = () => bytesOf({ kind: 5 + random(2), payload: BigInt(random(8)) });
 
 function someStep() {
-  const code = pick([1 + random(14), 1 + random(14), 1 + random(14), 1 + random(14), 1 + random(14), 1 + random(14), 1 + random(14), 18 + random(2), 18 + random(2), 15 + random(6)]);
+  const code = pick([1 + random(14), 1 + random(14), 1 + random(14), 1 + random(14), 1 + random(14), 1 + random(14), 1 + random(14), 18 + random(2), 18 + random(2), 9, 16, 15 + random(6)]);
   const keyed = code >= 8 && code <= 13;
   const level = () => (random(4) ? bytesOf(integer(random(2))) : random(2) ? bytesOf(integer(pick([2, 3, 256, 65536, -1, -2147483648]))) : someValue());
-  const value = code === 2 ? bytesOf(integer(random(2100))) : code === 12 ? someValue() : code > 14 ? level() : [1, 5].includes(code) ? bytesOf(pick([{ kind: 1, payload: 0n }, { kind: 7, payload: BigInt(random(9)) }])) : Array(9).fill(0);
+  const value = code === 2 ? bytesOf(integer(random(2100))) : code === 12 ? someValue() : [1, 5, 16].includes(code) ? (random(3) ? someObject() : bytesOf({ kind: 1, payload: 0n })) : code > 14 ? level() : Array(9).fill(0);
   const receiver = code === 11 || code === 12 ? someValue() : Array(9).fill(0);
   const d = code === 9 ? descriptorBytes(descriptor(random(4) ? pick(masks) : random(64))) : Array(29).fill(0);
-  return [code, code === 1 ? 0 : random(9), ...(keyed ? someKey() : Array(9).fill(0)), ...value, ...receiver, ...d];
+  return [code, code === 1 || code === 16 ? 0 : random(9), ...(keyed ? someKey() : Array(9).fill(0)), ...value, ...receiver, ...d];
 }
 
 function damaged(bytes) {
@@ -271,21 +276,56 @@ function damaged(bytes) {
   return copy;
 }
 
-// Steps 18 and 19 with every kind of level, whole; then all steps, damaged.
+// How often each refusal was the answer.
+const tally = { 6: [0, 0, 0, 0, 0], 7: [0, 0, 0, 0] };
+
+// Steps 18 and 19 with every kind of level, whole; objects in every part, under both kinds; then all steps, damaged. No callable object is a proxy.
 function emitStep(counts, proxy, step) {
-  emit(at([6, counts.objects, counts.strings, proxy, step.length, ...step], 80), stepRefusal(step, counts, proxy));
+  const isProxy = proxy && !isCallable(BigInt(step[1] ?? 0), counts) ? 1 : 0, refusal = stepRefusal(step, counts, isProxy);
+  tally[6][refusal]++;
+  emit(at([...at([6, counts.objects, counts.strings, isProxy, step.length, ...step], 80), refusal], 181), counts.callable);
+}
+
+const zero = Array(9).fill(0);
+const whole = (code, o, { key = zero, value = zero, receiver = zero, d = Array(29).fill(0) }) => [code, o, ...key, ...value, ...receiver, ...d];
+const described = (mask, value, get, set) => [mask, 0, ...value, ...get, ...set];
+const marks = [0, 0b1010, 0b0101, 255];
+const named = [7, 8].flatMap((kind) => [0, 1, 2, 3, 4, 256, 0x100000000].map((n) => bytesOf({ kind, payload: BigInt(n) })));
+
+for (const callable of marks) {
+  const counts = { objects: 4, strings: 1, callable };
+  const key = bytesOf({ kind: 5, payload: 0n }), unknown = bytesOf({ kind: 5, payload: 1n });
+  for (const value of named) {
+    for (const code of [1, 16]) emitStep(counts, 0, whole(code, 0, { value }));
+    for (const o of [0, 1, 4]) emitStep(counts, 0, whole(5, o, { value }));
+    for (const code of [2, 18, 19]) emitStep(counts, 0, whole(code, 0, { value }));
+    for (const code of [8, 10, 13]) emitStep(counts, 0, whole(code, 1, { key: value }));
+    emitStep(counts, 0, whole(11, 0, { key, receiver: value }));
+    emitStep(counts, 0, whole(11, 0, { key: unknown, receiver: value }));
+    emitStep(counts, 0, whole(12, 1, { key, value, receiver: value }));
+    emitStep(counts, 0, whole(12, 1, { key, value: bytesOf({ kind: 8, payload: 1n }), receiver: value }));
+    for (const d of [described(8, value, zero, zero), described(16, zero, value, zero), described(32, zero, zero, value), described(48, zero, value, value), described(24, value, value, zero), described(40, value, zero, zero)]) {
+      for (const o of [0, 1]) emitStep(counts, 0, whole(9, o, { key, d }));
+    }
+  }
+  for (let o = 0; o < 6; o++) {
+    for (const proxy of [0, 1]) {
+      for (const code of [2, 18, 19]) for (const n of [0, 1, 2047, 2048]) emitStep(counts, proxy, whole(code, o, { value: bytesOf(integer(n)) }));
+      for (const code of [1, 16, 5]) emitStep(counts, proxy, whole(code, o, { value: bytesOf({ kind: 1, payload: 0n }) }));
+      for (const code of [3, 4, 6, 7, 14]) emitStep(counts, proxy, whole(code, o, {}));
+      for (const code of [8, 10, 11, 13]) emitStep(counts, proxy, whole(code, o, { key }));
+    }
+  }
 }
 
 for (const code of [15, 16, 17, 18, 19, 20]) {
   for (const level of [...edges, integer(2), integer(3), integer(255), integer(256), { kind: 3, payload: 0x100000000n }, { kind: 9, payload: 0n }, { kind: 5, payload: 9n }, { kind: 7, payload: 9n }]) {
-    for (const o of [0, 5]) emitStep({ objects: 4, strings: 4 }, o % 2, [code, o, ...Array(9).fill(0), ...bytesOf(level), ...Array(38).fill(0)]);
+    for (const o of [0, 5]) emitStep({ objects: 4, strings: 4, callable: 0b1010 }, o % 2, [code, o, ...Array(9).fill(0), ...bytesOf(level), ...Array(38).fill(0)]);
   }
 }
 
 for (let i = 0; i < 2000; i++) {
-  const counts = { objects: random(10), strings: random(9) };
-  const proxy = random(2);
-  emitStep(counts, proxy, damaged(someStep()).slice(0, 64));
+  emitStep(someCounts(), random(2), damaged(someStep()).slice(0, 64));
 }
 
 // 7: the tests of a sheet, refusals 1 to 3
@@ -331,18 +371,34 @@ function someAnswer() {
   switch (random(4)) {
     case 0: return [1, ...someValue()];
     case 1: return [2, ...descriptorBytes(descriptor(random(64)))];
-    case 2: { const n = random(4); return [3, n, 0, ...Array.from({ length: n }, someKey).flat()]; }
+    case 2: { const n = random(4); return [3, n, 0, ...Array.from({ length: n }, random(3) ? someKey : someValue).flat()]; }
     default: return [4, ...someValue()];
   }
 }
 
-for (let i = 0; i < 1500; i++) {
-  const counts = { objects: random(10), strings: random(9) };
-  const n = random(5);
-  const whole = [n, ...Array.from({ length: n }, someAnswer).flat()];
-  const sheet = damaged(whole).slice(0, 160);
-  emit(at([7, counts.objects, counts.strings, sheet.length, ...sheet], 180), sheetRefusal(sheet, counts));
+// Objects in every part of an answer, under both kinds; then all answers, damaged.
+function emitSheet(counts, sheet) {
+  const refusal = sheetRefusal(sheet, counts);
+  tally[7][refusal]++;
+  emit(at([7, counts.objects, counts.strings, sheet.length, ...sheet], 180), refusal, counts.callable);
 }
+
+for (const callable of marks) {
+  for (const v of named) {
+    const one = [[1, ...v], [4, ...v], [3, 1, 0, ...v], [3, 2, 0, ...zero, ...v], [2, ...described(8, v, zero, zero)], [2, ...described(16, zero, v, zero)], [2, ...described(32, zero, zero, v)]];
+    for (const answer of one) {
+      emitSheet({ objects: 4, strings: 1, callable }, [1, ...answer]);
+      emitSheet({ objects: 4, strings: 1, callable }, [2, 1, 8, 1, 0, 0, 0, 0, 0, 0, 0, ...answer]);
+    }
+  }
+}
+
+for (let i = 0; i < 1500; i++) {
+  const n = random(5);
+  emitSheet(someCounts(), damaged([n, ...Array.from({ length: n }, someAnswer).flat()]).slice(0, 160));
+}
+
+if (Object.values(tally).flat().some((n) => n < 100)) throw new Error(`a refusal is too seldom the answer: ${JSON.stringify(tally)}`);
 
 // 8: merging, answered 0 and the property; 9: refused as 6, one data and one accessor (5 is the current one's, in the tests of the entry)
 for (let i = 0; i < 300; i++) {

@@ -154,12 +154,13 @@ static void keep(void call(void), const char *what)
 
 static const struct demnyaluz_descriptor sealed = SEALED;
 
-/* Objects 0 and 1, a property of 0, and 2, a proxy of 0 with a trap for [[Get]]; then a step of each code. */
+/* Objects 0 and 1, a property of 0, 2, a proxy of 0 with a trap for [[Get]], and 3, a function; then a step of each code, and some on the function. */
 static const struct demnyaluz_step_parts made[] = {
     {.code = DEMNYALUZ_CODE_MAKE_OBJECT, .value = {DEMNYALUZ_KIND_NULL, 0}},
     {.code = DEMNYALUZ_CODE_MAKE_OBJECT, .value = {DEMNYALUZ_KIND_NULL, 0}},
     {.code = DEMNYALUZ_CODE_DEFINE_OWN_PROPERTY, .key = SYMBOL, .descriptor = SEALED},
     {.code = DEMNYALUZ_CODE_MAKE_PROXY, .value = GET_TRAP},
+    {.code = DEMNYALUZ_CODE_MAKE_FUNCTION, .value = {DEMNYALUZ_KIND_OBJECT, 0}},
 };
 static const struct demnyaluz_step_parts steps[] = {
     {.code = DEMNYALUZ_CODE_MAKE_OBJECT, .value = {DEMNYALUZ_KIND_OBJECT, 0}},
@@ -178,6 +179,10 @@ static const struct demnyaluz_step_parts steps[] = {
     {.code = DEMNYALUZ_CODE_OWN_PROPERTY_KEYS, .object = 1},
     {.code = DEMNYALUZ_CODE_SET_INTEGRITY_LEVEL, .object = 2, .value = {DEMNYALUZ_KIND_INTEGER32, DEMNYALUZ_LEVEL_FROZEN}},
     {.code = DEMNYALUZ_CODE_TEST_INTEGRITY_LEVEL, .object = 2, .value = {DEMNYALUZ_KIND_INTEGER32, DEMNYALUZ_LEVEL_SEALED}},
+    {.code = DEMNYALUZ_CODE_MAKE_FUNCTION, .value = {DEMNYALUZ_KIND_FUNCTION, 3}},
+    {.code = DEMNYALUZ_CODE_MAKE_OBJECT, .value = {DEMNYALUZ_KIND_FUNCTION, 3}},
+    {.code = DEMNYALUZ_CODE_SET, .object = 3, .key = {DEMNYALUZ_KIND_SYMBOL, 8}, .receiver = {DEMNYALUZ_KIND_FUNCTION, 3}},
+    {.code = DEMNYALUZ_CODE_GET, .object = 3, .key = SYMBOL, .receiver = {DEMNYALUZ_KIND_FUNCTION, 3}},
     {.code = DEMNYALUZ_CODE_OWN_PROPERTY_KEYS, .object = 2}, /* one key: the output has no room */
 };
 enum { MADE = sizeof made / sizeof made[0], STEPS = sizeof steps / sizeof steps[0], OUTPUT = 1u << 4 };

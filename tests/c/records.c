@@ -125,8 +125,8 @@ static void property(uint64_t symbol, bool accessor, bool writable, bool enumera
     parts.descriptor.mask = accessor ? 1 + 2 + 16 + 32 : 1 + 2 + 4 + 8;
     parts.descriptor.booleans = (uint8_t)((enumerable ? 1 : 0) + (configurable ? 2 : 0) + (writable ? 4 : 0));
     if (accessor) {
-        parts.descriptor.get = demnyaluz_make_value(DEMNYALUZ_KIND_FUNCTION, 3);
-        parts.descriptor.set = demnyaluz_make_value(DEMNYALUZ_KIND_FUNCTION, 4);
+        parts.descriptor.get = demnyaluz_make_value(DEMNYALUZ_KIND_FUNCTION, 1);
+        parts.descriptor.set = demnyaluz_make_value(DEMNYALUZ_KIND_FUNCTION, 2);
     } else {
         parts.descriptor.value = demnyaluz_from_integer32(-70000);
     }
@@ -143,7 +143,7 @@ static void property(uint64_t symbol, bool accessor, bool writable, bool enumera
     check(report_words[DEMNYALUZ_REPORT_DETAIL] == (accessor ? 1u : 0u) + (writable ? 2u : 0u) + (enumerable ? 4u : 0u) + (configurable ? 8u : 0u), "its flags");
     check(is_none(report.value) && report.keys == 0, "nothing beside it");
     if (accessor)
-        check(is_none(p.value) && p.get.kind == DEMNYALUZ_KIND_FUNCTION && p.get.payload == 3 && p.set.kind == DEMNYALUZ_KIND_FUNCTION && p.set.payload == 4,
+        check(is_none(p.value) && p.get.kind == DEMNYALUZ_KIND_FUNCTION && p.get.payload == 1 && p.set.kind == DEMNYALUZ_KIND_FUNCTION && p.set.payload == 2,
               "its functions");
     else
         check(demnyaluz_to_number(p.value) == -70000 && is_none(p.get) && is_none(p.set), "its value");
@@ -174,11 +174,11 @@ static void forms(void)
     parts = no_parts(DEMNYALUZ_CODE_MAKE_PROXY);
     parts.value = demnyaluz_from_integer32(DEMNYALUZ_TRAP(DEMNYALUZ_CODE_GET));
     report = run_alone(parts);
-    check(report.form == DEMNYALUZ_FORM_VALUE && report.value.kind == DEMNYALUZ_KIND_OBJECT && report.value.payload == 1, "a proxy");
+    check(report.form == DEMNYALUZ_FORM_VALUE && report.value.kind == DEMNYALUZ_KIND_OBJECT && report.value.payload == 3, "a proxy");
     uint8_t sheet[2 + DEMNYALUZ_VALUE_BYTES] = {1, DEMNYALUZ_ANSWER_THROW};
     demnyaluz_write_value(sheet + 2, demnyaluz_from_integer32(-1));
     parts = no_parts(DEMNYALUZ_CODE_GET);
-    parts.object = 1;
+    parts.object = 3;
     parts.key = demnyaluz_make_value(DEMNYALUZ_KIND_SYMBOL, 0);
     report = run(parts, sheet, sizeof sheet);
     check(report.outcome == DEMNYALUZ_OUTCOME_THROWN && report.form == DEMNYALUZ_FORM_VALUE && report.answers == 1 && report.number == 0, "a throw");
@@ -228,6 +228,13 @@ int main(void)
     struct demnyaluz_step_parts making = no_parts(DEMNYALUZ_CODE_MAKE_OBJECT);
     making.value = demnyaluz_make_value(DEMNYALUZ_KIND_NULL, 0);
     check(run_alone(making).outcome == DEMNYALUZ_OUTCOME_RESULT, "an object");
+    making.code = DEMNYALUZ_CODE_MAKE_FUNCTION;
+    for (uint64_t number = 1; number <= 2; number++) {
+        const struct demnyaluz_report report = run_alone(making);
+        check(report.outcome == DEMNYALUZ_OUTCOME_RESULT && report.form == DEMNYALUZ_FORM_VALUE && report.answers == 0 && report.calls == 0, "a function made");
+        check(is_same(report.value, demnyaluz_make_value(DEMNYALUZ_KIND_FUNCTION, number)) && report.keys == 0 && is_no_property(report.property),
+              "its number among the objects");
+    }
     uint64_t symbol = 0;
     for (int booleans = 0; booleans < 8; booleans++)
         property(symbol++, false, booleans & 4, booleans & 2, booleans & 1);

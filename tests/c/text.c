@@ -311,7 +311,7 @@ int main(void)
     run_text(NAMES, HEADING, "the names alone");
     run_text(NAMES "\n", HEADING, "the names alone, with a line feed");
     run_text(sealed_text, sealed_rows, "the sealed 70,000");
-    run_text(NAMES "\n10 00 - - - - -\n10 00 - - - - 000\n0f 01 - - - - 0061\n0f 01 - - - - 00\n0f - - - - - 006100\n",
+    run_text(NAMES "\n11 00 - - - - -\n11 00 - - - - 000\n0f 01 - - - - 0061\n0f 01 - - - - 00\n0f - - - - - 006100\n",
              HEADING "1 0 1 0 0 -\n2 0 12 0 0 -\n3 0 1 0 0 -\n4 0 12 0 0 -\n5 0 12 0 0 -\n", "12 before 1");
     run_text(NAMES "\n" MAKING "\n0f - - - - - 0061\n0f - - - - - 0037\n09 00 050000000000000000 - - - -\n09 00 050100000000000000 - - - -\n0e 00 - - - - -\n",
              HEADING "1 1 0 0 0 070000000000000000\n2 1 0 0 0 050000000000000000\n3 1 0 0 0 050100000000000000\n4 1 0 0 3 020100000000000000\n"
@@ -322,6 +322,11 @@ int main(void)
              HEADING "1 1 0 0 0 070000000000000000\n2 1 0 0 1 020000000000000000\n3 1 0 0 2 020100000000000000\n4 1 0 0 2 020100000000000000\n"
                      "5 0 1 0 0 -\n6 0 3 0 0 -\n",
              "an object frozen");
+    run_text(NAMES "\n10 00 - " NULL_VALUE " - - -\n01 00 - 080000000000000000 - - -\n10 - - 070100000000000000 - - -\n04 02 - - - - -\n04 01 - - - - -\n"
+                   "02 00 - 030000000000000000 - - -\n10 00 - 080100000000000000 - - -\n10 00 - 080300000000000000 - - -\n10 01 - " NULL_VALUE " - - -\n",
+             HEADING "1 1 0 0 0 080000000000000000\n2 1 0 0 0 070100000000000000\n3 1 0 0 0 080200000000000000\n4 1 0 0 1 070100000000000000\n"
+                     "5 1 0 0 1 080000000000000000\n6 0 3 0 0 -\n7 0 3 0 0 -\n8 0 2 0 0 -\n9 0 1 0 0 -\n",
+             "functions made, and a proxy over one");
     run_text("", HEADING "0 0 12 0 0 -\n", "no input");
     run_text(NAMES " ", HEADING "0 0 12 0 0 -\n", "a broken first line, not ended");
     run_head("", "an empty first line");

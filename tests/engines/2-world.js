@@ -19,9 +19,14 @@ function next(asks) {
   return sheet.answers[sheet.used++];
 }
 
-// Functions: as getter or setter each takes the next answer.
-const FUNCTIONS = Array.from({ length: 256 }, () => function () { return valueOf(valueAnswer({ trap: 'function' })); });
-const functionNumber = new Map(FUNCTIONS.map((f, n) => [f, n]));
+// A function without own properties: as getter or setter it takes the next answer.
+function callableObject(prototype) {
+  const it = () => valueOf(valueAnswer({ trap: 'function' }));
+  for (const key of Reflect.ownKeys(it)) if (!Reflect.deleteProperty(it, key)) throw new Error('a function keeps ' + String(key));
+  return Object.setPrototypeOf(it, prototype);
+}
+
+const madeObject = (callable, prototype) => (callable ? callableObject(prototype) : Object.create(prototype));
 
 let world;
 
@@ -30,7 +35,12 @@ function newWorld() {
   keep(dumpStore());
 }
 
-const counts = () => ({ objects: world.objects.length, strings: world.strings.length, isProxy: (o) => world.objects[o].proxy });
+const isCallable = (o) => world.objects[o].callable;
+const counts = () => ({ objects: world.objects.length, strings: world.strings.length, isProxy: (o) => world.objects[o].proxy, isCallable });
+
+// The value that names an object: of kind 8 where it is callable. `misnamed` has the wrong kind.
+const named = (o) => (isCallable(o) ? callable(o) : object(o));
+const misnamed = (o) => (isCallable(o) ? object(o) : callable(o));
 
 // The JavaScript value that 9 bytes stand for.
 function valueOf(v) {
@@ -42,8 +52,7 @@ function valueOf(v) {
     case 4: for (let i = 0; i < 8; i++) view.setUint8(i, v[1 + i]); return view.getFloat64(0, true);
     case 5: return world.strings[payload(v)];
     case 6: return SYMBOLS[payload(v)];
-    case 7: return world.objects[payload(v)].it;
-    default: return FUNCTIONS[payload(v)];
+    default: return world.objects[payload(v)].it;
   }
 }
 
@@ -61,7 +70,7 @@ function bytesOf(x) {
     case 'number': return x === x ? float(x) : [4, 0, 0, 0, 0, 0, 0, 0xf8, 0x7f];
     case 'string': return string(world.stringNumber.get(x));
     case 'symbol': return symbol(symbolNumber.get(x));
-    case 'function': return callable(functionNumber.get(x));
+    case 'function': return callable(world.numbers.get(x));
     default: return x === null ? NULL : object(world.numbers.get(x));
   }
 }
@@ -81,7 +90,7 @@ function valueText(x) {
     }
     case 'string': return '05' + HEX[world.stringNumber.get(x)];
     case 'symbol': return '06' + HEX[symbolNumber.get(x)];
-    case 'function': return '08' + HEX[functionNumber.get(x)];
+    case 'function': return '08' + HEX[world.numbers.get(x)];
     default: return x === null ? '01' : '07' + HEX[world.numbers.get(x)];
   }
 }
@@ -100,7 +109,7 @@ function dumpStore() {
     const keys = proxy ? [] : Reflect.ownKeys(it);
     sizes.push(keys.length);
     if (proxy) { text += '02'; continue; }
-    text += (Reflect.isExtensible(it) ? '01' : '00') + valueText(Reflect.getPrototypeOf(it)) + hex2(keys.length);
+    text += (typeof it === 'function' ? '01' : '00') + (Reflect.isExtensible(it) ? '01' : '00') + valueText(Reflect.getPrototypeOf(it)) + hex2(keys.length);
     for (const key of keys) text += valueText(key) + propertyText(Reflect.getOwnPropertyDescriptor(it, key));
   }
   return { text, sizes };
@@ -119,12 +128,6 @@ function valueAnswer(asks) {
   return a.value;
 }
 
-function prototypeAnswer(asks) {
-  const v = valueAnswer(asks);
-  if (v[0] === 8) throw refusal9;
-  return valueOf(v);
-}
-
 // The next answer where a descriptor (tag 2) or a key list (tag 3) is to stand: another primitive is left to the engine.
 function objectAnswer(asks, tag, made) {
   const a = next(asks);
@@ -137,7 +140,6 @@ function objectAnswer(asks, tag, made) {
 function handlerOf(target, mask) {
   const handler = Object.create(null);
   const traps = {
-    getPrototypeOf: () => prototypeAnswer({ trap: 'getPrototypeOf', target }),
     getOwnPropertyDescriptor: (_, key) => objectAnswer({ trap: 'getOwnPropertyDescriptor', target, key }, 2, (a) => descriptorObject(a.descriptor)),
     ownKeys: () => objectAnswer({ trap: 'ownKeys', target }, 3, (a) => a.list.map(valueOf)),
   };
@@ -157,17 +159,17 @@ function handlerOf(target, mask) {
 
 function add(it, proxy, more) {
   world.numbers.set(it, world.objects.length);
-  world.objects.push(Object.assign({ it, proxy }, more));
+  world.objects.push(Object.assign({ it, proxy, callable: typeof it === 'function' }, more));
   return it;
 }
 
 // What each code does on the engine's objects: the completion, as text.
 function run(s) {
-  const it = s.code === 1 ? null : world.objects[s.object].it;
+  const it = s.code === 1 || s.code === 16 ? null : world.objects[s.object].it;
   const key = valueOf(s.key), value = s.code === 2 ? null : valueOf(s.value), receiver = valueOf(s.receiver);
   const told = (x) => '01' + valueText(x);
   switch (s.code) {
-    case 1: return told(add(Object.create(value), false, {}));
+    case 1: case 16: return told(add(madeObject(s.code === 16, value), false, {}));
     case 2: {
       const mask = s.value[1] + 256 * s.value[2];
       const made = Proxy.revocable(it, handlerOf(s.object, mask));
@@ -221,7 +223,7 @@ function failedLevel(e) {
 
 // One step over tested records; `room` is the output's length. The expectation, and what the output then holds.
 function perform(s, room) {
-  if (s.code <= 2 && world.objects.length === FULL.objects) return refused(7);
+  if ((s.code <= 2 || s.code === 16) && world.objects.length === FULL.objects) return refused(7);
   try {
     const done = run(s);
     if (s.code === 18 && sheet.rejected !== null) return failedLevel('no error');
@@ -249,16 +251,16 @@ function copied() {
     for (const [name] of FIELDS) if (name in p) d[name] = part(p, name);
     return [key, d];
   };
-  return world.objects.map(({ it, proxy, target, mask, revoked }) => (proxy ? { proxy, target, mask, revoked } : {
-    proxy, extensible: Reflect.isExtensible(it), prototype: bytesOf(Reflect.getPrototypeOf(it)), entries: Reflect.ownKeys(it).map((key) => entry(it, key)) }));
+  return world.objects.map(({ it, proxy, callable, target, mask, revoked }) => (proxy ? { proxy, target, mask, revoked } : {
+    proxy, callable, extensible: Reflect.isExtensible(it), prototype: bytesOf(Reflect.getPrototypeOf(it)), entries: Reflect.ownKeys(it).map((key) => entry(it, key)) }));
 }
 
 // Other objects in the place of all, as they were.
 function restored(copies) {
   world.objects = [];
   world.numbers = new Map();
-  for (const { proxy, target, mask } of copies) {
-    if (!proxy) { add(Object.create(null), false, {}); continue; }
+  for (const { proxy, callable, target, mask } of copies) {
+    if (!proxy) { add(madeObject(callable, null), false, {}); continue; }
     const made = Proxy.revocable(world.objects[target].it, handlerOf(target, mask));
     add(made.proxy, true, { target, mask, revoke: made.revoke });
   }

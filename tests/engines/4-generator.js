@@ -23,7 +23,7 @@ function weighed(rows) {
 // Strings, keys and values -------------------------------------------------------------
 
 const INDICES = ['0', '1', '7', '9', '10', '01', '00', '99', '4294967293', '4294967294', '4294967295', '4294967296', '2147483647', '2147483648', '-1', '1e3', '+1', '12345678901'];
-const NAMES = ['', 'a', 'b', 'c', 'visits', 'name', 'length', '__proto__', 'constructor', 'toString', 'value', 'get', '\ud800', '\udc00\ud800', 'a\ud83d\ude00',
+const NAMES = ['', 'a', 'b', 'c', 'visits', 'name', 'length', 'name', 'length', 'prototype', 'arguments', 'caller', '__proto__', 'constructor', 'toString', 'value', 'get', '\ud800', '\udc00\ud800', 'a\ud83d\ude00',
   '\u0660', 'x'.repeat(32), 'x'.repeat(31) + 'y', '\u00e9', 'e\u0301', ' 1', '1 '];
 
 function someText() {
@@ -36,11 +36,13 @@ const PRIMITIVES = [UNDEFINED, NULL, boolean(true), boolean(false), integer(0), 
   integer(-2147483648), float(0), float(-0), float(-0), float(1), float(-1), float(70000), float(4464), float(0.5), float(2147483648), float(Infinity), float(-Infinity),
   float(5e-324), float(1.7976931348623157e308), [4, 0, 0, 0, 0, 0, 0, 0xf8, 0x7f], [4, 1, 0, 0, 0, 0, 0, 0xf0, 0xff], [4, 255, 255, 255, 255, 255, 255, 255, 127]];
 
-const someObject = () => (world.objects.length > 0 ? object(random(world.objects.length)) : NULL);
+// An object of any sort, by its value; a function, or undefined where there is none.
+const someObject = () => (world.objects.length > 0 ? named(random(world.objects.length)) : NULL);
+const numbersOf = (test) => world.objects.map((_, o) => o).filter((o) => test(world.objects[o]));
+const someFunction = () => { const made = numbersOf((at) => at.callable); return made.length > 0 ? callable(pick(made)) : UNDEFINED; };
 const someString = () => (world.strings.length > 0 ? string(random(world.strings.length)) : symbol(0));
 const someSymbol = () => symbol(weighed([[8, random(4)], [1, 255], [1, random(256)]]));
-const someFunction = () => callable(weighed([[6, random(3)], [1, 255], [1, random(256)]]));
-const someValue = () => weighed([[12, () => pick(PRIMITIVES)], [3, someString], [2, someSymbol], [3, someObject], [2, someFunction]])();
+const someValue = () => weighed([[12, () => pick(PRIMITIVES)], [3, someString], [2, someSymbol], [3, someObject], [3, someFunction]])();
 const somePrimitive = () => weighed([[10, () => pick(PRIMITIVES)], [3, someString], [2, someSymbol]])();
 
 // A value like another: a number written otherwise, or nearly the number; a zero of the other sign; another NaN.
@@ -51,7 +53,7 @@ function nearValue(v) {
   return weighed([[3, () => (x === 0 ? float(-1 / x === Infinity ? 0 : -0) : float(-x))], [2, () => float(x)], [2, () => (Object.is(x | 0, x) ? integer(x) : float(x))], [1, () => float(x + 1)], [1, someValue]])();
 }
 
-// The ordinary object at the end of the targets.
+// The ordinary object, or the function, at the end of the targets.
 function baseOf(o) {
   let at = world.objects[o];
   while (at.proxy) at = world.objects[at.target];
@@ -127,7 +129,7 @@ const openDescriptor = () => Object.assign(chance(75) ? { value: someValue(), wr
 // Answers --------------------------------------------------------------------------------
 
 // A value that counts as true, or as false; the empty string is one of the entered ones.
-const someTrue = () => weighed([[3, () => pick([boolean(true), integer(1), float(-0.5), float(Infinity)])], [2, someSymbol], [2, someObject], [1, someFunction]])();
+const someTrue = () => weighed([[3, () => pick([boolean(true), integer(1), float(-0.5), float(Infinity)])], [2, someSymbol], [2, someObject], [2, someFunction]])();
 const someFalse = () => pick([UNDEFINED, NULL, integer(0), float(0), float(-0), float(NaN), someString()]);
 const truth = (b) => answered(chance(90) ? boolean(b) : b ? someTrue() : someFalse());
 
@@ -139,7 +141,7 @@ function keyListAnswer(o) {
   const added = (v) => list.slice(0, at).concat([v], list.slice(at));
   const key = chance(60) ? someString() : someSymbol();
   return listed(weighed([[36, () => list], [20, without], [14, () => added(key)], [10, () => (list.length > 0 ? added(pick(list)) : [key, key])],
-    [8, () => list.map((v, i) => (i === at ? key : v))], [4, () => added(somePrimitive())], [1, () => added(chance(50) ? someObject() : someFunction())],
+    [8, () => list.map((v, i) => (i === at ? key : v))], [4, () => added(somePrimitive())], [3, () => added(chance(50) ? someObject() : someFunction())],
     [3, () => []], [5, () => { const l = []; for (let n = random(6); n > 0; n--) l.push(chance(50) ? someString() : someSymbol()); return l; }]])().slice(0, 256));
 }
 
@@ -175,7 +177,7 @@ function someAnswer(asks) {
   switch (asks.trap) {
     case 'getPrototypeOf': {
       const p = Reflect.getPrototypeOf(baseOf(o));
-      return answered(weighed([[70, () => bytesOf(p)], [8, () => NULL], [14, someObject], [8, somePrimitive]])());
+      return answered(weighed([[64, () => bytesOf(p)], [8, () => NULL], [12, someObject], [8, someFunction], [8, somePrimitive]])());
     }
     case 'isExtensible': return truth(chance(85) === Reflect.isExtensible(baseOf(o)));
     case 'getOwnPropertyDescriptor': return ownPropertyAnswer(o, asks.key);
@@ -226,14 +228,22 @@ function levelCalls(code, o) {
 const MASKS = [0, 0, 0, 1, 2, 4, 8, 16, 32, 64, 128, 256, 512, 1024, 16 + 1024, 32 + 256, 16 + 32];
 const LEVEL_MASKS = [16, 16, 32, 32, 1024, 16 + 32, 16 + 1024, 32 + 1024, 16 + 32 + 1024, 0];      // preventExtensions is forwarded, and later answers may be wrong
 const someMask = (style) => integer(style.loops && chance(60) ? 0 : style.levels && chance(65) ? pick(LEVEL_MASKS) : weighed([[45, 2047], [20, pick(MASKS)], [35, random(2048)]]));
-const someReceiver = (o) => weighed([[50, () => object(o)], [22, someObject], [10, () => UNDEFINED], [18, somePrimitive]])();
+const someReceiver = (o) => weighed([[46, () => named(o)], [18, someObject], [10, someFunction], [9, () => UNDEFINED], [17, somePrimitive]])();
+const somePrototype = () => weighed([[60, someObject], [20, () => NULL], [20, () => { const f = someFunction(); return f[0] === 8 ? f : NULL; }]])();
+
+// What a world begins with: an object or a function, and mostly one of each and a proxy among the first three.
+function beginning(n) {
+  if (n === 0) return pick([1, 1, 16]);
+  if (n === 1) return isCallable(0) ? 1 : pick([2, 2, 16]);
+  return someFunction()[0] === 8 ? pick([1, 2, 2, 2, 16]) : pick([16, 16, 2]);
+}
 
 function someStep(style) {
-  const n = world.objects.length;
-  const code = n < 2 ? 1 + random(2) * (n > 0 ? 1 : 0) : weighed(style.codes);
-  if (code === 1) return { code, value: n > 0 && chance(60) ? someObject() : NULL };
-  const proxies = world.objects.map((_, i) => i).filter((i) => world.objects[i].proxy && !world.objects[i].revoked);
-  const o = code !== 2 && proxies.length > 0 && chance(style.proxies) ? pick(proxies) : chance(style.last) ? n - 1 - random(Math.min(n, 3)) : random(n), key = someKey(o, style);
+  const n = world.objects.length, code = n < 3 ? beginning(n) : weighed(style.codes);
+  if (code === 1 || code === 16) return { code, value: n > 0 && chance(70) ? somePrototype() : NULL };
+  const proxies = numbersOf((at) => at.proxy && !at.revoked), targets = numbersOf((at) => !at.callable);
+  const any = code !== 2 && proxies.length > 0 && chance(style.proxies) ? pick(proxies) : chance(style.last) ? n - 1 - random(Math.min(n, 3)) : random(n);
+  const o = code === 2 && isCallable(any) && targets.length > 0 && chance(90) ? pick(targets) : any, key = someKey(o, style);
   if (code === 7 && chance(50)) return { code, object: world.numbers.get(baseOf(o)) };
   const level = integer(random(2));
   if (code === 18 && chance(style.levels ? 12 : 30)) return { code, object: world.numbers.get(baseOf(o)), value: level };
@@ -241,7 +251,7 @@ function someStep(style) {
   switch (code) {
     case 2: return { code, object: o, value: someMask(style) };
     case 3: return proxies.length > 0 && chance(30) ? { code, object: o === proxies[0] || chance(80) ? pick(proxies) : o } : { code: 6, object: o };
-    case 5: return { code, object: o, value: chance(80) ? someObject() : NULL };
+    case 5: return { code, object: o, value: somePrototype() };
     case 9: return { code, object: o, key, descriptor: style.levels && chance(70) ? openDescriptor() : handedDescriptor(o, valueOf(key)) };
     case 11: return { code, object: o, key, receiver: someReceiver(o) };
     case 12: { const there = current(o, valueOf(key)); return { code, object: o, key, value: there && there.value && chance(50) ? (chance(60) ? there.value : nearValue(there.value)) : someValue(), receiver: someReceiver(o) }; }
@@ -251,14 +261,18 @@ function someStep(style) {
   }
 }
 
+// A number that no object has, under kind 7 or 8.
+const unmade = () => weighed([[3, pick([object, callable])(world.objects.length)], [2, pick([object, callable])(world.objects.length + random(300))], [1, [7 + random(2), 0, 0, 0, 0, 1, 0, 0, 0]]]);
+
 // Refusals 2 to 4: a part that cannot be used.
 function spoilt(s) {
   const t = Object.assign({}, s);
   const d = Object.assign({}, s.descriptor || {});
-  const spoil = (name) => { t[name] = pick([object(world.objects.length), object(world.objects.length + random(300)), string(world.strings.length), symbol(256), callable(256), someFunction(), [7, 0, 0, 0, 0, 1, 0, 0, 0], [5, 0, 0, 0, 0, 0, 0, 0, 1], someValue()]); };
+  const spoil = (name) => { t[name] = pick([unmade(), misnamed(random(world.objects.length)), misnamed(random(world.objects.length)), string(world.strings.length), symbol(256), someFunction(), [5, 0, 0, 0, 0, 0, 0, 0, 1], someValue()]); };
   weighed([[3, () => { t.object = world.objects.length + random(3); }], [3, () => spoil('key')], [2, () => spoil('value')], [2, () => spoil('receiver')],
     [2, () => { t.code = 3; delete t.key; delete t.value; delete t.receiver; delete t.descriptor; }],
-    [4, () => { t.code = 9; t.key = s.key || someString(); delete t.value; delete t.receiver; Object.assign(d, pick([{ get: someFunction(), value: someValue() }, { set: UNDEFINED, writable: true }, { get: somePrimitive() }, { set: someObject() }])); t.descriptor = d; }]])();
+    [4, () => { t.code = 9; t.key = s.key || someString(); delete t.value; delete t.receiver; Object.assign(d, pick([{ get: someFunction(), value: someValue() }, { set: UNDEFINED, writable: true }, { get: somePrimitive() }, { set: someObject() },
+      { get: misnamed(random(world.objects.length)) }, { set: misnamed(random(world.objects.length)) }, { set: unmade() }, { value: unmade(), get: UNDEFINED }])); t.descriptor = d; }]])();
   return t;
 }
 
@@ -280,6 +294,12 @@ function someRoom(o) {
 
 const anyAnswer = () => weighed([[4, () => answered(someValue())], [2, () => described(someDescriptor())], [2, () => listed([someString(), someSymbol()])], [1, () => thrown(someValue())]])();
 
+// Refusals 2 and 3 over the sheet: an object under the wrong kind, or one that was never made, wherever a value stands.
+function spoiltAnswer() {
+  const v = chance(60) ? misnamed(random(world.objects.length)) : unmade();
+  return pick([() => answered(v), () => thrown(v), () => listed([someString(), v]), () => described({ value: v }), () => described({ get: v }), () => described({ set: v, get: someFunction() })])();
+}
+
 // Whether a prototype would make a loop.
 function wouldLoop(o, p) {
   const base = world.numbers.get(baseOf(o)), seen = new Set();
@@ -292,13 +312,15 @@ function wouldLoop(o, p) {
   return false;
 }
 
+const isIndex = (key) => typeof key === 'string' && String(key >>> 0) === key && key >>> 0 !== 4294967295;
+
 // Where JavaScriptCore departs from 10.1.9.2: [[Set]] of an array index that the receiver lacks. A prototype has it as writable data, which decides; but a
 // prototype further up that has it read-only or as an accessor decides there. docs/DIFFERENCES.md.
 function isIntercepted(s) {
   let n = s.object, found = false;
   while (world.objects[n].proxy && !world.objects[n].revoked && !(world.objects[n].mask & 256)) n = world.objects[n].target;
-  const key = valueOf(s.key), isIndex = typeof key === 'string' && String(key >>> 0) === key && key >>> 0 !== 4294967295;
-  if (world.objects[n].proxy || valueOf(s.receiver) !== world.objects[n].it || !isIndex || Reflect.getOwnPropertyDescriptor(world.objects[n].it, key) !== undefined) return false;
+  const key = valueOf(s.key);
+  if (world.objects[n].proxy || valueOf(s.receiver) !== world.objects[n].it || !isIndex(key) || Reflect.getOwnPropertyDescriptor(world.objects[n].it, key) !== undefined) return false;
   for (; n !== undefined && !world.objects[n].proxy; n = world.numbers.get(Reflect.getPrototypeOf(world.objects[n].it))) {
     const p = Reflect.getOwnPropertyDescriptor(world.objects[n].it, key);
     if (p !== undefined && !p.writable) return found;
@@ -307,24 +329,39 @@ function isIntercepted(s) {
   return false;
 }
 
+// Where JavaScriptCore departs from 10.1.11.1: it lists a function's own length, then its name, before other strings, whenever they were created. A step
+// that may add one of the two after such a string. docs/DIFFERENCES.md.
+function isReordered(s) {
+  const n = s.code === 9 ? s.object : s.code === 12 && s.receiver[0] === 8 ? payload(s.receiver) : undefined, key = valueOf(s.key);
+  if (n === undefined || !isCallable(n) || (key !== 'length' && key !== 'name')) return false;
+  const own = Reflect.ownKeys(world.objects[n].it);
+  return !own.includes(key) && own.some((k) => typeof k === 'string' && !isIndex(k) && !(key === 'name' && k === 'length'));
+}
+
+// A step, or another question to the same object where the engine is known to depart.
+function asked(record) {
+  if (engine !== 'jsc' || (record[0] !== 9 && record[0] !== 12) || stepRefusal(record, counts()) !== 0) return record;
+  const s = stepOf(record);
+  return isReordered(s) || (s.code === 12 && isIntercepted(s)) ? stepBytes({ code: 6, object: s.object }) : record;
+}
+
 // A step as the style has it, or another where it would walk too far or make a loop that is not asked for.
 function chosenStep(style) {
   const s = someStep(style);
-  if (s.code === 5 && !style.loops && s.value[0] === 7 && (isLoop(s.object) || wouldLoop(s.object, payload(s.value)))) return { code: 4, object: s.object };
-  return chance(4) ? spoilt(s) : s;
+  if (s.code === 5 && !style.loops && s.value[0] !== 1 && (isLoop(s.object) || wouldLoop(s.object, payload(s.value)))) return { code: 4, object: s.object };
+  return world.objects.length > 0 && chance(4) ? spoilt(s) : s;
 }
 
 // False where the world cannot go on.
 function step(style) {
-  const whole = stepBytes(chosenStep(style)), record = chance(2) ? damaged(whole) : whole;
+  const whole = stepBytes(chosenStep(style)), record = asked(chance(2) ? damaged(whole) : whole);
   const made = record[1] < world.objects.length, lists = record[0] === 14 && made, levels = (record[0] === 18 || record[0] === 19) && made;
   if (lists && walk(record[1]) > 1500) record[0] = 6;
   if (levels && levelCalls(record[0], record[1]) > 2048) { record[0] = 6; record.fill(0, 11, 20); }
-  if (engine === 'jsc' && record[0] === 12 && stepRefusal(record, counts()) === 0 && isIntercepted(stepOf(record))) { record[0] = 6; record.fill(0, 2); }
   const room = lists ? someRoom(record[1]) : random(4) * random(12);
   if (chance(3)) {
-    const bytes = sheetBytes(Array.from({ length: random(4) }, anyAnswer));
-    return doStep(record, chance(75) ? damaged(bytes) : bytes, room);
+    const bytes = sheetBytes(Array.from({ length: random(4) }, () => (world.objects.length > 0 && chance(30) ? spoiltAnswer() : anyAnswer())));
+    return doStep(record, chance(60) ? damaged(bytes) : bytes, room);
   }
   const end = chance(8) ? random(4) : FULL.answers;       // where the sheet ends too soon
   let given = 0;
@@ -338,16 +375,17 @@ function step(style) {
 function levelScene() {
   const run = (s, honest, end) => {
     let given = 0;
-    return doStep(stepBytes(s), (asks) => (given++ < end ? (chance(honest) && trueAnswer(asks)) || someAnswer(asks) : null), 0);
+    return doStep(asked(stepBytes(s)), (asks) => (given++ < end ? (chance(honest) && trueAnswer(asks)) || someAnswer(asks) : null), 0);
   };
   const last = () => world.objects.length - 1, level = integer(random(3) ? 1 : 0);
-  run({ code: 1, value: NULL }, 0, 0);
+  const callable = chance(20);
+  run({ code: callable ? 16 : 1, value: chance(70) ? NULL : somePrototype() }, 0, 0);
   const base = last();
   for (let n = 1 + random(5); n > 0; n--) {
     const key = chance(75) ? someString() : someSymbol();
     if (!run({ code: 9, object: base, key, descriptor: chance(85) ? openDescriptor() : someDescriptor() }, 0, 0)) return false;
   }
-  for (let n = 1 + random(2); n > 0; n--) run({ code: 2, object: last(), value: integer(chance(85) ? pick(LEVEL_MASKS) : random(2048)) }, 0, 0);
+  for (let n = callable ? 0 : 1 + random(2); n > 0; n--) run({ code: 2, object: last(), value: integer(chance(85) ? pick(LEVEL_MASKS) : random(2048)) }, 0, 0);
   if (chance(20)) run(chance(50) ? { code: 7, object: base } : { code: 18, object: base, value: integer(random(2)) }, 0, 0);
   const end = chance(20) ? random(6) : FULL.answers, honest = pick([70, 88, 96]);
   run({ code: 18, object: last(), value: level }, honest, end);
@@ -361,22 +399,23 @@ function stepAlone() {
   const whole = (d) => Object.assign('get' in d || 'set' in d ? { get: UNDEFINED, set: UNDEFINED } : { value: UNDEFINED, writable: false }, { enumerable: false, configurable: false }, d);
   const there = chance(92) ? whole(someDescriptor()) : someDescriptor();
   const d = chance(60) ? near(there) : chance(94) ? someDescriptor() : Object.assign(someDescriptor(), { get: someFunction(), value: somePrimitive() });
-  if (chance(3)) d.value = pick([object(world.objects.length), string(world.strings.length), symbol(300)]);
+  if (chance(4)) d.value = pick([unmade(), misnamed(random(world.objects.length)), string(world.strings.length), symbol(300)]);
+  if (chance(2)) there.get = pick([unmade(), misnamed(random(world.objects.length))]);
   const record = descriptorBytes(d), other = kind === 3 || (kind < 6 && chance(15)) ? [] : descriptorBytes(there);
   doAlone(kind, chance(3) ? damaged(record) : record, chance(3) && kind > 3 ? damaged(other) : other);
 }
 
 // Worlds ---------------------------------------------------------------------------------
 
-const EVEN = [[4, 1], [5, 2], [1, 3], [6, 4], [5, 5], [5, 6], [4, 7], [12, 8], [20, 9], [9, 10], [10, 11], [12, 12], [6, 13], [10, 14], [3, 18], [4, 19]];
+const EVEN = [[3, 1], [3, 16], [5, 2], [1, 3], [6, 4], [5, 5], [5, 6], [4, 7], [12, 8], [20, 9], [9, 10], [10, 11], [12, 12], [6, 13], [10, 14], [3, 18], [4, 19]];
 const STYLES = [
   [70, { calls: 150, strings: 8, last: 30, proxies: 60, codes: EVEN }],
-  [10, { calls: 60, strings: 4, last: 60, proxies: 75, codes: [[2, 1], [14, 2], [1, 3], [4, 4], [3, 5], [4, 6], [3, 7], [10, 8], [12, 9], [6, 10], [8, 11], [8, 12], [5, 13], [8, 14], [4, 18], [5, 19]] }],
-  [24, { calls: 60, strings: 5, last: 40, proxies: 65, codes: [[2, 1], [4, 2], [3, 4], [3, 5], [3, 6], [9, 7], [16, 8], [22, 9], [9, 10], [12, 11], [9, 12], [6, 13], [16, 14], [5, 18], [6, 19]] }],
-  [36, { calls: 60, strings: 5, last: 85, proxies: 35, levels: true, codes: [[7, 1], [12, 2], [1, 3], [1, 6], [1, 7], [5, 8], [44, 9], [2, 12], [2, 13], [4, 14], [14, 18], [14, 19]] }],
+  [10, { calls: 60, strings: 4, last: 60, proxies: 75, codes: [[2, 1], [2, 16], [14, 2], [1, 3], [4, 4], [3, 5], [4, 6], [3, 7], [10, 8], [12, 9], [6, 10], [8, 11], [8, 12], [5, 13], [8, 14], [4, 18], [5, 19]] }],
+  [24, { calls: 60, strings: 5, last: 40, proxies: 65, codes: [[1, 1], [2, 16], [4, 2], [3, 4], [3, 5], [3, 6], [9, 7], [16, 8], [22, 9], [9, 10], [12, 11], [9, 12], [6, 13], [16, 14], [5, 18], [6, 19]] }],
+  [36, { calls: 60, strings: 5, last: 85, proxies: 35, levels: true, codes: [[6, 1], [3, 16], [12, 2], [1, 3], [1, 6], [1, 7], [5, 8], [44, 9], [2, 12], [2, 13], [4, 14], [14, 18], [14, 19]] }],
   [6, { calls: 50, strings: 4, last: 40, proxies: 40, loops: true, codes: EVEN }],
-  [4, { calls: 120, strings: 3, last: 5, proxies: 20, codes: [[30, 1], [30, 2], [2, 3], [5, 9], [5, 11], [5, 12]] }],
-  [2, { calls: 700, strings: 4, last: 0, proxies: 10, crowd: true, codes: [[1, 1], [1, 2], [90, 9], [2, 10], [12, 12], [3, 13], [1, 14], [1, 18], [2, 19]] }],
+  [4, { calls: 120, strings: 3, last: 5, proxies: 20, codes: [[20, 1], [20, 16], [30, 2], [2, 3], [5, 9], [5, 11], [5, 12]] }],
+  [2, { calls: 700, strings: 4, last: 0, proxies: 10, crowd: true, codes: [[1, 1], [1, 16], [1, 2], [90, 9], [2, 10], [12, 12], [3, 13], [1, 14], [1, 18], [2, 19]] }],
 ];
 
 function someWorld(limit) {

@@ -4,12 +4,13 @@ function fixedCalls() {
   const enter = (text) => { doEnter(text); return string(world.stringNumber.get(text)); };
   const run = (code, o, parts, answers, room) => doStep(stepBytes(Object.assign({ code, object: o }, parts)), sheetBytes(answers || []), room === undefined ? 40 : room);
   const make = (prototype) => { run(1, 0, { value: prototype || NULL }); return world.objects.length - 1; };
+  const makeFunction = (prototype) => { run(16, 0, { value: prototype || NULL }); return world.objects.length - 1; };
   const proxy = (o, mask) => { run(2, o, { value: integer(mask === undefined ? 2047 : mask) }); return world.objects.length - 1; };
   const define = (o, key, descriptor, answers) => run(9, o, { key, descriptor }, answers);
   const yes = answered(boolean(true)), no = answered(boolean(false)), none = answered(UNDEFINED);
 
   emptied();
-  const a = enter('a'), b = enter('b'), s = symbol(3), f = callable(1);
+  const a = enter('a'), b = enter('b'), s = symbol(3), f = callable(makeFunction()), g = callable(makeFunction());
   // a base with a sealed count of 70,000, a property that is fixed but writable, and an accessor without functions; all its proxies trap all
   const o = make(), p = proxy(o);
   define(o, a, { value: integer(70000), enumerable: true, writable: false, configurable: false });
@@ -75,7 +76,7 @@ function fixedCalls() {
   for (const bytes of [[], stepBytes({ code: 4 }).slice(1), stepBytes({ code: 0 }), stepBytes({ code: 15 }), stepBytes({ code: 16 }), stepBytes({ code: 17 }), stepBytes({ code: 20 }), stepBytes({ code: 4, key: a }), stepBytes({ code: 1, object: 1, value: NULL })]) doStep(bytes, [0], 9);
   run(2, o, { value: integer(2048) }); run(2, o, { value: integer(-1) }); run(2, o, { value: float(1) });
   run(4, 32); run(5, o, { value: object(200) }); run(5, o, { value: [7, 0, 0, 0, 0, 1, 0, 0, 0] });
-  run(10, o, { key: string(99) }); run(10, o, { key: symbol(256) }); run(10, o, { key: NULL }); run(5, o, { value: f }); run(3, o); run(11, o, { key: a, receiver: f });
+  run(10, o, { key: string(99) }); run(10, o, { key: symbol(256) }); run(10, o, { key: NULL }); run(5, o, { value: UNDEFINED }); run(3, o); run(11, o, { key: a, receiver: callable(o) });
   enter('x'.repeat(33));
   define(o, a, { value: NULL, get: f }); define(o, a, { writable: true, set: UNDEFINED }); define(o, a, { get: object(o) }); define(o, a, { set: integer(0) });
   for (const bytes of [[], [65], [1], [1, 0], [1, 5].concat(ZERO), [1, 1].concat(ZERO, [0]), [1, 3, 1, 1].concat(ZERO), [1, 2, 64, 0].concat(ZERO, ZERO, ZERO), [1, 1, 2, 2, 0, 0, 0, 0, 0, 0, 0]]) doStep(stepBytes({ code: 4, object: o }), bytes, 0);
@@ -91,10 +92,10 @@ function fixedCalls() {
   }
   // 8: a sheet that ends too soon; 9: answers in the wrong place
   run(6, p); run(11, p, { key: a }); run(11, proxy(p, 128), { key: a }, [none]);
-  run(4, p, {}, [answered(f)]); run(8, p, { key: a }, [answered(object(o))]); run(8, p, { key: a }, [answered(f)]); run(8, p, { key: a }, [listed([a])]);
+  run(8, p, { key: a }, [answered(object(o))]); run(8, p, { key: a }, [answered(f)]); run(8, p, { key: a }, [listed([a])]);
   run(14, p, {}, [answered(object(o))]); run(14, p, {}, [described({})]); run(6, p, {}, [described({})]); run(11, p, { key: a }, [listed([])]);
   // getters and setters take an answer too, and a proxy receiver has its own define trap
-  define(free, s, { get: f, set: callable(2), configurable: true });
+  define(free, s, { get: f, set: g, configurable: true });
   run(11, free, { key: s, receiver: UNDEFINED }, [answered(float(0.5))]); run(11, closed, { key: s, receiver: object(closed) }, [thrown(a)]); run(11, free, { key: s }, [described({})]); run(11, free, { key: s });
   run(12, free, { key: s, value: NULL, receiver: UNDEFINED }, [no]); run(12, free, { key: s, value: NULL }, [listed([])]);
   run(12, free, { key: a, value: integer(2), receiver: object(q) }, [described({ value: integer(1), writable: true, enumerable: true, configurable: true }), yes]);
@@ -121,11 +122,12 @@ function fixedCalls() {
   run(12, last, { key: string(1), value: NULL, receiver: object(last) }); run(14, crowd, {}, [], 9 * FULL.properties);
   run(13, crowd, { key: string(0) }); define(last, string(0), { configurable: true }); define(last, string(1), { configurable: true });
   run(7, last); define(last, string(1), { configurable: true });
-  fixedLevels(enter, run, make, proxy, define);
+  fixedLevels(enter, run, make, makeFunction, proxy, define);
+  for (const more of [fixedFunctions, fixedFunctionAnswers, fixedFunctionRefusals]) more(enter, run, make, makeFunction, proxy, define);
 }
 
 // Steps 18 and 19.
-function fixedLevels(enter, run, make, proxy, define) {
+function fixedLevels(enter, run, make, makeFunction, proxy, define) {
   const yes = answered(boolean(true)), no = answered(boolean(false)), none = answered(UNDEFINED), SEALED = 0, FROZEN = 1;
   const set = (o, level, answers, room) => run(18, o, { value: integer(level) }, answers, room);
   const test = (o, level, answers, room) => run(19, o, { value: integer(level) }, answers, room);
@@ -134,15 +136,16 @@ function fixedLevels(enter, run, make, proxy, define) {
   const frozen = (n) => ({ value: integer(n), writable: false, enumerable: true, configurable: false });
   const sealed = (n) => ({ value: integer(n), writable: true, enumerable: true, configurable: false });
 
-  emptied();
-  const a = enter('a'), b = enter('b'), c = enter('c'), seven = enter('7'), s = symbol(3), f = callable(1);
+  // a world with four strings and two functions
+  const begun = () => { emptied(); const entered = ['a', 'b', 'c', '7'].map(enter); makeFunction(); makeFunction(); return entered; };
+  const [a, b, c, seven] = begun(), s = symbol(3), f = callable(0), g = callable(1);
   // data and accessors: an index, a string, a symbol; open, half closed and fixed
   const filled = (o = make()) => {
     define(o, a, open(1)); define(o, s, { get: f, set: UNDEFINED, configurable: true }); define(o, seven, open(7));
     return o;
   };
   const first = filled();
-  define(first, b, { value: float(-0), writable: false, configurable: true }); define(first, c, { get: UNDEFINED, set: callable(2), configurable: false });
+  define(first, b, { value: float(-0), writable: false, configurable: true }); define(first, c, { get: UNDEFINED, set: g, configurable: false });
   tests(first); set(first, FROZEN); tests(first); set(first, FROZEN); set(first, SEALED); run(14, first); define(first, a, { value: integer(2) }); run(13, first, { key: a });
   const second = filled();
   set(second, SEALED); tests(second); run(12, second, { key: a, value: integer(2), receiver: object(second) }); run(13, second, { key: a });
@@ -160,8 +163,7 @@ function fixedLevels(enter, run, make, proxy, define) {
     const o = filled(), p = proxy(proxy(o, 0), 0);
     set(p, level); tests(p); tests(o);
   }
-  emptied();
-  for (const text of ['a', 'b', 'c', '7']) enter(text);
+  begun();
   // all traps, the truth about a frozen object; and about one that is sealed
   const over = (level) => { const o = filled(); set(o, level); return proxy(o); };
   const accessor = described({ get: f, set: UNDEFINED, configurable: false }), keys = [seven, a, s];
@@ -197,8 +199,7 @@ function fixedLevels(enter, run, make, proxy, define) {
     described({ value: integer(8), writable: true, enumerable: false, configurable: true }), thrown(NULL), answered(object(p)), listed([])]) {
     set(r, FROZEN, [yes, listed(keys), given, no]); test(r, FROZEN, [no, listed(keys), given]); test(r, SEALED, [no, listed(keys), given]);
   }
-  emptied();
-  for (const text of ['a', 'b', 'c', '7']) enter(text);
+  begun();
   // traps for the definitions alone: what was prevented stays, false at the second key is message 32 and the third key is not tried
   const D = 32, G = 16, K = 1024;
   for (const level of [SEALED, FROZEN]) {
@@ -223,8 +224,7 @@ function fixedLevels(enter, run, make, proxy, define) {
   set(proxy(lied2, G), FROZEN, [described({ get: f, configurable: true, enumerable: true }), described(open(1)), described({ set: f, configurable: true })]); for (const key of keys) run(8, lied2, { key });
   tests(lied2);
   // own keys alone: in another order, a key less, a key more; the object is closed by then
-  emptied();
-  for (const text of ['a', 'b', 'c', '7']) enter(text);
+  begun();
   for (const level of [SEALED, FROZEN]) {
     const o = filled(), t = proxy(o, K);
     set(t, level, [listed(keys.concat([b]))]); run(6, o); run(8, o, { key: a });         // 26
@@ -258,8 +258,158 @@ function fixedLevels(enter, run, make, proxy, define) {
   set(inner, FROZEN, [], 0); test(inner, SEALED, [], 0); set(inner, SEALED, [], 9);
   // many keys
   emptied();
+  makeFunction();
   const crowd = make();
   for (let i = 0; i < FULL.strings; i++) doEnter('k' + i);
   for (let i = 0; i < FULL.properties; i++) define(crowd, string(i), i % 5 === 0 ? { get: f, configurable: true } : open(i));
   test(crowd, SEALED); set(crowd, SEALED); tests(crowd); set(proxy(crowd, 0), FROZEN); tests(crowd); run(14, crowd, {}, [], 9 * FULL.properties);
+}
+
+// Step 16, and functions as operands, prototypes, receivers, getters and setters.
+function fixedFunctions(enter, run, make, makeFunction, proxy, define) {
+  const yes = answered(boolean(true)), no = answered(boolean(false)), none = answered(UNDEFINED), s = symbol(3), t = symbol(4);
+  const open = (value) => ({ value, writable: true, enumerable: true, configurable: true });
+  const fixed = (value) => ({ value, writable: false, enumerable: true, configurable: false });
+
+  // made: over null, a function, an object, a proxy; without properties
+  emptied();
+  const [a, b, length, name, seven] = ['a', 'b', 'length', 'name', '7'].map(enter);
+  const f = makeFunction(), o = make(), p = proxy(o), F = callable(f), O = object(o), P = object(p);
+  const g = makeFunction(F), h = makeFunction(O), i = makeFunction(P), G = callable(g), H = callable(h);
+  for (const n of [f, g, h]) {
+    run(4, n); run(6, n); run(14, n);
+    for (const key of [length, name, a]) { run(8, n, { key }); run(10, n, { key }); run(11, n, { key, receiver: named(n) }); }
+  }
+  run(4, i); run(10, i, { key: a }, [yes]); run(11, i, { key: a, receiver: callable(i) }, [answered(F)]); run(12, i, { key: a, value: F, receiver: callable(i) }, [no]);
+  run(16, 0, { value: NULL }, [answered(F), thrown(O)], 9);
+  // an operand like an ordinary object: keys in their order, validation, deletion
+  define(f, a, open(integer(1))); define(f, s, open(F)); define(f, length, { value: integer(2), configurable: true }); define(f, seven, fixed(integer(7)));
+  define(f, name, { get: F, set: G, configurable: true }); define(f, b, {});
+  run(14, f, {}, [], 60); run(13, f, { key: length }); define(f, length, open(G)); run(14, f, {}, [], 60);
+  for (const key of [a, s, length, seven, name, b, t]) { run(8, f, { key }); run(10, f, { key }); run(11, f, { key, receiver: F }, [answered(H)]); run(13, g, { key }); }
+  define(f, seven, { value: integer(8) }); define(f, seven, { value: float(7) }); run(13, f, { key: seven }); run(13, f, { key: b }); define(f, a, { get: G }); define(f, a, open(G)); define(f, a, { enumerable: false });
+  run(12, f, { key: a, value: H, receiver: F }); run(12, f, { key: t, value: O, receiver: F }); run(12, f, { key: seven, value: NULL, receiver: F });
+  // a prototype: what it has is inherited; a cycle through functions is a false of [[SetPrototypeOf]]
+  const child = make(F), grandchild = make(object(child));
+  for (const n of [g, child, grandchild]) {
+    run(4, n);
+    for (const key of [a, s, name, t, symbol(9)]) {
+      run(10, n, { key }); run(11, n, { key, receiver: named(n) }, [answered(F)]); run(12, n, { key, value: G, receiver: named(n) }, [none]);
+    }
+    run(14, n);
+  }
+  run(5, o, { value: F }); run(4, o); for (const value of [F, object(child), G, O]) run(5, f, { value });
+  run(5, g, { value: H }); run(5, o, { value: NULL }); run(5, h, { value: G }); run(5, h, { value: NULL });
+  // a receiver, of getters and of what [[Set]] ends on: its own [[GetOwnProperty]] and [[DefineOwnProperty]]
+  const r = makeFunction(), R = callable(r), q = proxy(o, 0), shut = makeFunction(), SHUT = callable(shut);
+  run(7, shut); run(6, shut); define(r, b, fixed(NULL)); define(r, name, { get: F, configurable: true });
+  define(o, b, open(NULL)); define(o, name, open(NULL)); define(o, s, { get: G, set: H, configurable: true });
+  for (const n of [o, q, f, g]) {
+    for (const key of [a, b, name, s]) {
+      run(11, n, { key, receiver: R }, [answered(F)]); run(12, n, { key, value: integer(5), receiver: R }, [none]); run(12, n, { key, value: F, receiver: SHUT }, [yes]); run(13, r, { key: a });
+    }
+  }
+  run(12, f, { key: t, value: integer(1), receiver: O }); run(12, f, { key: t, value: integer(1), receiver: P }, [none, yes]); run(12, f, { key: t, value: F, receiver: P }, [described(open(NULL)), no]);
+  run(12, p, { key: t, value: F, receiver: R }, [yes]); run(11, p, { key: t, receiver: R }, [answered(R)]); run(12, f, { key: symbol(8), value: F, receiver: G }); run(8, g, { key: symbol(8) });
+  // a getter and a setter: each takes an answer of any kind, or a throw, and changes nothing
+  for (const v of [F, G, O, P, integer(1), a, s, UNDEFINED]) {
+    run(11, o, { key: s, receiver: F }, [answered(v)]); run(11, o, { key: s, receiver: O }, [thrown(v)]);
+    run(12, o, { key: s, value: v, receiver: F }, [answered(v)]); run(12, o, { key: s, value: F, receiver: UNDEFINED }, [thrown(v)]);
+  }
+  for (const given of [[], [described({})], [listed([F])]]) { run(11, o, { key: s, receiver: F }, given); run(12, o, { key: s, value: F, receiver: F }, given); }
+  define(f, symbol(5), { get: F, set: F, configurable: true }); run(11, f, { key: symbol(5), receiver: F }, [answered(F)]); run(12, f, { key: symbol(5), value: F, receiver: F }, [thrown(F)]);
+  // levels
+  const whole = makeFunction(O), W = callable(whole), levels = (code, n) => { for (const level of [0, 1]) run(code, n, { value: integer(level) }); };
+  define(whole, length, open(W)); define(whole, name, { get: W, configurable: true }); define(whole, a, { value: F, configurable: false, writable: true }); define(whole, s, open(O));
+  levels(19, whole);
+  for (const level of [0, 1]) { run(18, whole, { value: integer(level) }); levels(19, whole); run(14, whole); }
+  levels(18, shut); levels(19, shut); run(12, whole, { key: a, value: G, receiver: W }); run(13, whole, { key: s }); run(5, whole, { value: NULL }); run(5, whole, { value: O }); define(whole, t, {});
+}
+
+// Functions as answers.
+function fixedFunctionAnswers(enter, run, make, makeFunction, proxy, define) {
+  const yes = answered(boolean(true)), no = answered(boolean(false)), s = symbol(3);
+  const open = (value) => ({ value, writable: true, enumerable: true, configurable: true });
+  const fixed = (value) => ({ value, writable: false, enumerable: true, configurable: false });
+
+  emptied();
+  const a = enter('a'), b = enter('b'), length = enter('length');
+  const f = makeFunction(), g = makeFunction(), F = callable(f), G = callable(g), o = make(F), p = proxy(o), shut = make(F), z = proxy(shut), O = object(o), P = object(p);
+  define(o, a, fixed(F)); define(o, b, { value: F, writable: true, configurable: true }); define(o, s, { get: F, set: UNDEFINED, configurable: false });
+  define(shut, a, open(F)); run(7, shut);
+  for (const n of [p, z]) {
+    for (const v of [F, G, O, P, NULL, UNDEFINED, integer(1), boolean(true), a, s]) run(4, n, {}, [answered(v)]);              // 2; 3 over the closed one
+    for (const value of [F, G, O, NULL]) { run(5, n, { value }, [answered(F)]); run(5, n, { value }, [no]); }                  // 4
+    run(6, n, {}, [answered(F)]); run(7, n, {}, [answered(F)]); run(10, n, { key: a }, [answered(F)]); run(13, n, { key: a }, [answered(F)]); run(13, n, { key: b }, [answered(G)]);
+    for (const key of [a, b]) {
+      for (const v of [F, G, O, UNDEFINED]) {
+        run(11, n, { key, receiver: F }, [answered(v)]); run(12, n, { key, value: v, receiver: F }, [answered(F)]);
+        run(8, n, { key }, [described(fixed(v))]); define(n, key, { value: v }, [answered(G)]);
+      }
+    }
+    for (const d of [{ get: F }, { get: G }, { set: F }, { get: F, set: UNDEFINED }]) { run(8, n, { key: s }, [described(d)]); define(n, s, d, [answered(F)]); }
+    for (const d of [{ get: O }, { set: P }, { get: F, value: F }, { set: F, writable: true }]) run(8, n, { key: s }, [described(d)]);       // 27, 28, 29, 29
+    for (const v of [F, O]) {
+      run(8, n, { key: a }, [answered(v)]); run(14, n, {}, [answered(v)]);                                                     // 9
+      run(14, n, {}, [listed([a, v, a])]); run(14, n, {}, [listed([v])]);                                                      // 30
+    }
+    for (let code = 4; code <= 14; code++) {
+      run(code, n, { key: code > 7 && code < 14 ? a : ZERO, value: code === 5 || code === 12 ? F : ZERO, receiver: code === 11 || code === 12 ? G : ZERO }, [thrown(code % 2 ? F : G)]);
+    }
+    for (const code of [18, 19]) for (const v of [F, P]) { run(code, n, { value: integer(1) }, [answered(v)]); run(code, n, { value: integer(0) }, [thrown(v)]); }
+  }
+  // a step 18 that is refused midway: functions and what they hold come back; then one that ends in a TypeError
+  const k = proxy(o, 32 + 1024);
+  define(f, a, open(G)); define(f, length, { get: F, configurable: true }); run(7, g);
+  run(18, k, { value: integer(1) }, [answered(F)]); run(6, o); run(18, k, { value: integer(0) }, [listed([a, b, s]), yes]); run(6, o); run(18, k, { value: integer(1) }, [listed([a, F])]); run(6, o);
+  for (const n of [f, g]) { run(4, n); run(6, n); run(8, n, { key: a }); run(14, n); }
+  run(11, f, { key: length, receiver: F }, [answered(G)]);
+  // 10: a ring of prototypes through a function
+  const ring = makeFunction(), under = make(callable(ring)), back = proxy(under, 0);
+  run(5, ring, { value: object(back) }); run(4, ring); run(8, ring, { key: a });
+  run(10, ring, { key: a }); run(11, under, { key: a, receiver: callable(ring) }); run(12, back, { key: a, value: F, receiver: callable(ring) });
+}
+
+// Refusals of step 16, and of functions in every place.
+function fixedFunctionRefusals(enter, run, make, makeFunction, proxy, define) {
+  const yes = answered(boolean(true)), s = symbol(3);
+
+  emptied();
+  const a = enter('a'), f = makeFunction(), F = callable(f), o = make(), p = proxy(o), O = object(o), P = object(p), far = [8, 0, 0, 0, 0, 1, 0, 0, 0];
+  // what is no prototype
+  for (const value of [UNDEFINED, boolean(false), integer(0), float(1), a, s, [9, 0, 0, 0, 0, 0, 0, 0, 0], [1, 0, 0, 0, 0, 0, 0, 0, 1], object(f), callable(o), callable(p), object(99), callable(99), callable(256), far]) {
+    run(1, 0, { value }); run(16, 0, { value }); run(5, o, { value }); run(5, f, { value });
+  }
+  run(16, 1, { value: NULL }); run(16, 99, { value: callable(99) }); for (const part of [{ key: a }, { receiver: F }, { descriptor: { get: F } }]) run(16, 0, Object.assign({ value: NULL }, part));
+  // each part under the wrong kind, and with a number that was never made; the first refusal counts
+  const whole = { value: F, writable: true, enumerable: true, configurable: true };
+  for (const v of [object(f), callable(o), callable(p), object(3), callable(3), callable(255), callable(256), far]) {
+    run(10, o, { key: v }); run(11, o, { key: a, receiver: v }); run(12, f, { key: a, value: v, receiver: F }); run(12, f, { key: string(99), value: F, receiver: v });
+    run(18, f, { value: v }); run(2, o, { value: v });
+    for (const d of [{ value: v }, { get: v }, { set: v, get: F }, { value: F, get: v }]) define(f, s, d);
+    for (const given of [answered(v), thrown(v), listed([a, v]), described({ value: v }), described({ get: v }), described({ get: O, set: v })]) {
+      run(6, f, {}, [given]); run(6, p, {}, [yes, given]); run(16, 0, { value: NULL }, [given]); run(10, o, { key: string(99) }, [given]);
+    }
+    for (const d of [{ value: v }, { get: v }, { set: v, value: NULL }]) {
+      doAlone(3, descriptorBytes(d), []);
+      for (const kind of [4, 5, 6]) {
+        doAlone(kind, descriptorBytes(d), descriptorBytes(whole)); doAlone(kind, descriptorBytes(whole), descriptorBytes(Object.assign({ enumerable: true, configurable: true }, d)));
+      }
+    }
+  }
+  define(f, s, { get: O }); define(f, s, { set: P }); define(f, s, { get: F, value: F });                                      // 4
+  // a proxy over a function, and revoking one
+  for (const value of [integer(0), integer(2047), integer(2048), NULL]) run(2, f, { value });
+  run(2, 99, { value: integer(0) }); run(3, f); run(3, o); run(3, 99);
+  // descriptors by themselves
+  for (const d of [{ value: F }, { value: O }, { get: F }, { set: F }, {}]) {
+    doAlone(3, descriptorBytes(d), []);
+    for (const now of [whole, { value: F, writable: false, enumerable: true, configurable: false }, { get: F, set: UNDEFINED, enumerable: false, configurable: false }, { get: UNDEFINED, set: F, enumerable: true, configurable: true }]) {
+      for (const kind of [4, 5, 6]) doAlone(kind, descriptorBytes(d), descriptorBytes(now));
+    }
+  }
+  // 7: functions count among the 32
+  while (world.objects.length < FULL.objects) makeFunction(F);
+  for (const value of [NULL, callable(31), callable(32)]) { run(1, 0, { value }); run(16, 0, { value }); }
+  run(2, o, { value: integer(0) }); run(2, 31, { value: integer(0) }); run(4, 31);
 }

@@ -48,7 +48,7 @@ fn damaged_memory(generator: &mut Generator, pair: &mut Pair) {
     let (words, strings) = (pair.words.clone(), pair.strings.clone());
     let mut output = vec![0; 9 * 256];
     let refused_as_1 = [0, 1, 0, 0, 0, 0, 0, 0, 0, 0];
-    for size in [0, 1, 2, 1633, 1635] {
+    for size in [0, 1, 2, 1634, 1636] {
         pair.words = vec![0; size].into();
         assert_eq!(pair.step_library(&step, &[0], &mut output), refused_as_1);
         assert!(pair.words.iter().all(|w| *w == 0));
@@ -70,7 +70,7 @@ fn damaged_memory(generator: &mut Generator, pair: &mut Pair) {
         pair.words = words.clone();
         pair.strings = strings.clone();
         for _ in 0..1 + generator.random.below(20) {
-            let at = generator.random.below(1634);
+            let at = generator.random.below(1635);
             pair.words[at] = generator.random.next() >> generator.random.below(64);
             let at = generator.random.below(8449);
             pair.strings[at] = generator.random.next() as u16;
@@ -140,8 +140,10 @@ fn main() {
     println!("refusals 1 to 11: {:?}", &tally.refusals[1..]);
     println!("messages 1 to 32: {:?}", &tally.messages[1..]);
     println!("steps of each code: {:?}", tally.steps().collect::<Vec<_>>());
+    println!("functions, where they came and where they were refused: {:?}", tally.functions);
     println!("steps of code 18 that changed the store and ended in a TypeError or a throw: {}", tally.midway);
     if count >= 100_000 {
         assert_eq!(tally.missing(), (vec![], vec![]), "refusals and messages that never came");
+        assert!(tally.functions.all(), "places of functions that never came");
     }
 }

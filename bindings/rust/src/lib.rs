@@ -1,12 +1,12 @@
-//! Property descriptors, ordinary objects and proxies of ECMA-262 (2024) over a fixed store.
+//! Property descriptors, ordinary objects, functions and proxies of ECMA-262 (2024) over a fixed store.
 //!
 //! This crate is a safe interface to `libdemnyaluz.a`, whose functions are proved against definitions written from the standard; the crate itself,
 //! which turns values into records and reports into values, is not proved but tested.
 //!
-//! A [`Store`] holds objects, properties and strings. A [`Step`] calls one of the essential internal methods of an object, makes an object or a
-//! proxy, seals or freezes an object, or tests whether it is so. A proxy's handler is a set of [`Traps`] and, for each step, a list of [`Answer`]s:
-//! each call of a trap, a getter or a setter takes the next one. What comes back is a [`Report`]. A [`TextReader`] takes steps as lines of text and
-//! gives a row for each.
+//! A [`Store`] holds objects, properties and strings. A [`Step`] calls one of the essential internal methods of an object, makes an object, a
+//! function or a proxy, seals or freezes an object, or tests whether it is so. A proxy's handler is a set of [`Traps`] and, for each step, a list of
+//! [`Answer`]s: each call of a trap, a getter or a setter takes the next one. What comes back is a [`Report`]. A [`TextReader`] takes steps as lines
+//! of text and gives a row for each.
 //!
 //! ```
 //! use demnyaluz::{Answer, Failure, Message, PropertyDescriptor, Store, Traps};
@@ -48,4 +48,4 @@ pub use store::{
     OUTPUT_BYTES, STORE_WORDS, STRING_CELLS,
 };
 pub use text::{run_text, TextReader, TEXT_LINE_BYTES, TEXT_ROW_BYTES, TEXT_STATE_WORDS};
-pub use value::{FunctionId, ObjectId, PropertyKey, StringId, SymbolId, TryFromValueError, Value, ValueWords};
+pub use value::{FunctionId, ObjectId, PropertyKey, Prototype, StringId, SymbolId, TryFromValueError, Value, ValueWords};

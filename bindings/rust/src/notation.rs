@@ -6,6 +6,7 @@
 //! ```text
 //! line    = "string" TEXT
 //!         | "object" [prototype]                              makes an ordinary object; without a prototype it is null
+//!         | "function" [prototype]                            makes a function; likewise
 //!         | "proxy" object ["traps" trap {"," trap}]          makes a proxy; traps by the names below, "all" or a mask
 //!         | "revoke" object
 //!         | "getPrototypeOf" object
@@ -29,20 +30,21 @@
 //! descriptor = "{" [field {"," field}] "}"
 //! field   = ("enumerable" | "configurable" | "writable") ":" ("true" | "false") | ("value" | "get" | "set") ":" value
 //! prototype = "null" | object
-//! object  = o0 to o255
+//! object  = o0 to o255 | f0 to f255                           an object or a function, by its number
 //! key     = TEXT | s0 to s255 | y0 to y255                    a string by its text or its number, a symbol
-//! value   = "undefined" | "null" | "true" | "false" | NUMBER | key | object | f0 to f255
+//! value   = "undefined" | "null" | "true" | "false" | NUMBER | key | object
 //! NUMBER  = -2147483648 to 2147483647 is an Integer32; -0, NaN, Infinity, -Infinity and anything with "." or "e" is a Float64, which is an
 //!           error where it is too large for one
 //! TEXT    = '"' {character | \" | \\ | \n | \t | \uXXXX} '"'
 //! ```
 //!
-//! A text that was not entered yet is entered before the line that has it.
+//! A text that was not entered yet is entered before the line that has it. The object that a step is on is a number in its record, so `o1` and `f1`
+//! are one there; as a prototype, a receiver or another value `o1` is no function and `f1` is one.
 use crate::descriptor::PropertyDescriptor;
 use crate::readable;
 use crate::step::{sheet_bytes, Answer, IntegrityLevel, Step, Traps, TRAPS};
 use crate::store::{MAXIMUM_STRINGS, MAXIMUM_UNITS};
-use crate::value::{FunctionId, ObjectId, PropertyKey, StringId, SymbolId, Value};
+use crate::value::{FunctionId, ObjectId, PropertyKey, Prototype, StringId, SymbolId, Value};
 use std::fmt;
 
 /// What is to be called.
@@ -89,8 +91,8 @@ pub struct Line {
 ///
 /// let error = parse("object\nrevoke it").unwrap_err();
 /// assert_eq!((error.line(), error.column()), (2, 8));
-/// assert_eq!((error.expected(), error.found()), ("an object (o0 to o255)", "'it'"));
-/// assert_eq!(error.to_string(), "line 2, column 8: expected an object (o0 to o255), found 'it'");
+/// assert_eq!((error.expected(), error.found()), ("an object (o0 to o255) or a function (f0 to f255)", "'it'"));
+/// assert_eq!(error.to_string(), "line 2, column 8: expected an object (o0 to o255) or a function (f0 to f255), found 'it'");
 /// ```
 #[derive(Clone, PartialEq, Eq, Hash, Debug)]
 pub struct Error {
@@ -380,6 +382,7 @@ fn tokens(line: &str, number: usize) -> Result<Vec<(Token, usize)>, Error> {
 const NAMES: &[&str] = &[
     "string",
     "object",
+    "function",
     "proxy",
     "revoke",
     "getPrototypeOf",
@@ -495,10 +498,8 @@ impl Parser<'_> {
                 self.strings.enter(&units);
                 return Ok(Call::Enter(units));
             }
-            "object" => {
-                let given = self.peek().is_some() && self.word() != Some("answers");
-                Step::MakeObject { prototype: if given { self.prototype()? } else { None } }
-            }
+            "object" => Step::MakeObject { prototype: self.prototype_or_none()? },
+            "function" => Step::MakeFunction { prototype: self.prototype_or_none()? },
             "proxy" => Step::MakeProxy { target: self.object()?, traps: if self.took("traps") { self.traps()? } else { Traps::NONE } },
             "revoke" => Step::Revoke { proxy: self.object()? },
             "getPrototypeOf" => Step::GetPrototypeOf { object: self.object()? },
@@ -509,12 +510,12 @@ impl Parser<'_> {
             "defineProperty" => Step::DefineOwnProperty { object: self.object()?, key: self.key()?, descriptor: self.descriptor()? },
             "has" => Step::HasProperty { object: self.object()?, key: self.key()? },
             "get" => {
-                let (object, key) = (self.object()?, self.key()?);
-                Step::Get { object, key, receiver: self.receiver(object)? }
+                let (named, key) = (self.named()?, self.key()?);
+                Step::Get { object: named.into(), key, receiver: self.receiver(named)? }
             }
             "set" => {
-                let (object, key, value) = (self.object()?, self.key()?, self.value()?);
-                Step::Set { object, key, value, receiver: self.receiver(object)? }
+                let (named, key, value) = (self.named()?, self.key()?, self.value()?);
+                Step::Set { object: named.into(), key, value, receiver: self.receiver(named)? }
             }
             "deleteProperty" => Step::Delete { object: self.object()?, key: self.key()? },
             "ownKeys" => Step::OwnPropertyKeys { object: self.object()? },
@@ -595,30 +596,45 @@ impl Parser<'_> {
         Some(digits.parse().or_else(|_| self.expected(format!("{letter}0 to {letter}255"))))
     }
 
-    fn object(&mut self) -> Result<ObjectId, Error> {
-        let Some(n) = self.numbered('o') else {
-            return self.expected("an object (o0 to o255)");
-        };
-        let n = n?;
-        self.next();
-        Ok(ObjectId(n))
+    /// An object or a function, which is what a prototype can be; none where neither is the next.
+    fn named_next(&mut self) -> Option<Result<Prototype, Error>> {
+        let object = self.numbered('o').map(|n| n.map(|n| ObjectId(n).into()));
+        let named = object.or_else(|| self.numbered('f').map(|n| n.map(|n| FunctionId(n).into())))?;
+        if named.is_ok() {
+            self.next();
+        }
+        Some(named)
     }
 
-    fn prototype(&mut self) -> Result<Option<ObjectId>, Error> {
+    fn named(&mut self) -> Result<Prototype, Error> {
+        self.named_next().unwrap_or_else(|| self.expected(OBJECT))
+    }
+
+    /// The object that a step is on.
+    fn object(&mut self) -> Result<ObjectId, Error> {
+        self.named().map(ObjectId::from)
+    }
+
+    fn prototype(&mut self) -> Result<Option<Prototype>, Error> {
         if self.took("null") {
             return Ok(None);
         }
-        if self.numbered('o').is_none() {
-            return self.expected("null or an object (o0 to o255)");
-        }
-        self.object().map(Some)
+        self.named_next().unwrap_or_else(|| self.expected(format!("null, {OBJECT}"))).map(Some)
     }
 
-    fn receiver(&mut self, object: ObjectId) -> Result<Value, Error> {
+    /// The prototype of what is made; null where none is given.
+    fn prototype_or_none(&mut self) -> Result<Option<Prototype>, Error> {
+        if self.peek().is_none() || self.word() == Some("answers") {
+            return Ok(None);
+        }
+        self.prototype()
+    }
+
+    fn receiver(&mut self, named: Prototype) -> Result<Value, Error> {
         if self.took("receiver") {
             return self.value();
         }
-        Ok(object.into())
+        Ok(named.into())
     }
 
     fn traps(&mut self) -> Result<Traps, Error> {
@@ -674,19 +690,18 @@ impl Parser<'_> {
         if matches!(self.peek(), Some(Token::Text(_))) || self.numbered('s').is_some() || self.numbered('y').is_some() {
             return self.key().map(Value::from);
         }
-        if self.numbered('o').is_some() {
-            return self.object().map(Value::from);
+        if let Some(named) = self.named_next() {
+            return named.map(Value::from);
         }
-        let value = match (self.numbered('f'), self.word()) {
-            (Some(n), _) => Value::Function(FunctionId(n?)),
-            (_, Some("undefined")) => Value::Undefined,
-            (_, Some("null")) => Value::Null,
-            (_, Some("true")) => Value::Boolean(true),
-            (_, Some("false")) => Value::Boolean(false),
-            (_, Some("NaN")) => Value::Float64(f64::NAN),
-            (_, Some("Infinity")) => Value::Float64(f64::INFINITY),
-            (_, Some("-Infinity")) => Value::Float64(f64::NEG_INFINITY),
-            (_, Some(word)) if word.starts_with(|c: char| c.is_ascii_digit() || "+-.".contains(c)) => self.number(word)?,
+        let value = match self.word() {
+            Some("undefined") => Value::Undefined,
+            Some("null") => Value::Null,
+            Some("true") => Value::Boolean(true),
+            Some("false") => Value::Boolean(false),
+            Some("NaN") => Value::Float64(f64::NAN),
+            Some("Infinity") => Value::Float64(f64::INFINITY),
+            Some("-Infinity") => Value::Float64(f64::NEG_INFINITY),
+            Some(word) if word.starts_with(|c: char| c.is_ascii_digit() || "+-.".contains(c)) => self.number(word)?,
             _ => return self.expected(VALUE),
         };
         self.next();
@@ -752,4 +767,5 @@ impl Parser<'_> {
     }
 }
 
+const OBJECT: &str = "an object (o0 to o255) or a function (f0 to f255)";
 const VALUE: &str = "a value (as undefined, null, true, 70000, -0.5, \"text\", o0, s0, y0 or f0)";

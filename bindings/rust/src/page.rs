@@ -1,9 +1,9 @@
-//! Calls and what came of them, as lines that a person reads: `20: get o1 "visits", handler answers 4464: TypeError 17, ...`. Lines alike are one.
+//! Calls and what came of them, as lines that a person reads: `21: get o2 "visits", handler answers 4464: TypeError 17, ...`. Lines alike are one.
 use crate::notation::{Call, Strings};
 use crate::readable;
 use crate::report::{Completion, Failure, Report};
 use crate::step::{Answer, Step};
-use crate::value::{ObjectId, Value};
+use crate::value::{FunctionId, ObjectId, Value};
 use std::io::{self, Write};
 
 /// What is known of the calls so far, and the last lines, which are written once another kind of line comes.
@@ -11,6 +11,7 @@ use std::io::{self, Write};
 pub(crate) struct Page {
     strings: Strings,
     proxies: Vec<ObjectId>,
+    functions: Vec<ObjectId>,
     last: Option<Lines>,
 }
 
@@ -26,7 +27,7 @@ struct Lines {
 #[derive(Clone, PartialEq)]
 struct Outcome {
     told: String,
-    /// The object that was made.
+    /// The object or function that was made.
     object: Option<ObjectId>,
     /// Answers and calls, where they are told.
     spent: String,
@@ -46,6 +47,7 @@ impl Page {
                 self.strings.enter(units);
             }
             Call::Step { step: Step::MakeProxy { .. }, .. } => self.proxies.extend(outcome.object),
+            Call::Step { step: Step::MakeFunction { .. }, .. } => self.functions.extend(outcome.object),
             Call::Step { .. } => {}
         }
         if let Some(lines) = &mut self.last {
@@ -64,14 +66,24 @@ impl Page {
         self.last.take().map_or(Ok(()), |lines| lines.write(output))
     }
 
+    /// What an object is called: `f1` where a function was made by this number.
+    fn name(&self, o: ObjectId) -> String {
+        if self.functions.contains(&o) {
+            FunctionId(o.0).to_string()
+        } else {
+            o.to_string()
+        }
+    }
+
     /// A call; a receiver that is the object itself is left out.
     fn call(&self, call: &Call) -> String {
         let Call::Step { step, answers } = call else {
             return readable::call(call, &self.strings);
         };
         let object = step.object();
-        let told = readable::step(step, &self.strings);
-        let own = object.map(|o| format!(" receiver {o}")).and_then(|r| told.strip_suffix(&r));
+        let name = object.map(|o| self.name(o)).unwrap_or_default();
+        let told = readable::step_on(step, &name, &self.strings);
+        let own = told.strip_suffix(&format!(" receiver {name}"));
         let who = if object.is_some_and(|o| self.proxies.contains(&o)) { "handler answers" } else { "answers" };
         let answers = answers.chunk_by(|a, b| a == b).flat_map(|alike| self.answers(alike)).collect::<Vec<_>>();
         let told = own.unwrap_or(&told);
@@ -102,6 +114,7 @@ impl Page {
         };
         let object = match (call, &report.outcome) {
             (Call::Step { step: Step::MakeObject { .. } | Step::MakeProxy { .. }, .. }, Ok(Completion::Value(Value::Object(o)))) => Some(*o),
+            (Call::Step { step: Step::MakeFunction { .. }, .. }, Ok(Completion::Value(Value::Function(f)))) => Some((*f).into()),
             _ => None,
         };
         let spent = match (call, &report.outcome) {

@@ -15,7 +15,7 @@ use crate::descriptor::PropertyDescriptor;
 use crate::notation::{Call, Strings};
 use crate::report::{Completion, Failure, Report};
 use crate::step::{Answer, IntegrityLevel, Step, Traps};
-use crate::value::{ObjectId, Value};
+use crate::value::Value;
 
 /// A text in quotation marks; quotation marks, backslashes, control characters and lone surrogates are escaped.
 ///
@@ -100,7 +100,7 @@ pub fn answer(a: &Answer, strings: &Strings) -> String {
     }
 }
 
-/// A step on one line, without answers: `get o1 "visits" receiver o1`.
+/// A step on one line, without answers: `get o1 "visits" receiver o1`. The object that it is on is a number, so a function too is `o1` there.
 ///
 /// ```
 /// use demnyaluz::notation::Strings;
@@ -111,29 +111,35 @@ pub fn answer(a: &Answer, strings: &Strings) -> String {
 /// ```
 #[must_use]
 pub fn step(step: &Step, strings: &Strings) -> String {
+    step_on(step, &step.object().map_or_else(String::new, |o| o.to_string()), strings)
+}
+
+/// A step whose object is called so.
+pub(crate) fn step_on(step: &Step, object: &str, strings: &Strings) -> String {
     let of = |v: Value| value(v, strings);
-    let prototype = |p: Option<ObjectId>| p.map_or(Value::Null, Value::Object);
     match *step {
         Step::MakeObject { prototype: None } => "object".to_string(),
         Step::MakeObject { prototype: Some(p) } => format!("object {p}"),
-        Step::MakeProxy { target, traps: Traps::NONE } => format!("proxy {target}"),
-        Step::MakeProxy { target, traps } => format!("proxy {target} traps {traps}"),
-        Step::Revoke { proxy } => format!("revoke {proxy}"),
-        Step::GetPrototypeOf { object } => format!("getPrototypeOf {object}"),
-        Step::SetPrototypeOf { object, prototype: p } => format!("setPrototypeOf {object} {}", prototype(p)),
-        Step::IsExtensible { object } => format!("isExtensible {object}"),
-        Step::PreventExtensions { object } => format!("preventExtensions {object}"),
-        Step::GetOwnProperty { object, key } => format!("getOwnPropertyDescriptor {object} {}", of(key.into())),
-        Step::DefineOwnProperty { object, key, descriptor: d } => format!("defineProperty {object} {} {}", of(key.into()), descriptor(&d, strings)),
-        Step::HasProperty { object, key } => format!("has {object} {}", of(key.into())),
-        Step::Get { object, key, receiver } => format!("get {object} {} receiver {}", of(key.into()), of(receiver)),
-        Step::Set { object, key, value, receiver } => format!("set {object} {} {} receiver {}", of(key.into()), of(value), of(receiver)),
-        Step::Delete { object, key } => format!("deleteProperty {object} {}", of(key.into())),
-        Step::OwnPropertyKeys { object } => format!("ownKeys {object}"),
-        Step::SetIntegrityLevel { object, level: IntegrityLevel::Sealed } => format!("seal {object}"),
-        Step::SetIntegrityLevel { object, level: IntegrityLevel::Frozen } => format!("freeze {object}"),
-        Step::TestIntegrityLevel { object, level: IntegrityLevel::Sealed } => format!("isSealed {object}"),
-        Step::TestIntegrityLevel { object, level: IntegrityLevel::Frozen } => format!("isFrozen {object}"),
+        Step::MakeFunction { prototype: None } => "function".to_string(),
+        Step::MakeFunction { prototype: Some(p) } => format!("function {p}"),
+        Step::MakeProxy { traps: Traps::NONE, .. } => format!("proxy {object}"),
+        Step::MakeProxy { traps, .. } => format!("proxy {object} traps {traps}"),
+        Step::Revoke { .. } => format!("revoke {object}"),
+        Step::GetPrototypeOf { .. } => format!("getPrototypeOf {object}"),
+        Step::SetPrototypeOf { prototype, .. } => format!("setPrototypeOf {object} {}", prototype.map_or(Value::Null, Value::from)),
+        Step::IsExtensible { .. } => format!("isExtensible {object}"),
+        Step::PreventExtensions { .. } => format!("preventExtensions {object}"),
+        Step::GetOwnProperty { key, .. } => format!("getOwnPropertyDescriptor {object} {}", of(key.into())),
+        Step::DefineOwnProperty { key, descriptor: d, .. } => format!("defineProperty {object} {} {}", of(key.into()), descriptor(&d, strings)),
+        Step::HasProperty { key, .. } => format!("has {object} {}", of(key.into())),
+        Step::Get { key, receiver, .. } => format!("get {object} {} receiver {}", of(key.into()), of(receiver)),
+        Step::Set { key, value, receiver, .. } => format!("set {object} {} {} receiver {}", of(key.into()), of(value), of(receiver)),
+        Step::Delete { key, .. } => format!("deleteProperty {object} {}", of(key.into())),
+        Step::OwnPropertyKeys { .. } => format!("ownKeys {object}"),
+        Step::SetIntegrityLevel { level: IntegrityLevel::Sealed, .. } => format!("seal {object}"),
+        Step::SetIntegrityLevel { level: IntegrityLevel::Frozen, .. } => format!("freeze {object}"),
+        Step::TestIntegrityLevel { level: IntegrityLevel::Sealed, .. } => format!("isSealed {object}"),
+        Step::TestIntegrityLevel { level: IntegrityLevel::Frozen, .. } => format!("isFrozen {object}"),
     }
 }
 

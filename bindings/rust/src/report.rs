@@ -3,7 +3,7 @@ use crate::descriptor::Property;
 use crate::lent;
 use crate::notation::Strings;
 use crate::readable;
-use crate::value::{ObjectId, PropertyKey, Value, ValueWords};
+use crate::value::{FunctionId, ObjectId, PropertyKey, Prototype, Value, ValueWords};
 use std::error::Error;
 use std::fmt;
 
@@ -29,9 +29,10 @@ pub const REPORT_WORDS: usize = 10;
 pub enum Refusal {
     /// 1: the bytes are no step, sheet or descriptor, or the memory is no store or table.
     MalformedRecord = 1,
-    /// 2: the number of an object that is not there.
+    /// 2: the number of an object or of a function that is not there.
     ObjectNeverMade = 2,
-    /// 3: a string was not entered or is too long, or a part has a kind that its step cannot use.
+    /// 3: a string was not entered or is too long, a function is named as another object or another object as a function, or a part has a kind, or
+    /// is an object, that its step cannot use.
     UnusablePart = 3,
     /// 4: a descriptor mixes data and accessor fields, or has a get or set that cannot be called and is not undefined.
     UnusableDescriptor = 4,
@@ -39,11 +40,11 @@ pub enum Refusal {
     IncompleteCurrent = 5,
     /// 6: of the descriptors to be merged one is data and the other an accessor.
     DifferentKinds = 6,
-    /// 7: there is no room for another object, property or string.
+    /// 7: there is no room for another object, function, property or string.
     StoreFull = 7,
     /// 8: an answer is asked for, and none is left.
     SheetSpent = 8,
-    /// 9: the answer has a form that who asks cannot read.
+    /// 9: the answer has a form that who asks cannot read, an object or a function where a descriptor or keys are asked for too.
     UnreadableAnswer = 9,
     /// 10: the step would make more than 2,048 calls.
     TooManyCalls = 10,
@@ -143,7 +144,7 @@ macro_rules! messages {
 
 messages! {
     1 RevokedProxy "1: the proxy was revoked.",
-    2 PrototypeNotObjectOrNull "2: the getPrototypeOf trap answered neither an object nor null.",
+    2 PrototypeNotObjectOrNull "2: the getPrototypeOf trap answered neither an object nor a function nor null.",
     3 UnexpectedPrototype "3: the getPrototypeOf trap answered another prototype than a non-extensible target's.",
     4 PrototypeNotSet "4: the setPrototypeOf trap answered true for another prototype than a non-extensible target's.",
     5 UnexpectedExtensible "5: the isExtensible trap answered otherwise than the target.",
@@ -369,10 +370,18 @@ impl Report {
         }
     }
 
-    pub(crate) fn into_prototype(self) -> Result<Option<ObjectId>, Failure> {
+    pub(crate) fn into_function(self) -> Result<FunctionId, Failure> {
+        match self.into_value()? {
+            Value::Function(f) => Ok(f),
+            v => panic!("no function: {v}"),
+        }
+    }
+
+    pub(crate) fn into_prototype(self) -> Result<Option<Prototype>, Failure> {
         match self.into_value()? {
             Value::Null => Ok(None),
-            Value::Object(o) => Ok(Some(o)),
+            Value::Object(o) => Ok(Some(o.into())),
+            Value::Function(f) => Ok(Some(f.into())),
             v => panic!("no prototype: {v}"),
         }
     }

@@ -257,8 +257,8 @@ impl std::error::Error for Error {
 /// Reads the rows of the calls, under their heading, and writes each beside its call; lines alike are one line:
 ///
 /// ```text
-/// 20: get o1 "visits", handler answers 4464: TypeError 17, Proxy trap returned unexpected data descriptor (1 answer, 2 calls)
-/// 124 to 143: object: o12 to o31 (0 answers, 0 calls)
+/// 21: get o2 "visits", handler answers 4464: TypeError 17, Proxy trap returned unexpected data descriptor (1 answer, 2 calls)
+/// 152 to 166: object: o17 to o31 (0 answers, 0 calls)
 /// ```
 ///
 /// # Errors

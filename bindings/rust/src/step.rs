@@ -2,7 +2,7 @@
 use crate::descriptor::PropertyDescriptor;
 use crate::notation::Strings;
 use crate::readable;
-use crate::value::{ObjectId, PropertyKey, Value};
+use crate::value::{ObjectId, PropertyKey, Prototype, Value};
 use std::fmt;
 use std::ops::{BitAnd, BitAndAssign, BitOr, BitOrAssign, Not, Sub, SubAssign};
 
@@ -267,11 +267,16 @@ pub enum Step {
     /// Makes an ordinary object.
     MakeObject {
         /// Its prototype; none is null.
-        prototype: Option<ObjectId>,
+        prototype: Option<Prototype>,
+    },
+    /// Makes a function: an ordinary object that can be called.
+    MakeFunction {
+        /// Its prototype; none is null.
+        prototype: Option<Prototype>,
     },
     /// Makes a proxy.
     MakeProxy {
-        /// The object that it stands before.
+        /// The object that it stands before: no function.
         target: ObjectId,
         /// The traps that its handler has.
         traps: Traps,
@@ -291,7 +296,7 @@ pub enum Step {
         /// The object.
         object: ObjectId,
         /// The prototype to set; none is null.
-        prototype: Option<ObjectId>,
+        prototype: Option<Prototype>,
     },
     /// \[\[IsExtensible]]
     IsExtensible {
@@ -332,7 +337,7 @@ pub enum Step {
         object: ObjectId,
         /// The key.
         key: PropertyKey,
-        /// What a getter is called on: any value but a function.
+        /// What a getter is called on: any value.
         receiver: Value,
     },
     /// \[\[Set]]
@@ -343,7 +348,7 @@ pub enum Step {
         key: PropertyKey,
         /// The value to set.
         value: Value,
-        /// What is written to, or a setter called on: any value but a function.
+        /// What is written to, or a setter called on: any value.
         receiver: Value,
     },
     /// \[\[Delete]]
@@ -380,7 +385,7 @@ impl Step {
     /// How many bytes the record of a step has.
     pub const SIZE: usize = 58;
 
-    /// The object that the step is on, the target where it makes a proxy; none where it makes an ordinary object.
+    /// The object that the step is on, a function too; the target where it makes a proxy; none where it makes an object or a function.
     ///
     /// ```
     /// use demnyaluz::{ObjectId, Step};
@@ -391,7 +396,7 @@ impl Step {
     #[must_use]
     pub fn object(&self) -> Option<ObjectId> {
         match *self {
-            Step::MakeObject { .. } => None,
+            Step::MakeObject { .. } | Step::MakeFunction { .. } => None,
             Step::MakeProxy { target: object, .. }
             | Step::Revoke { proxy: object }
             | Step::GetPrototypeOf { object }
@@ -428,6 +433,7 @@ impl Step {
             Step::Set { .. } => 12,
             Step::Delete { .. } => 13,
             Step::OwnPropertyKeys { .. } => 14,
+            Step::MakeFunction { .. } => 16,
             Step::SetIntegrityLevel { .. } => 18,
             Step::TestIntegrityLevel { .. } => 19,
         }
@@ -446,9 +452,10 @@ impl Step {
     pub fn to_bytes(&self) -> [u8; Self::SIZE] {
         let mut bytes = [0; Self::SIZE];
         bytes[0] = self.code();
-        let prototype = |p: Option<ObjectId>| p.map_or(Value::Null, Value::Object);
         let (key, value, receiver, descriptor) = match *self {
-            Step::MakeObject { prototype: p } | Step::SetPrototypeOf { prototype: p, .. } => (None, Some(prototype(p)), None, None),
+            Step::MakeObject { prototype } | Step::MakeFunction { prototype } | Step::SetPrototypeOf { prototype, .. } => {
+                (None, Some(prototype.map_or(Value::Null, Value::from)), None, None)
+            }
             Step::MakeProxy { traps, .. } => (None, Some(Value::Integer32(traps.mask().into())), None, None),
             Step::SetIntegrityLevel { level, .. } | Step::TestIntegrityLevel { level, .. } => {
                 (None, Some(Value::Integer32(level.number().into())), None, None)

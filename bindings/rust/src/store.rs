@@ -3,10 +3,10 @@ use crate::descriptor::{Property, PropertyDescriptor};
 use crate::lent::{self, ReportWords};
 use crate::report::{Completion, Failure, Refusal, Report};
 use crate::step::{sheet_bytes, Answer, IntegrityLevel, Step, Traps};
-use crate::value::{ObjectId, PropertyKey, StringId, Value};
+use crate::value::{FunctionId, ObjectId, PropertyKey, Prototype, StringId, Value};
 
 /// How many words a store has.
-pub const STORE_WORDS: usize = 1634;
+pub const STORE_WORDS: usize = 1635;
 
 /// How many 16-bit cells a table of strings has.
 pub const STRING_CELLS: usize = 8449;
@@ -14,7 +14,7 @@ pub const STRING_CELLS: usize = 8449;
 /// How many bytes of output hold the longest list of keys.
 pub const OUTPUT_BYTES: usize = MAXIMUM_KEYS * Value::SIZE;
 
-/// How many objects a store can hold.
+/// How many objects a store can hold, functions and proxies included.
 pub const MAXIMUM_OBJECTS: usize = 32;
 
 /// How many properties the objects of a store can have between them.
@@ -182,7 +182,7 @@ impl Store {
         self.string_units(s).map(String::from_utf16_lossy)
     }
 
-    /// How many objects were made.
+    /// How many objects were made, functions and proxies included.
     #[must_use]
     pub fn object_count(&self) -> usize {
         self.words[0] as usize
@@ -216,18 +216,43 @@ impl Store {
     ///
     /// let mut store = Store::new();
     /// let parent = store.make_object(None)?;
-    /// let child = store.make_object(Some(parent))?;
-    /// assert_eq!(store.get_prototype_of(child, &[])?, Some(parent));
+    /// let child = store.make_object(Some(parent.into()))?;
+    /// assert_eq!(store.get_prototype_of(child, &[])?, Some(parent.into()));
     /// # Ok::<(), demnyaluz::Failure>(())
     /// ```
-    pub fn make_object(&mut self, prototype: Option<ObjectId>) -> Result<ObjectId, Failure> {
+    pub fn make_object(&mut self, prototype: Option<Prototype>) -> Result<ObjectId, Failure> {
         self.step(&Step::MakeObject { prototype }, &[]).into_object()
+    }
+
+    /// Makes a function: an ordinary object that can be called; no prototype is null. It has no code: where it is called, as a getter or as a
+    /// setter, the call takes the next answer.
+    ///
+    /// # Errors
+    /// A refusal.
+    ///
+    /// ```
+    /// use demnyaluz::{Answer, PropertyDescriptor, Store, SymbolId};
+    ///
+    /// let mut store = Store::new();
+    /// let function = store.make_function(None)?;
+    /// let object = store.make_object(Some(function.into()))?;
+    /// // it has properties, as any object has
+    /// assert!(store.set(function, SymbolId(0), 70_000, function, &[])?);
+    /// assert_eq!(store.get(object, SymbolId(0), object, &[])?, 70_000.into());
+    /// // and it is called
+    /// let getter = PropertyDescriptor { get: Some(function.into()), ..PropertyDescriptor::default() };
+    /// assert!(store.define_own_property(object, SymbolId(1), getter, &[])?);
+    /// assert_eq!(store.get(object, SymbolId(1), object, &[Answer::Value(4_464.into())])?, 4_464.into());
+    /// # Ok::<(), demnyaluz::Failure>(())
+    /// ```
+    pub fn make_function(&mut self, prototype: Option<Prototype>) -> Result<FunctionId, Failure> {
+        self.step(&Step::MakeFunction { prototype }, &[]).into_function()
     }
 
     /// Makes a proxy.
     ///
     /// # Errors
-    /// A refusal.
+    /// A refusal: [`Refusal::UnusablePart`] where the target is a function.
     ///
     /// ```
     /// use demnyaluz::{Answer, Store, Traps};
@@ -239,8 +264,8 @@ impl Store {
     /// assert!(store.has_property(proxy, key, &[Answer::Value(true.into())])?);
     /// # Ok::<(), demnyaluz::Failure>(())
     /// ```
-    pub fn make_proxy(&mut self, target: ObjectId, traps: Traps) -> Result<ObjectId, Failure> {
-        self.step(&Step::MakeProxy { target, traps }, &[]).into_object()
+    pub fn make_proxy(&mut self, target: impl Into<ObjectId>, traps: Traps) -> Result<ObjectId, Failure> {
+        self.step(&Step::MakeProxy { target: target.into(), traps }, &[]).into_object()
     }
 
     /// Revokes a proxy; again is harmless.
@@ -258,8 +283,8 @@ impl Store {
     /// assert_eq!(store.is_extensible(proxy, &[]), Err(Failure::TypeError(Message::RevokedProxy)));
     /// # Ok::<(), Failure>(())
     /// ```
-    pub fn revoke(&mut self, proxy: ObjectId) -> Result<(), Failure> {
-        self.step(&Step::Revoke { proxy }, &[]).into_boolean().map(|_| ())
+    pub fn revoke(&mut self, proxy: impl Into<ObjectId>) -> Result<(), Failure> {
+        self.step(&Step::Revoke { proxy: proxy.into() }, &[]).into_boolean().map(|_| ())
     }
 
     /// \[\[GetPrototypeOf]]; none is null.
@@ -274,11 +299,11 @@ impl Store {
     /// let object = store.make_object(None)?;
     /// assert_eq!(store.get_prototype_of(object, &[])?, None);
     /// let proxy = store.make_proxy(object, Traps::GET_PROTOTYPE_OF)?;
-    /// assert_eq!(store.get_prototype_of(proxy, &[Answer::Value(object.into())])?, Some(object));
+    /// assert_eq!(store.get_prototype_of(proxy, &[Answer::Value(object.into())])?, Some(object.into()));
     /// # Ok::<(), demnyaluz::Failure>(())
     /// ```
-    pub fn get_prototype_of(&mut self, object: ObjectId, answers: &[Answer]) -> Result<Option<ObjectId>, Failure> {
-        self.step(&Step::GetPrototypeOf { object }, answers).into_prototype()
+    pub fn get_prototype_of(&mut self, object: impl Into<ObjectId>, answers: &[Answer]) -> Result<Option<Prototype>, Failure> {
+        self.step(&Step::GetPrototypeOf { object: object.into() }, answers).into_prototype()
     }
 
     /// \[\[SetPrototypeOf]]; none is null.
@@ -291,13 +316,13 @@ impl Store {
     ///
     /// let mut store = Store::new();
     /// let (first, second) = (store.make_object(None)?, store.make_object(None)?);
-    /// assert!(store.set_prototype_of(first, Some(second), &[])?);
+    /// assert!(store.set_prototype_of(first, Some(second.into()), &[])?);
     /// // no cycles
-    /// assert!(!store.set_prototype_of(second, Some(first), &[])?);
+    /// assert!(!store.set_prototype_of(second, Some(first.into()), &[])?);
     /// # Ok::<(), demnyaluz::Failure>(())
     /// ```
-    pub fn set_prototype_of(&mut self, object: ObjectId, prototype: Option<ObjectId>, answers: &[Answer]) -> Result<bool, Failure> {
-        self.step(&Step::SetPrototypeOf { object, prototype }, answers).into_boolean()
+    pub fn set_prototype_of(&mut self, object: impl Into<ObjectId>, prototype: Option<Prototype>, answers: &[Answer]) -> Result<bool, Failure> {
+        self.step(&Step::SetPrototypeOf { object: object.into(), prototype }, answers).into_boolean()
     }
 
     /// \[\[IsExtensible]]
@@ -316,8 +341,8 @@ impl Store {
     /// assert_eq!(told, Err(Failure::TypeError(Message::UnexpectedExtensible)));
     /// # Ok::<(), demnyaluz::Failure>(())
     /// ```
-    pub fn is_extensible(&mut self, object: ObjectId, answers: &[Answer]) -> Result<bool, Failure> {
-        self.step(&Step::IsExtensible { object }, answers).into_boolean()
+    pub fn is_extensible(&mut self, object: impl Into<ObjectId>, answers: &[Answer]) -> Result<bool, Failure> {
+        self.step(&Step::IsExtensible { object: object.into() }, answers).into_boolean()
     }
 
     /// \[\[PreventExtensions]]
@@ -335,8 +360,8 @@ impl Store {
     /// assert!(!store.set(object, SymbolId(0), 1, object, &[])?);
     /// # Ok::<(), demnyaluz::Failure>(())
     /// ```
-    pub fn prevent_extensions(&mut self, object: ObjectId, answers: &[Answer]) -> Result<bool, Failure> {
-        self.step(&Step::PreventExtensions { object }, answers).into_boolean()
+    pub fn prevent_extensions(&mut self, object: impl Into<ObjectId>, answers: &[Answer]) -> Result<bool, Failure> {
+        self.step(&Step::PreventExtensions { object: object.into() }, answers).into_boolean()
     }
 
     /// \[\[GetOwnProperty]]; none is absent.
@@ -355,8 +380,13 @@ impl Store {
     /// assert_eq!(store.get_own_property(object, SymbolId(1), &[])?, None);
     /// # Ok::<(), demnyaluz::Failure>(())
     /// ```
-    pub fn get_own_property(&mut self, object: ObjectId, key: impl Into<PropertyKey>, answers: &[Answer]) -> Result<Option<Property>, Failure> {
-        self.step(&Step::GetOwnProperty { object, key: key.into() }, answers).into_property()
+    pub fn get_own_property(
+        &mut self,
+        object: impl Into<ObjectId>,
+        key: impl Into<PropertyKey>,
+        answers: &[Answer],
+    ) -> Result<Option<Property>, Failure> {
+        self.step(&Step::GetOwnProperty { object: object.into(), key: key.into() }, answers).into_property()
     }
 
     /// \[\[DefineOwnProperty]]
@@ -375,12 +405,12 @@ impl Store {
     /// ```
     pub fn define_own_property(
         &mut self,
-        object: ObjectId,
+        object: impl Into<ObjectId>,
         key: impl Into<PropertyKey>,
         descriptor: PropertyDescriptor,
         answers: &[Answer],
     ) -> Result<bool, Failure> {
-        self.step(&Step::DefineOwnProperty { object, key: key.into(), descriptor }, answers).into_boolean()
+        self.step(&Step::DefineOwnProperty { object: object.into(), key: key.into(), descriptor }, answers).into_boolean()
     }
 
     /// \[\[HasProperty]]
@@ -393,13 +423,13 @@ impl Store {
     ///
     /// let mut store = Store::new();
     /// let parent = store.make_object(None)?;
-    /// let child = store.make_object(Some(parent))?;
+    /// let child = store.make_object(Some(parent.into()))?;
     /// assert!(store.set(parent, SymbolId(0), 5, parent, &[])?);
     /// assert!(store.has_property(child, SymbolId(0), &[])?);
     /// # Ok::<(), demnyaluz::Failure>(())
     /// ```
-    pub fn has_property(&mut self, object: ObjectId, key: impl Into<PropertyKey>, answers: &[Answer]) -> Result<bool, Failure> {
-        self.step(&Step::HasProperty { object, key: key.into() }, answers).into_boolean()
+    pub fn has_property(&mut self, object: impl Into<ObjectId>, key: impl Into<PropertyKey>, answers: &[Answer]) -> Result<bool, Failure> {
+        self.step(&Step::HasProperty { object: object.into(), key: key.into() }, answers).into_boolean()
     }
 
     /// \[\[Get]]
@@ -408,18 +438,24 @@ impl Store {
     /// A refusal, a TypeError or a thrown value.
     ///
     /// ```
-    /// use demnyaluz::{Answer, FunctionId, PropertyDescriptor, Store, SymbolId};
+    /// use demnyaluz::{Answer, PropertyDescriptor, Store, SymbolId};
     ///
     /// let mut store = Store::new();
-    /// let object = store.make_object(None)?;
-    /// let accessor = PropertyDescriptor { get: Some(FunctionId(1).into()), ..PropertyDescriptor::default() };
+    /// let (object, getter) = (store.make_object(None)?, store.make_function(None)?);
+    /// let accessor = PropertyDescriptor { get: Some(getter.into()), ..PropertyDescriptor::default() };
     /// assert!(store.define_own_property(object, SymbolId(0), accessor, &[])?);
     /// // the getter takes the answer
     /// assert_eq!(store.get(object, SymbolId(0), object, &[Answer::Value(12.5.into())])?, 12.5.into());
     /// # Ok::<(), demnyaluz::Failure>(())
     /// ```
-    pub fn get(&mut self, object: ObjectId, key: impl Into<PropertyKey>, receiver: impl Into<Value>, answers: &[Answer]) -> Result<Value, Failure> {
-        self.step(&Step::Get { object, key: key.into(), receiver: receiver.into() }, answers).into_value()
+    pub fn get(
+        &mut self,
+        object: impl Into<ObjectId>,
+        key: impl Into<PropertyKey>,
+        receiver: impl Into<Value>,
+        answers: &[Answer],
+    ) -> Result<Value, Failure> {
+        self.step(&Step::Get { object: object.into(), key: key.into(), receiver: receiver.into() }, answers).into_value()
     }
 
     /// \[\[Set]]
@@ -432,7 +468,7 @@ impl Store {
     ///
     /// let mut store = Store::new();
     /// let parent = store.make_object(None)?;
-    /// let child = store.make_object(Some(parent))?;
+    /// let child = store.make_object(Some(parent.into()))?;
     /// // the receiver gets the property
     /// assert!(store.set(parent, SymbolId(0), 5, child, &[])?);
     /// assert_eq!(store.own_property_keys(child, &[])?, [SymbolId(0).into()]);
@@ -440,13 +476,13 @@ impl Store {
     /// ```
     pub fn set(
         &mut self,
-        object: ObjectId,
+        object: impl Into<ObjectId>,
         key: impl Into<PropertyKey>,
         value: impl Into<Value>,
         receiver: impl Into<Value>,
         answers: &[Answer],
     ) -> Result<bool, Failure> {
-        self.step(&Step::Set { object, key: key.into(), value: value.into(), receiver: receiver.into() }, answers).into_boolean()
+        self.step(&Step::Set { object: object.into(), key: key.into(), value: value.into(), receiver: receiver.into() }, answers).into_boolean()
     }
 
     /// \[\[Delete]]
@@ -464,8 +500,8 @@ impl Store {
     /// assert!(store.delete(object, SymbolId(1), &[])?);
     /// # Ok::<(), demnyaluz::Failure>(())
     /// ```
-    pub fn delete(&mut self, object: ObjectId, key: impl Into<PropertyKey>, answers: &[Answer]) -> Result<bool, Failure> {
-        self.step(&Step::Delete { object, key: key.into() }, answers).into_boolean()
+    pub fn delete(&mut self, object: impl Into<ObjectId>, key: impl Into<PropertyKey>, answers: &[Answer]) -> Result<bool, Failure> {
+        self.step(&Step::Delete { object: object.into(), key: key.into() }, answers).into_boolean()
     }
 
     /// \[\[OwnPropertyKeys]]: array indices first, then the other strings, then symbols.
@@ -485,8 +521,8 @@ impl Store {
     /// assert_eq!(store.own_property_keys(object, &[])?, keys);
     /// # Ok::<(), demnyaluz::Failure>(())
     /// ```
-    pub fn own_property_keys(&mut self, object: ObjectId, answers: &[Answer]) -> Result<Vec<PropertyKey>, Failure> {
-        self.step(&Step::OwnPropertyKeys { object }, answers).into_keys()
+    pub fn own_property_keys(&mut self, object: impl Into<ObjectId>, answers: &[Answer]) -> Result<Vec<PropertyKey>, Failure> {
+        self.step(&Step::OwnPropertyKeys { object: object.into() }, answers).into_keys()
     }
 
     /// Object.freeze: SetIntegrityLevel with the level frozen. The object is made non-extensible, and each of its own keys is defined anew, not
@@ -518,8 +554,8 @@ impl Store {
     /// assert!(!store.set(object, SymbolId(1), 7, object, &[])?);
     /// # Ok::<(), demnyaluz::Failure>(())
     /// ```
-    pub fn freeze(&mut self, object: ObjectId, answers: &[Answer]) -> Result<bool, Failure> {
-        self.step(&Step::SetIntegrityLevel { object, level: IntegrityLevel::Frozen }, answers).into_boolean()
+    pub fn freeze(&mut self, object: impl Into<ObjectId>, answers: &[Answer]) -> Result<bool, Failure> {
+        self.step(&Step::SetIntegrityLevel { object: object.into(), level: IntegrityLevel::Frozen }, answers).into_boolean()
     }
 
     /// Object.seal: SetIntegrityLevel with the level sealed. The object is made non-extensible, and each of its own keys is defined anew, not
@@ -540,8 +576,8 @@ impl Store {
     /// assert!(store.set(object, SymbolId(0), 6, object, &[])?);
     /// # Ok::<(), demnyaluz::Failure>(())
     /// ```
-    pub fn seal(&mut self, object: ObjectId, answers: &[Answer]) -> Result<bool, Failure> {
-        self.step(&Step::SetIntegrityLevel { object, level: IntegrityLevel::Sealed }, answers).into_boolean()
+    pub fn seal(&mut self, object: impl Into<ObjectId>, answers: &[Answer]) -> Result<bool, Failure> {
+        self.step(&Step::SetIntegrityLevel { object: object.into(), level: IntegrityLevel::Sealed }, answers).into_boolean()
     }
 
     /// Object.isFrozen: TestIntegrityLevel with the level frozen. Whether the object is not extensible, no own property configurable and no own
@@ -561,8 +597,8 @@ impl Store {
     /// assert!(store.is_frozen(object, &[])?);
     /// # Ok::<(), demnyaluz::Failure>(())
     /// ```
-    pub fn is_frozen(&mut self, object: ObjectId, answers: &[Answer]) -> Result<bool, Failure> {
-        self.step(&Step::TestIntegrityLevel { object, level: IntegrityLevel::Frozen }, answers).into_boolean()
+    pub fn is_frozen(&mut self, object: impl Into<ObjectId>, answers: &[Answer]) -> Result<bool, Failure> {
+        self.step(&Step::TestIntegrityLevel { object: object.into(), level: IntegrityLevel::Frozen }, answers).into_boolean()
     }
 
     /// Object.isSealed: TestIntegrityLevel with the level sealed. Whether the object is not extensible and no own property configurable.
@@ -581,11 +617,11 @@ impl Store {
     /// assert!(!store.is_frozen(object, &[])?);
     /// # Ok::<(), demnyaluz::Failure>(())
     /// ```
-    pub fn is_sealed(&mut self, object: ObjectId, answers: &[Answer]) -> Result<bool, Failure> {
-        self.step(&Step::TestIntegrityLevel { object, level: IntegrityLevel::Sealed }, answers).into_boolean()
+    pub fn is_sealed(&mut self, object: impl Into<ObjectId>, answers: &[Answer]) -> Result<bool, Failure> {
+        self.step(&Step::TestIntegrityLevel { object: object.into(), level: IntegrityLevel::Sealed }, answers).into_boolean()
     }
 
-    /// CompletePropertyDescriptor by itself. The store says which objects and strings there are.
+    /// CompletePropertyDescriptor by itself. The store says which objects, functions and strings there are.
     ///
     /// # Errors
     /// [`Refusal::ObjectNeverMade`], [`Refusal::UnusablePart`] and [`Refusal::UnusableDescriptor`].

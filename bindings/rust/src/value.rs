@@ -20,7 +20,9 @@ macro_rules! numbers {
 }
 
 numbers! {
-    /// An object of the store, by its number in the order made.
+    /// An object of the store, by its number in the order made: an ordinary object, a function or a proxy.
+    ///
+    /// As a value it names an object that is no function; a value that names a function is a [`FunctionId`].
     ///
     /// ```
     /// assert_eq!(demnyaluz::ObjectId(3).to_string(), "o3");
@@ -30,8 +32,22 @@ numbers! {
     StringId "s",
     /// A symbol, by its number. Symbols need no making.
     SymbolId "y",
-    /// A function, by its number. Functions need no making: a call takes the next answer.
+    /// A function of the store, by the number that it has among the objects. It has no code: a call of it takes the next answer.
+    ///
+    /// ```
+    /// use demnyaluz::{FunctionId, ObjectId};
+    ///
+    /// assert_eq!(FunctionId(3).to_string(), "f3");
+    /// assert_eq!(ObjectId::from(FunctionId(3)), ObjectId(3));
+    /// ```
     FunctionId "f",
+}
+
+impl From<FunctionId> for ObjectId {
+    /// The function as one of the objects, by the same number.
+    fn from(f: FunctionId) -> ObjectId {
+        ObjectId(f.0)
+    }
 }
 
 /// A language value.
@@ -64,9 +80,9 @@ pub enum Value {
     String(StringId),
     /// A symbol.
     Symbol(SymbolId),
-    /// An object of the store.
+    /// An object of the store that is no function: an ordinary object or a proxy.
     Object(ObjectId),
-    /// A function.
+    /// A function of the store.
     Function(FunctionId),
 }
 
@@ -243,6 +259,64 @@ impl fmt::Display for Value {
             Value::Object(n) => write!(f, "{n}"),
             Value::Function(n) => write!(f, "{n}"),
         }
+    }
+}
+
+/// What a prototype is where it is not null: an object or a function.
+///
+/// ```
+/// use demnyaluz::{FunctionId, ObjectId, Prototype, Value};
+///
+/// let prototype = Prototype::from(FunctionId(2));
+/// assert_eq!(prototype, Prototype::Function(FunctionId(2)));
+/// assert_eq!(Value::from(prototype), Value::Function(FunctionId(2)));
+/// assert_eq!(ObjectId::from(prototype), ObjectId(2));
+/// assert_eq!(prototype.to_string(), "f2");
+/// ```
+// an object can be called or it cannot
+#[allow(clippy::exhaustive_enums)]
+#[derive(Clone, Copy, PartialEq, Eq, PartialOrd, Ord, Hash, Debug)]
+pub enum Prototype {
+    /// An ordinary object or a proxy.
+    Object(ObjectId),
+    /// A function.
+    Function(FunctionId),
+}
+
+impl From<ObjectId> for Prototype {
+    fn from(o: ObjectId) -> Prototype {
+        Prototype::Object(o)
+    }
+}
+
+impl From<FunctionId> for Prototype {
+    fn from(f: FunctionId) -> Prototype {
+        Prototype::Function(f)
+    }
+}
+
+impl From<Prototype> for Value {
+    fn from(p: Prototype) -> Value {
+        match p {
+            Prototype::Object(o) => Value::Object(o),
+            Prototype::Function(f) => Value::Function(f),
+        }
+    }
+}
+
+impl From<Prototype> for ObjectId {
+    /// The prototype as one of the objects, by its number.
+    fn from(p: Prototype) -> ObjectId {
+        match p {
+            Prototype::Object(o) => o,
+            Prototype::Function(f) => f.into(),
+        }
+    }
+}
+
+impl fmt::Display for Prototype {
+    fn fmt(&self, f: &mut fmt::Formatter<'_>) -> fmt::Result {
+        Value::from(*self).fmt(f)
     }
 }
 

@@ -2,7 +2,7 @@
 use demnyaluz::notation::Call;
 use demnyaluz::{
     lent, notation, rows, sheet_bytes, Answer, Completion, Failure, FunctionId, IntegrityLevel, Message, ObjectId, Property, PropertyDescriptor,
-    PropertyKey, Refusal, Report, Step, Store, StringId, SymbolId, TextReader, Traps, TryFromValueError, Validation, Value, ValueWords,
+    PropertyKey, Prototype, Refusal, Report, Step, Store, StringId, SymbolId, TextReader, Traps, TryFromValueError, Validation, Value, ValueWords,
 };
 use std::collections::HashSet;
 use std::error::Error;
@@ -29,7 +29,7 @@ fn values_are_nine_bytes() {
         assert_eq!(hex(&value.to_bytes()), bytes);
         assert_eq!(Value::from_bytes(&value.to_bytes()), Some(value));
     }
-    for (kind, payload) in [(0, 1), (1, 1), (2, 2), (3, 1 << 32), (5, 256), (7, 256), (9, 0), (256, 0), (u64::MAX, 0)] {
+    for (kind, payload) in [(0, 1), (1, 1), (2, 2), (3, 1 << 32), (5, 256), (7, 256), (8, 256), (9, 0), (256, 0), (u64::MAX, 0)] {
         assert_eq!(Value::from_words(ValueWords { kind, payload }), None);
     }
 }
@@ -40,6 +40,10 @@ fn same_value_is_the_languages() {
     assert!(Value::from(1).same_value(1.0.into()));
     assert!(Value::from(f64::NAN).same_value(f64::from_bits(0xfff0_0000_0000_0001).into()));
     assert!(!Value::Null.same_value(Value::Undefined));
+    // an object and a function of one number are two values
+    assert!(!Value::from(ObjectId(1)).same_value(FunctionId(1).into()));
+    assert!(Value::from(FunctionId(1)).same_value(FunctionId(1).into()));
+    assert!(!Value::from(FunctionId(1)).same_value(FunctionId(2).into()));
     assert_ne!(Value::from(1), Value::from(1.0));
 }
 
@@ -84,13 +88,22 @@ fn steps_are_fifty_eight_bytes() {
     let (zero, none) = ("00".repeat(9), "00".repeat(29));
     let symbol = "060300000000000000";
     let object = |n: u8| format!("07{n:02x}00000000000000");
+    let function = |n: u8| format!("08{n:02x}00000000000000");
     let o = ObjectId(9);
     for (step, bytes) in [
         (Step::MakeObject { prototype: None }, format!("0100{zero}01{}{zero}{none}", "00".repeat(8))),
+        (Step::MakeObject { prototype: Some(FunctionId(2).into()) }, format!("0100{zero}{}{zero}{none}", function(2))),
+        (Step::MakeFunction { prototype: None }, format!("1000{zero}01{}{zero}{none}", "00".repeat(8))),
+        (Step::MakeFunction { prototype: Some(ObjectId(2).into()) }, format!("1000{zero}{}{zero}{none}", object(2))),
+        (Step::MakeFunction { prototype: Some(FunctionId(2).into()) }, format!("1000{zero}{}{zero}{none}", function(2))),
         (Step::MakeProxy { target: o, traps: Traps::ALL }, format!("0209{zero}03ff07000000000000{zero}{none}")),
         (Step::Revoke { proxy: o }, format!("0309{zero}{zero}{zero}{none}")),
         (Step::GetPrototypeOf { object: o }, format!("0409{zero}{zero}{zero}{none}")),
-        (Step::SetPrototypeOf { object: o, prototype: Some(ObjectId(2)) }, format!("0509{zero}{}{zero}{none}", object(2))),
+        (Step::SetPrototypeOf { object: o, prototype: Some(ObjectId(2).into()) }, format!("0509{zero}{}{zero}{none}", object(2))),
+        (
+            Step::SetPrototypeOf { object: FunctionId(9).into(), prototype: Some(FunctionId(2).into()) },
+            format!("0509{zero}{}{zero}{none}", function(2)),
+        ),
         (Step::IsExtensible { object: o }, format!("0609{zero}{zero}{zero}{none}")),
         (Step::PreventExtensions { object: o }, format!("0709{zero}{zero}{zero}{none}")),
         (Step::GetOwnProperty { object: o, key }, format!("0809{symbol}{zero}{zero}{none}")),
@@ -109,7 +122,7 @@ fn steps_are_fifty_eight_bytes() {
         (Step::TestIntegrityLevel { object: o, level: IntegrityLevel::Frozen }, format!("1309{zero}030100000000000000{zero}{none}")),
     ] {
         assert_eq!(hex(&step.to_bytes()), bytes, "{step:?}");
-        assert_eq!((step.code(), step.object()), (step.to_bytes()[0], Some(o).filter(|_| step.code() != 1)), "{step:?}");
+        assert_eq!((step.code(), step.object()), (step.to_bytes()[0], Some(o).filter(|_| ![1, 16].contains(&step.code()))), "{step:?}");
     }
 }
 
@@ -204,8 +217,11 @@ fn each_method_answers_in_its_own_type() {
     let mut store = Store::new();
     let key = store.enter_string("a").unwrap();
     let parent = store.make_object(None).unwrap();
-    let o = store.make_object(Some(parent)).unwrap();
-    assert_eq!(store.get_prototype_of(o, &[]), Ok(Some(parent)));
+    let o = store.make_object(Some(parent.into())).unwrap();
+    let f = store.make_function(Some(o.into())).unwrap();
+    assert_eq!((parent, o, f), (ObjectId(0), ObjectId(1), FunctionId(2)));
+    assert_eq!(store.get_prototype_of(o, &[]), Ok(Some(parent.into())));
+    assert_eq!(store.get_prototype_of(f, &[]), Ok(Some(Prototype::Object(o))));
     assert_eq!(store.set_prototype_of(o, None, &[]), Ok(true));
     assert_eq!(store.get_prototype_of(o, &[]), Ok(None));
     assert_eq!(store.is_extensible(o, &[]), Ok(true));
@@ -215,11 +231,11 @@ fn each_method_answers_in_its_own_type() {
     let data = Property::Data { value: 5.into(), writable: true, enumerable: true, configurable: true };
     assert_eq!(store.get_own_property(o, key, &[]), Ok(Some(data)));
     assert_eq!(store.get(o, key, o, &[]), Ok(5.into()));
-    let accessor = PropertyDescriptor { get: Some(FunctionId(0).into()), ..Default::default() };
+    let accessor = PropertyDescriptor { get: Some(f.into()), ..Default::default() };
     assert_eq!(store.define_own_property(o, SymbolId(1), accessor, &[]), Ok(true));
     assert_eq!(
         store.get_own_property(o, SymbolId(1), &[]),
-        Ok(Some(Property::Accessor { get: FunctionId(0).into(), set: Value::Undefined, enumerable: false, configurable: false }))
+        Ok(Some(Property::Accessor { get: f.into(), set: Value::Undefined, enumerable: false, configurable: false }))
     );
     assert_eq!(store.get(o, SymbolId(1), o, &[Answer::Value(0.5.into())]), Ok(0.5.into()));
     assert_eq!(store.get(o, SymbolId(1), o, &[Answer::Throw(key.into())]), Err(Failure::Thrown(key.into())));
@@ -234,8 +250,8 @@ fn each_method_answers_in_its_own_type() {
     store.revoke(p).unwrap();
     assert_eq!(store.is_extensible(p, &[]), Err(Failure::TypeError(Message::RevokedProxy)));
     assert_eq!(store.revoke(o), Err(Refusal::UnusablePart.into()));
-    assert_eq!(store.is_extensible(ObjectId(3), &[]), Err(Refusal::ObjectNeverMade.into()));
-    assert_eq!((store.object_count(), store.property_count(), store.string_count()), (3, 1, 1));
+    assert_eq!(store.is_extensible(ObjectId(4), &[]), Err(Refusal::ObjectNeverMade.into()));
+    assert_eq!((store.object_count(), store.property_count(), store.string_count()), (4, 1, 1));
 }
 
 #[test]
@@ -313,15 +329,17 @@ fn no() -> Value {
     false.into()
 }
 
-/// A store, o0 with data and accessors under indices, strings and symbols, and its keys in their order.
+/// A store, o0 with data and accessors, of f1 and f2, under indices, strings and symbols, and its keys in their order.
 fn exhibit() -> (Store, ObjectId, Vec<PropertyKey>) {
     let mut store = Store::new();
     let o = store.make_object(None).unwrap();
+    let (getter, setter) = (store.make_function(None).unwrap(), store.make_function(None).unwrap());
+    assert_eq!((getter, setter), (FunctionId(1), FunctionId(2)));
     let [name, visits, ten, seven] = ["name", "visits", "10", "7"].map(|text| PropertyKey::from(store.enter_string(text).unwrap()));
     let symbol = |n| PropertyKey::from(SymbolId(n));
     let accessor = PropertyDescriptor {
-        get: Some(FunctionId(1).into()),
-        set: Some(FunctionId(2).into()),
+        get: Some(getter.into()),
+        set: Some(setter.into()),
         enumerable: Some(false),
         configurable: Some(true),
         ..Default::default()
@@ -458,9 +476,9 @@ fn proxies_are_sealed_and_frozen() {
 #[test]
 fn a_handler_may_tell_a_configurable_property_otherwise() {
     let mut store = Store::new();
-    let o = store.make_object(None).unwrap();
+    let (o, f) = (store.make_object(None).unwrap(), store.make_function(None).unwrap());
     let (a, b) = (SymbolId(0), SymbolId(1));
-    let getter = PropertyDescriptor { get: Some(FunctionId(1).into()), configurable: Some(true), ..Default::default() };
+    let getter = PropertyDescriptor { get: Some(f.into()), configurable: Some(true), ..Default::default() };
     assert_eq!(store.define_own_property(o, a, getter, &[]), Ok(true));
     assert_eq!(store.set(o, b, 5, o, &[]), Ok(true));
     let p = store.make_proxy(o, Traps::GET_OWN_PROPERTY_DESCRIPTOR).unwrap();
@@ -598,7 +616,7 @@ fn a_refusal_brings_back_the_store() {
     assert_ne!(store, before);
 }
 
-/// Levels are 0 and 1 as Integer32, and the codes beside 18 and 19 are none.
+/// Levels are 0 and 1 as Integer32, and 15, 17 and what is above 19 are no codes.
 #[test]
 fn steps_of_another_level_or_code_are_refused() {
     let (mut store, o, _) = exhibit();
@@ -617,6 +635,8 @@ fn steps_of_another_level_or_code_are_refused() {
             (o.into(), 3),
             (ObjectId(7).into(), 2),
             (FunctionId(1).into(), 3),
+            (FunctionId(7).into(), 2),
+            (ObjectId(1).into(), 3),
         ] {
             let mut bytes = Step::TestIntegrityLevel { object: o, level: IntegrityLevel::Frozen }.to_bytes();
             bytes[0] = code;
@@ -630,7 +650,7 @@ fn steps_of_another_level_or_code_are_refused() {
             assert_eq!(store.step_bytes(&bytes, &[0], &mut []).outcome, Err(Refusal::MalformedRecord.into()), "{code} {at}");
         }
     }
-    for code in [0, 15, 16, 17, 20, 32, 255] {
+    for code in [0, 15, 17, 20, 32, 255] {
         let mut bytes = Step::TestIntegrityLevel { object: o, level: IntegrityLevel::Frozen }.to_bytes();
         bytes[0] = code;
         assert_eq!(store.step_bytes(&bytes, &[0], &mut []).outcome, Err(Refusal::MalformedRecord.into()), "{code}");
@@ -647,6 +667,352 @@ fn steps_of_another_level_or_code_are_refused() {
     assert_eq!(store.step_bytes(&freeze, &[0], &mut []).outcome, Ok(Completion::Value(yes())));
 }
 
+fn told(report: &Report) -> (Result<Completion, Failure>, u32, u32) {
+    (report.outcome.clone(), report.answers, report.calls)
+}
+
+/// A refusal, which changes nothing.
+#[track_caller]
+fn is_refused(store: &mut Store, step: &Step, answers: &[Answer], refusal: Refusal) {
+    let before = store.clone();
+    let report = store.step(step, answers);
+    assert_eq!(told(&report), (Err(refusal.into()), 0, 0), "{step}");
+    assert_eq!(*store, before, "{step}");
+}
+
+/// Objects and functions have one row of numbers, and a function is made without calls.
+#[test]
+fn functions_are_numbered_among_the_objects() {
+    let mut store = Store::new();
+    let made = |n: u8| (Ok(Completion::Value(FunctionId(n).into())), 0, 0);
+    assert_eq!(told(&store.step(&Step::MakeFunction { prototype: None }, &[])), made(0));
+    assert_eq!(store.make_object(Some(FunctionId(0).into())), Ok(ObjectId(1)));
+    assert_eq!(store.make_proxy(ObjectId(1), Traps::ALL), Ok(ObjectId(2)));
+    for (n, prototype) in [(3, ObjectId(1).into()), (4, ObjectId(2).into()), (5, FunctionId(0).into()), (6, FunctionId(5).into())] {
+        // answers that are left over are only read
+        let report = store.step(&Step::MakeFunction { prototype: Some(prototype) }, &answers![yes(), Value::from(FunctionId(0))]);
+        assert_eq!(told(&report), made(n));
+        assert_eq!(store.get_prototype_of(FunctionId(n), &[]), Ok(Some(prototype)));
+    }
+    for n in [0, 3, 4, 5, 6] {
+        assert_eq!((store.is_extensible(FunctionId(n), &[]), store.own_property_keys(FunctionId(n), &[])), (Ok(true), Ok(vec![])));
+    }
+    assert_eq!((store.object_count(), store.property_count()), (7, 0));
+    // the marks of the functions, after the two counts
+    assert_eq!(store.words()[..3], [7, 0, 0b111_1001]);
+}
+
+/// Codes 4 to 14, 18 and 19 on a function and on an object, one after the other: the same reports, and functions stay what they are.
+#[test]
+fn functions_are_operands_as_objects_are() {
+    let key = PropertyKey::from(SymbolId(3));
+    let steps = |object: ObjectId, receiver: Value, parent: Option<Prototype>| {
+        let (value, level) = (70_000.into(), IntegrityLevel::Frozen);
+        let getter = PropertyDescriptor { get: Some(FunctionId(0).into()), configurable: Some(true), ..Default::default() };
+        vec![
+            Step::GetPrototypeOf { object },
+            Step::SetPrototypeOf { object, prototype: parent },
+            Step::GetPrototypeOf { object },
+            Step::IsExtensible { object },
+            Step::HasProperty { object, key },
+            Step::Get { object, key, receiver },
+            Step::Set { object, key, value, receiver },
+            Step::GetOwnProperty { object, key },
+            Step::Get { object, key, receiver },
+            Step::HasProperty { object, key },
+            Step::DefineOwnProperty { object, key, descriptor: PropertyDescriptor::data(4_464, true, true, true) },
+            Step::Set { object, key, value: 1.into(), receiver },
+            Step::DefineOwnProperty { object, key: SymbolId(4).into(), descriptor: getter },
+            Step::Get { object, key: SymbolId(4).into(), receiver },
+            Step::Set { object, key: SymbolId(4).into(), value, receiver },
+            Step::OwnPropertyKeys { object },
+            Step::Delete { object, key: SymbolId(4).into() },
+            Step::OwnPropertyKeys { object },
+            Step::SetIntegrityLevel { object, level: IntegrityLevel::Sealed },
+            Step::TestIntegrityLevel { object, level: IntegrityLevel::Sealed },
+            Step::TestIntegrityLevel { object, level },
+            Step::SetIntegrityLevel { object, level },
+            Step::TestIntegrityLevel { object, level },
+            Step::GetOwnProperty { object, key },
+            Step::Delete { object, key },
+            Step::Set { object, key, value, receiver },
+            Step::PreventExtensions { object },
+            Step::IsExtensible { object },
+            Step::SetPrototypeOf { object, prototype: None },
+        ]
+    };
+    for parent in [None, Some(Prototype::Object(ObjectId(1))), Some(Prototype::Function(FunctionId(0)))] {
+        let mut store = Store::new();
+        let getter = store.make_function(None).unwrap();
+        store.make_object(None).unwrap();
+        let (o, f) = (store.make_object(None).unwrap(), store.make_function(None).unwrap());
+        assert_eq!((getter, o, f), (FunctionId(0), ObjectId(2), FunctionId(3)));
+        let codes: HashSet<u8> = steps(o, o.into(), parent).iter().map(Step::code).collect();
+        assert_eq!(codes, (4..=14).chain([18, 19]).collect());
+        for (on_object, on_function) in steps(o, o.into(), parent).into_iter().zip(steps(f.into(), f.into(), parent)) {
+            let answers = answers![Value::from(0.5)];
+            let expected = store.step(&on_object, &answers);
+            assert!(expected.outcome.is_ok(), "{on_object}: {expected}");
+            assert_eq!(store.step(&on_function, &answers), expected, "{on_function}");
+        }
+    }
+}
+
+/// What is read through a prototype that is a function, and written with a function as receiver.
+#[test]
+fn functions_are_prototypes_and_receivers() {
+    let mut store = Store::new();
+    let key = SymbolId(0);
+    let f = store.make_function(None).unwrap();
+    let o = store.make_object(Some(f.into())).unwrap();
+    let g = store.make_function(Some(o.into())).unwrap();
+    assert_eq!(store.define_own_property(f, key, PropertyDescriptor::fixed(70_000), &[]), Ok(true));
+    let data = Ok(Completion::Value(70_000.into()));
+    let get = |object: ObjectId, receiver: Value| Step::Get { object, key: key.into(), receiver };
+    // itself and its own property, and for each object further up three calls more
+    assert_eq!(told(&store.step(&get(f.into(), f.into()), &[])), (data.clone(), 0, 2));
+    assert_eq!(told(&store.step(&get(o, o.into()), &[])), (data.clone(), 0, 5));
+    assert_eq!(told(&store.step(&get(g.into(), o.into()), &[])), (data.clone(), 0, 8));
+    assert_eq!(store.has_property(g, key, &[]), Ok(true));
+    // what f has fixed cannot be set on what inherits from it
+    assert_eq!(store.set(g, key, 1, g, &[]), Ok(false));
+    // the receiver, a function, gets the property
+    let set = Step::Set { object: o, key: SymbolId(1).into(), value: 1.into(), receiver: g.into() };
+    assert_eq!(told(&store.step(&set, &[])), (Ok(Completion::Value(yes())), 0, 10));
+    assert_eq!(store.own_property_keys(g, &[]), Ok(vec![SymbolId(1).into()]));
+    assert_eq!(store.own_property_keys(o, &[]), Ok(vec![]));
+    assert_eq!(store.get_own_property(g, SymbolId(1), &[]), Ok(Some(self::data(1, true, true, true))));
+    // one that is not extensible does not
+    assert_eq!(store.prevent_extensions(g, &[]), Ok(true));
+    assert_eq!(store.set(o, SymbolId(2), 1, g, &[]), Ok(false));
+    assert_eq!(store.set(o, SymbolId(1), 2, g, &[]), Ok(true));
+    assert_eq!(store.get(g, SymbolId(1), Value::Null, &[]), Ok(2.into()));
+    // no cycle through a function either
+    assert_eq!(store.set_prototype_of(f, Some(g.into()), &[]), Ok(false));
+    assert_eq!(store.set_prototype_of(f, Some(f.into()), &[]), Ok(false));
+    assert_eq!(store.set_prototype_of(f, None, &[]), Ok(true));
+    assert_eq!(store.set_prototype_of(o, Some(f.into()), &[]), Ok(true));
+    assert_eq!(store.set_prototype_of(g, Some(f.into()), &[]), Ok(false));
+    assert_eq!(store.get_prototype_of(g, &[]), Ok(Some(o.into())));
+}
+
+/// A getter and a setter are called: each takes an answer and changes nothing, whatever properties it has.
+#[test]
+fn functions_are_called() {
+    let mut store = Store::new();
+    let (o, f) = (store.make_object(None).unwrap(), store.make_function(None).unwrap());
+    let (a, b) = (SymbolId(0), SymbolId(1));
+    let accessor = PropertyDescriptor { get: Some(f.into()), set: Some(f.into()), ..Default::default() };
+    assert_eq!(store.define_own_property(o, a, accessor, &[]), Ok(true));
+    assert_eq!(store.define_own_property(f, b, PropertyDescriptor { configurable: Some(true), ..accessor }, &[]), Ok(true));
+    let before = store.clone();
+    for (object, key) in [(o, a), (ObjectId::from(f), b)] {
+        let get = Step::Get { object, key: key.into(), receiver: f.into() };
+        let set = Step::Set { object, key: key.into(), value: 5.into(), receiver: f.into() };
+        assert_eq!(told(&store.step(&get, &answers![Value::from(f)])), (Ok(Completion::Value(f.into())), 1, 2));
+        assert_eq!(told(&store.step(&set, &answers![Value::from(f)])), (Ok(Completion::Value(yes())), 1, 2));
+        for step in [get, set] {
+            assert_eq!(told(&store.step(&step, &[Answer::Throw(f.into())])), (Err(Failure::Thrown(f.into())), 1, 2));
+            is_refused(&mut store, &step, &[], Refusal::SheetSpent);
+        }
+    }
+    assert_eq!(store, before);
+}
+
+/// What a handler answers: a function is a prototype, is true, and is neither a descriptor nor a list of keys.
+#[test]
+fn handlers_answer_functions() {
+    let mut store = Store::new();
+    let (o, f, g) = (store.make_object(None).unwrap(), store.make_function(None).unwrap(), store.make_function(None).unwrap());
+    let p = store.make_proxy(o, Traps::ALL).unwrap();
+    let answer = |f: FunctionId| answers![Value::from(f)];
+    let get = Step::GetPrototypeOf { object: p };
+    // over an extensible target any prototype will do; over another one the target's alone
+    assert_eq!(told(&store.step(&get, &answer(f))), (Ok(Completion::Value(f.into())), 1, 2));
+    assert_eq!(store.set_prototype_of(o, Some(f.into()), &[]), Ok(true));
+    assert_eq!(store.prevent_extensions(o, &[]), Ok(true));
+    assert_eq!(told(&store.step(&get, &answer(f))), (Ok(Completion::Value(f.into())), 1, 3));
+    for (told, message) in [
+        (Value::from(g), Message::UnexpectedPrototype),
+        (Value::from(o), Message::UnexpectedPrototype),
+        (Value::Null, Message::UnexpectedPrototype),
+        (Value::Undefined, Message::PrototypeNotObjectOrNull),
+        (Value::from(1), Message::PrototypeNotObjectOrNull),
+    ] {
+        assert_eq!(store.get_prototype_of(p, &answers![told]), Err(Failure::TypeError(message)), "{told}");
+    }
+    // the setPrototypeOf trap answers true, by a function
+    assert_eq!(store.set_prototype_of(p, Some(f.into()), &answer(g)), Ok(true));
+    assert_eq!(store.set_prototype_of(p, Some(g.into()), &answer(g)), Err(Failure::TypeError(Message::PrototypeNotSet)));
+    // the other traps: a function is true
+    assert_eq!(store.is_extensible(p, &answer(f)), Err(Failure::TypeError(Message::UnexpectedExtensible)));
+    assert_eq!(store.prevent_extensions(p, &answer(f)), Ok(true));
+    let (key, object) = (PropertyKey::from(SymbolId(0)), p);
+    assert_eq!(store.has_property(p, key, &answer(f)), Ok(true));
+    assert_eq!(store.delete(p, key, &answer(f)), Ok(true));
+    assert_eq!(store.set(p, key, 1, f, &answer(f)), Ok(true));
+    assert_eq!(store.get(p, key, f, &answer(f)), Ok(f.into()));
+    // a descriptor and keys are asked for
+    for value in [Value::from(o), f.into()] {
+        is_refused(&mut store, &Step::GetOwnProperty { object, key }, &answers![value], Refusal::UnreadableAnswer);
+        is_refused(&mut store, &Step::OwnPropertyKeys { object }, &answers![value], Refusal::UnreadableAnswer);
+    }
+    let listed = [Answer::Keys(vec![f.into()])];
+    assert_eq!(store.own_property_keys(p, &listed), Err(Failure::TypeError(Message::NotKey)));
+    // get and set of an answered descriptor: what is no function cannot be called
+    let accessor = |get: Value, set: Value| Answer::from(PropertyDescriptor { get: Some(get), set: Some(set), ..Default::default() });
+    for (get, set, message) in [
+        (Value::from(o), f.into(), Message::GetterNotCallable),
+        (f.into(), o.into(), Message::SetterNotCallable),
+        (f.into(), f.into(), Message::UnexpectedProperty),
+    ] {
+        assert_eq!(store.get_own_property(p, key, &[accessor(get, set)]), Err(Failure::TypeError(message)));
+    }
+}
+
+/// Kinds 7 and 8 in each part of a step and of a sheet: a number that was never made is refusal 2, one of the other kind refusal 3.
+#[test]
+fn a_function_by_the_wrong_name_is_refused() {
+    let mut store = Store::new();
+    let (o, f) = (store.make_object(None).unwrap(), store.make_function(None).unwrap());
+    let p = store.make_proxy(o, Traps::ALL).unwrap();
+    let key = PropertyKey::from(SymbolId(0));
+    let wrong: Vec<(Value, Refusal)> = vec![
+        (ObjectId(3).into(), Refusal::ObjectNeverMade),
+        (FunctionId(3).into(), Refusal::ObjectNeverMade),
+        (FunctionId(255).into(), Refusal::ObjectNeverMade),
+        (FunctionId(o.0).into(), Refusal::UnusablePart),
+        (FunctionId(p.0).into(), Refusal::UnusablePart),
+        (ObjectId(f.0).into(), Refusal::UnusablePart),
+    ];
+    for (value, refusal) in wrong {
+        let prototype = Some(match value {
+            Value::Object(o) => o.into(),
+            Value::Function(f) => f.into(),
+            _ => unreachable!(),
+        });
+        for step in [
+            Step::MakeObject { prototype },
+            Step::MakeFunction { prototype },
+            Step::SetPrototypeOf { object: o, prototype },
+            Step::SetPrototypeOf { object: f.into(), prototype },
+            Step::Get { object: o, key, receiver: value },
+            Step::Set { object: o, key, value: 1.into(), receiver: value },
+            Step::Set { object: o, key, value, receiver: o.into() },
+        ] {
+            is_refused(&mut store, &step, &[], refusal);
+        }
+        let fields = [
+            PropertyDescriptor { value: Some(value), ..Default::default() },
+            PropertyDescriptor { get: Some(value), ..Default::default() },
+            PropertyDescriptor { set: Some(value), ..Default::default() },
+        ];
+        for descriptor in fields {
+            is_refused(&mut store, &Step::DefineOwnProperty { object: o, key, descriptor }, &[], refusal);
+            assert_eq!(store.complete(&descriptor), Err(refusal));
+            assert_eq!(store.validate(true, &descriptor, None), Err(refusal));
+            assert_eq!(store.validate(true, &PropertyDescriptor::default(), Some(&descriptor)), Err(refusal));
+            assert_eq!(store.merge(&descriptor, &PropertyDescriptor::default()), Err(refusal));
+            assert_eq!(store.merge(&PropertyDescriptor::fixed(1), &descriptor), Err(refusal));
+        }
+        for answer in fields.map(Answer::from).into_iter().chain([Answer::Value(value), Answer::Throw(value), Answer::Keys(vec![key.into(), value])])
+        {
+            // also of those that are left over, and of a step that takes none
+            is_refused(&mut store, &Step::IsExtensible { object: p }, &[Answer::from(yes()), answer.clone()], refusal);
+            is_refused(&mut store, &Step::MakeFunction { prototype: None }, &[answer], refusal);
+        }
+    }
+}
+
+/// The order of the tests: each number over the whole step before the next, and then over the sheet.
+#[test]
+fn refusals_of_functions_come_in_their_places() {
+    let mut store = Store::new();
+    let (o, f) = (store.make_object(None).unwrap(), store.make_function(None).unwrap());
+    let key = PropertyKey::from(SymbolId(0));
+    let get = |v: Value| PropertyDescriptor { get: Some(v), ..Default::default() };
+    let define = |descriptor| Step::DefineOwnProperty { object: o, key, descriptor };
+    let unmade = Value::from(FunctionId(9));
+    // 2 before 3, of two values of one step
+    let both = Step::Set { object: o, key, value: FunctionId(o.0).into(), receiver: unmade };
+    is_refused(&mut store, &both, &[], Refusal::ObjectNeverMade);
+    let both = Step::Set { object: o, key, value: unmade, receiver: ObjectId(f.0).into() };
+    is_refused(&mut store, &both, &[], Refusal::ObjectNeverMade);
+    // 3 before 4: kind 8 for what is no function, where kind 7 for it is refusal 4
+    is_refused(&mut store, &define(get(FunctionId(o.0).into())), &[], Refusal::UnusablePart);
+    is_refused(&mut store, &define(get(ObjectId(f.0).into())), &[], Refusal::UnusablePart);
+    is_refused(&mut store, &define(get(o.into())), &[], Refusal::UnusableDescriptor);
+    let mixed = PropertyDescriptor { value: Some(FunctionId(o.0).into()), ..get(f.into()) };
+    is_refused(&mut store, &define(mixed), &[], Refusal::UnusablePart);
+    // the step before the sheet
+    is_refused(&mut store, &define(get(FunctionId(o.0).into())), &answers![unmade], Refusal::UnusablePart);
+    is_refused(&mut store, &Step::IsExtensible { object: o }, &answers![Value::from(ObjectId(f.0)), unmade], Refusal::ObjectNeverMade);
+    is_refused(&mut store, &Step::IsExtensible { object: o }, &answers![Value::from(ObjectId(f.0))], Refusal::UnusablePart);
+    // numbers of more than one byte, and the object of code 16, by their bytes
+    let bytes = Step::MakeFunction { prototype: Some(f.into()) }.to_bytes();
+    for (at, byte, refusal) in
+        [(1, 1, 1), (2, 1, 1), (20, 1, 1), (29, 1, 1), (57, 1, 1), (13, 1, 2), (19, 128, 2), (11, 7, 3), (11, 9, 1), (11, 5, 3), (11, 6, 3)]
+    {
+        let mut changed = bytes;
+        changed[at] = byte;
+        let before = store.clone();
+        let report = store.step_bytes(&changed, &[0], &mut []);
+        assert_eq!(told(&report), (Err(Refusal::from_number(refusal).unwrap().into()), 0, 0), "{at} {byte}");
+        assert_eq!(store, before);
+    }
+    for value in [Value::Undefined, true.into(), 1.into(), 1.0.into(), SymbolId(0).into()] {
+        let mut changed = bytes;
+        changed[11..20].copy_from_slice(&value.to_bytes());
+        assert_eq!(store.step_bytes(&changed, &[0], &mut []).outcome, Err(Refusal::UnusablePart.into()), "{value}");
+    }
+    assert_eq!(store.step_bytes(&bytes, &[0], &mut []).outcome, Ok(Completion::Value(FunctionId(2).into())));
+}
+
+/// A function has no handler: no proxy stands before one, and it is not revoked.
+#[test]
+fn no_proxy_stands_before_a_function() {
+    let mut store = Store::new();
+    let (f, o) = (store.make_function(None).unwrap(), store.make_object(None).unwrap());
+    for traps in [Traps::NONE, Traps::GET, Traps::ALL] {
+        is_refused(&mut store, &Step::MakeProxy { target: f.into(), traps }, &[], Refusal::UnusablePart);
+        assert_eq!(store.make_proxy(f, traps), Err(Refusal::UnusablePart.into()));
+    }
+    is_refused(&mut store, &Step::Revoke { proxy: f.into() }, &[], Refusal::UnusablePart);
+    assert_eq!(store.revoke(f), Err(Refusal::UnusablePart.into()));
+    // a number that was never made, and a mask that is none, come before
+    is_refused(&mut store, &Step::MakeProxy { target: ObjectId(2), traps: Traps::NONE }, &[], Refusal::ObjectNeverMade);
+    let mut bytes = Step::MakeProxy { target: f.into(), traps: Traps::ALL }.to_bytes();
+    bytes[13] = 8;
+    assert_eq!(store.step_bytes(&bytes, &[0], &mut []).outcome, Err(Refusal::MalformedRecord.into()));
+    // what is no function can have a function as its prototype
+    let p = store.make_proxy(o, Traps::NONE).unwrap();
+    assert_eq!(store.set_prototype_of(p, Some(f.into()), &[]), Ok(true));
+    assert_eq!(store.get_prototype_of(p, &[]), Ok(Some(f.into())));
+}
+
+#[test]
+fn the_store_is_full_at_32_functions_and_objects() {
+    let mut store = Store::new();
+    for n in 0..32 {
+        let made: Prototype = if n % 3 == 0 { store.make_object(None).unwrap().into() } else { store.make_function(None).unwrap().into() };
+        assert_eq!(ObjectId::from(made), ObjectId(n));
+    }
+    let before = store.clone();
+    assert_eq!(store.make_function(None), Err(Refusal::StoreFull.into()));
+    assert_eq!(store.make_function(Some(FunctionId(31).into())), Err(Refusal::StoreFull.into()));
+    assert_eq!(store.make_object(Some(FunctionId(31).into())), Err(Refusal::StoreFull.into()));
+    assert_eq!(store.make_proxy(ObjectId(30), Traps::NONE), Err(Refusal::StoreFull.into()));
+    // 2 and 3 come before
+    assert_eq!(store.make_function(Some(FunctionId(32).into())), Err(Refusal::ObjectNeverMade.into()));
+    assert_eq!(store.make_function(Some(FunctionId(30).into())), Err(Refusal::UnusablePart.into()));
+    assert_eq!(store.make_proxy(FunctionId(31), Traps::NONE), Err(Refusal::UnusablePart.into()));
+    assert_eq!(store, before);
+    for n in 0..=255 {
+        assert_eq!(store.set(FunctionId(31), SymbolId(n), 1, FunctionId(31), &[]), Ok(true));
+    }
+    assert_eq!(store.set(ObjectId(0), SymbolId(0), 1, FunctionId(1), &[]), Err(Refusal::StoreFull.into()));
+}
+
 /// 2,048 nested calls in a thread with a stack of 1 MB, then one more.
 #[test]
 fn the_2049th_call_is_refused_within_a_stack_of_1_mb() {
@@ -655,7 +1021,7 @@ fn the_2049th_call_is_refused_within_a_stack_of_1_mb() {
         let o = store.make_object(None).unwrap();
         let p = store.make_proxy(o, Traps::NONE).unwrap();
         // the prototype chain leads back through the proxy
-        assert_eq!(store.set_prototype_of(o, Some(p), &[]), Ok(true));
+        assert_eq!(store.set_prototype_of(o, Some(p.into()), &[]), Ok(true));
         let before = store.clone();
         for object in [o, p] {
             assert_eq!(store.get(object, SymbolId(0), object, &[]), Err(Refusal::TooManyCalls.into()));
@@ -697,6 +1063,11 @@ fn values_come_from_rusts_own() {
     assert_eq!(Value::from(SymbolId(2)), Value::Symbol(SymbolId(2)));
     assert_eq!(Value::from(ObjectId(3)), Value::Object(ObjectId(3)));
     assert_eq!(Value::from(FunctionId(4)), Value::Function(FunctionId(4)));
+    for (prototype, value) in
+        [(Prototype::from(ObjectId(3)), Value::Object(ObjectId(3))), (Prototype::from(FunctionId(3)), Value::Function(FunctionId(3)))]
+    {
+        assert_eq!((Value::from(prototype), ObjectId::from(prototype), prototype.to_string()), (value, ObjectId(3), value.to_string()));
+    }
     assert_eq!(Value::from(PropertyKey::from(StringId(5))), Value::String(StringId(5)));
     assert_eq!(Value::from(PropertyKey::from(SymbolId(6))), Value::Symbol(SymbolId(6)));
     assert_eq!((Value::default(), Traps::default()), (Value::Undefined, Traps::NONE));
@@ -783,6 +1154,10 @@ fn what_is_read_can_be_printed() {
         (text(&Step::SetIntegrityLevel { object: ObjectId(1), level: IntegrityLevel::Sealed }), "seal o1"),
         (text(&Step::TestIntegrityLevel { object: ObjectId(1), level: IntegrityLevel::Frozen }), "isFrozen o1"),
         (text(&IntegrityLevel::Sealed), "sealed"),
+        (text(&Step::MakeFunction { prototype: None }), "function"),
+        (text(&Step::MakeFunction { prototype: Some(FunctionId(1).into()) }), "function f1"),
+        (text(&Step::MakeObject { prototype: Some(FunctionId(1).into()) }), "object f1"),
+        (text(&Step::Get { object: FunctionId(1).into(), key, receiver: FunctionId(1).into() }), "get o1 y7 receiver f1"),
         (text(&Call::Enter(vec![97])), "string \"a\""),
         (text(&Completion::Absent), "absent"),
         (text(&Completion::Keys(vec![key])), "[y7]"),
@@ -802,6 +1177,8 @@ fn reports_are_read_from_their_words() {
         ([2, 1, 3, 4, 0, 0, 0, 0, 0, 0], &[], Some("TypeError 1: Proxy object has empty handler and target (3 answers, 4 calls)")),
         ([3, 0, 1, 1, 1, 0, 3, 5, 0, 0], &[], Some("thrown 5 (1 answer, 1 call)")),
         ([1, 0, 0, 1, 1, 0, 7, 2, 0, 0], &[], Some("o2 (0 answers, 1 call)")),
+        ([1, 0, 0, 0, 1, 0, 8, 2, 0, 0], &[], Some("f2 (0 answers, 0 calls)")),
+        ([1, 0, 0, 0, 1, 0, 8, 256, 0, 0], &[], None),
         ([1, 0, 0, 1, 3, 0, 0, 0, 0, 0], &[], Some("absent (0 answers, 1 call)")),
         ([1, 0, 0, 1, 4, 1, 0, 0, 0, 0], &key, Some("[y3] (0 answers, 1 call)")),
         ([1, 0, 0, 1, 4, 0, 0, 0, 0, 0], &key, Some("[] (0 answers, 1 call)")),
@@ -896,6 +1273,7 @@ fn names_and_numbers_are_the_headers() {
         Step::Set { object, key, value, receiver: value },
         Step::Delete { object, key },
         Step::OwnPropertyKeys { object },
+        Step::MakeFunction { prototype: None },
         Step::SetIntegrityLevel { object, level: IntegrityLevel::Sealed },
         Step::TestIntegrityLevel { object, level: IntegrityLevel::Frozen },
     ];
@@ -906,7 +1284,7 @@ fn names_and_numbers_are_the_headers() {
 /// The entries over slices, where they say more than a store shows.
 #[test]
 fn lent_memory_of_another_length_is_left() {
-    let (mut words, mut strings, mut state) = (vec![7; 1633], vec![7; 8448], vec![7; 9]);
+    let (mut words, mut strings, mut state) = (vec![7; 1634], vec![7; 8448], vec![7; 9]);
     assert!(!lent::empty_store(&mut words) && !lent::empty_strings(&mut strings) && !lent::text_start(&mut words, &mut strings, &mut state));
     let refused = [0, 1, 0, 0, 0, 0, 0, 0, 0, 0];
     assert_eq!(lent::step(&mut words, &strings, &[1; 58], &[0], &mut []).as_slice(), refused);
@@ -992,7 +1370,7 @@ fn everything_can_move_between_threads() {
     sendable::<Report>();
     sendable::<Validation>();
     sendable::<(Step, Answer, Traps, IntegrityLevel, Message)>();
-    sendable::<(Value, ValueWords, PropertyKey, Property, PropertyDescriptor)>();
+    sendable::<(Value, ValueWords, PropertyKey, Prototype, Property, PropertyDescriptor)>();
     sendable::<(notation::Line, notation::Strings, rows::Row)>();
     sendable::<(lent::ReportWords, lent::Validated, lent::Fed)>();
 }
@@ -1015,6 +1393,7 @@ fn enums_that_grow_are_not_exhaustive() {
     assert!(named!(
         step,
         Step::MakeObject { .. }
+            | Step::MakeFunction { .. }
             | Step::MakeProxy { .. }
             | Step::Revoke { .. }
             | Step::GetPrototypeOf { .. }

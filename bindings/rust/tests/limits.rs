@@ -4,7 +4,7 @@ mod plain;
 
 use harness::pair::Pair;
 use plain::descriptor::Descriptor;
-use plain::record::{sheet_bytes, step_bytes, Answer, Step};
+use plain::record::{descriptor_bytes, sheet_bytes, step_bytes, Answer, Step};
 use plain::step::{Completion, Outcome, Report};
 use plain::value::Value;
 
@@ -160,8 +160,54 @@ fn objects() {
     }
     refused(run(&mut pair, &step(1, 0, NONE, Value::Null), &[]), 7);
     refused(run(&mut pair, &step(2, 31, NONE, Value::Integer32(0)), &[]), 7);
+    refused(run(&mut pair, &step(16, 0, NONE, Value::Null), &[]), 7);
     refused(run(&mut pair, &step(6, 32, NONE, NONE), &[]), 2);
     result(run(&mut pair, &step(6, 31, NONE, NONE), &[]));
+}
+
+fn make_function(pair: &mut Pair, prototype: Value) -> Report {
+    result(run(pair, &step(16, 0, NONE, prototype), &[]))
+}
+
+/// 32 functions, each the prototype of the next: the chain is walked to its end, and there is no 33rd.
+#[test]
+fn functions() {
+    let mut pair = Pair::new();
+    make_function(&mut pair, Value::Null);
+    for n in 0..31 {
+        let report = make_function(&mut pair, Value::Function(n));
+        assert!(matches!(report.outcome, Outcome::Result(Completion::Value(Value::Function(m))) if m == n + 1), "{report:?}");
+        assert_eq!((report.answers, report.calls), (0, 0));
+    }
+    assert_eq!(pair.words[..3], [32, 0, 0xffff_ffff]);
+    refused(run(&mut pair, &step(16, 0, NONE, Value::Null), &[]), 7);
+    refused(run(&mut pair, &step(1, 0, NONE, Value::Function(31)), &[]), 7);
+    refused(run(&mut pair, &step(2, 31, NONE, Value::Integer32(0)), &[]), 3);
+    refused(run(&mut pair, &step(16, 0, NONE, Value::Function(32)), &[]), 2);
+    refused(run(&mut pair, &step(6, 32, NONE, NONE), &[]), 2);
+    assert_eq!(result(run(&mut pair, &step(10, 31, Value::Symbol(0), NONE), &[])).calls, 3 * 32);
+    answered(run(&mut pair, &step(5, 0, NONE, Value::Function(31)), &[]), false);
+    answered(run(&mut pair, &step(5, 31, NONE, Value::Function(0)), &[]), true);
+}
+
+/// A mark of what was not made, in memory that no calls left, does not make it a function.
+#[test]
+fn marks() {
+    let mut pair = Pair::new();
+    pair.words[2] = u64::MAX;
+    for n in 0..32 {
+        // the mark of the new one is set or cleared, and those above it are cleared
+        let code = if n % 3 == 1 { 16 } else { 1 };
+        result(run(&mut pair, &step(code, 0, NONE, Value::Null), &[]));
+        if n == 0 {
+            assert_eq!(pair.words[..3], [1, 0, 0]);
+            pair.words[2] = u64::MAX << 1;
+        }
+    }
+    assert_eq!(pair.words[..3], [32, 0, (0..32).filter(|n| n % 3 == 1).map(|n| 1 << n).sum()]);
+    // what was there before is no mark either, once the store is emptied
+    assert!(demnyaluz::lent::empty_store(&mut pair.words));
+    assert_eq!(pair.words[..3], [0, 0, 0]);
 }
 
 #[test]
@@ -209,10 +255,18 @@ fn numbers() {
     let with = |v: Value| Descriptor { value: Some(v), ..Descriptor::default() };
     result(run(&mut pair, &step(10, 0, Value::Symbol(255), NONE), &[]));
     refused(run(&mut pair, &step(10, 0, Value::Symbol(256), NONE), &[]), 3);
-    result(run(&mut pair, &define(0, Value::Symbol(0), with(Value::Function(255))), &[]));
-    refused(run(&mut pair, &define(0, Value::Symbol(1), with(Value::Function(256))), &[]), 3);
-    refused(run(&mut pair, &define(0, Value::Symbol(1), with(Value::Object(1))), &[]), 2);
-    refused(run(&mut pair, &define(0, Value::Symbol(1), with(Value::Object(u64::MAX))), &[]), 2);
+    for n in [1, 31, 32, 255, 256, 1 << 32, u64::MAX] {
+        refused(run(&mut pair, &define(0, Value::Symbol(1), with(Value::Object(n))), &[]), 2);
+        refused(run(&mut pair, &define(0, Value::Symbol(1), with(Value::Function(n))), &[]), 2);
+        refused(pair.complete(&descriptor_bytes(&with(Value::Function(n)))), 2);
+    }
+    refused(run(&mut pair, &define(0, Value::Symbol(1), with(Value::Function(0))), &[]), 3);
+    refused(pair.complete(&descriptor_bytes(&with(Value::Function(0)))), 3);
+    result(run(&mut pair, &define(0, Value::Symbol(1), with(Value::Object(0))), &[]));
+    make_function(&mut pair, Value::Null);
+    result(run(&mut pair, &define(0, Value::Symbol(0), with(Value::Function(1))), &[]));
+    refused(run(&mut pair, &define(0, Value::Symbol(0), with(Value::Object(1))), &[]), 3);
+    refused(run(&mut pair, &define(0, Value::Symbol(0), with(Value::Function(2))), &[]), 2);
     result(run(&mut pair, &step(2, 0, NONE, Value::Integer32(2047)), &[]));
     refused(run(&mut pair, &step(2, 0, NONE, Value::Integer32(2048)), &[]), 1);
     refused(run(&mut pair, &step(2, 0, NONE, Value::Integer32(-1)), &[]), 1);
@@ -225,12 +279,15 @@ fn numbers() {
             (Value::Boolean(true), 3),
             (Value::Float64(1.0), 3),
             (Value::Symbol(0), 3),
-            (Value::Object(2), 2),
+            (Value::Object(3), 2),
+            (Value::Function(3), 2),
+            (Value::Function(1), 3),
+            (Value::Object(1), 3),
         ] {
             refused(run(&mut pair, &step(code, 0, NONE, level), &[]), refusal);
         }
     }
-    for code in [0, 15, 16, 17, 20] {
+    for code in [0, 15, 17, 20] {
         refused(run(&mut pair, &step(code, 0, NONE, Value::Integer32(0)), &[]), 1);
     }
 }

@@ -19,6 +19,7 @@ fn units(text: &str) -> Vec<u16> {
 }
 
 const O: ObjectId = ObjectId(3);
+const F: FunctionId = FunctionId(3);
 const Y: PropertyKey = PropertyKey::Symbol(SymbolId(7));
 
 #[test]
@@ -26,7 +27,12 @@ fn every_step_has_a_line() {
     for (text, step) in [
         ("object", Step::MakeObject { prototype: None }),
         ("object null", Step::MakeObject { prototype: None }),
-        ("object o3", Step::MakeObject { prototype: Some(O) }),
+        ("object o3", Step::MakeObject { prototype: Some(O.into()) }),
+        ("object f3", Step::MakeObject { prototype: Some(F.into()) }),
+        ("function", Step::MakeFunction { prototype: None }),
+        ("function null", Step::MakeFunction { prototype: None }),
+        ("function o3", Step::MakeFunction { prototype: Some(O.into()) }),
+        ("function f3 # a comment", Step::MakeFunction { prototype: Some(F.into()) }),
         ("proxy o3", Step::MakeProxy { target: O, traps: Traps::NONE }),
         ("proxy o3 traps get, ownKeys", Step::MakeProxy { target: O, traps: Traps::GET | Traps::OWN_KEYS }),
         ("proxy o3 traps all", Step::MakeProxy { target: O, traps: Traps::ALL }),
@@ -34,6 +40,8 @@ fn every_step_has_a_line() {
         ("revoke o3", Step::Revoke { proxy: O }),
         ("getPrototypeOf o3", Step::GetPrototypeOf { object: O }),
         ("setPrototypeOf o3 null", Step::SetPrototypeOf { object: O, prototype: None }),
+        ("setPrototypeOf o3 o3", Step::SetPrototypeOf { object: O, prototype: Some(O.into()) }),
+        ("setPrototypeOf o3 f3", Step::SetPrototypeOf { object: O, prototype: Some(F.into()) }),
         ("isExtensible o3", Step::IsExtensible { object: O }),
         ("preventExtensions o3", Step::PreventExtensions { object: O }),
         ("getOwnPropertyDescriptor o3 y7", Step::GetOwnProperty { object: O, key: Y }),
@@ -49,6 +57,39 @@ fn every_step_has_a_line() {
         ("freeze o3", Step::SetIntegrityLevel { object: O, level: IntegrityLevel::Frozen }),
         ("isSealed o3", Step::TestIntegrityLevel { object: O, level: IntegrityLevel::Sealed }),
         ("isFrozen o3", Step::TestIntegrityLevel { object: O, level: IntegrityLevel::Frozen }),
+    ] {
+        assert_eq!(one(text), (step, vec![]), "{text}");
+    }
+}
+
+/// The object that a step is on is a number in its record, of a function too; the receiver that is not given is what it is called.
+#[test]
+fn a_step_may_be_on_a_function() {
+    for line in [
+        "proxy o3 traps get",
+        "revoke o3",
+        "getPrototypeOf o3",
+        "setPrototypeOf o3 null",
+        "isExtensible o3",
+        "preventExtensions o3",
+        "getOwnPropertyDescriptor o3 y7",
+        "defineProperty o3 y7 {}",
+        "has o3 y7",
+        "deleteProperty o3 y7",
+        "ownKeys o3",
+        "seal o3",
+        "isFrozen o3",
+        "get o3 y7 receiver null",
+        "set o3 y7 1 receiver null",
+    ] {
+        assert_eq!(one(&line.replacen("o3", "f3", 1)), one(line), "{line}");
+    }
+    for (text, step) in [
+        ("get f3 y7", Step::Get { object: O, key: Y, receiver: F.into() }),
+        ("get f3 y7 receiver o3", Step::Get { object: O, key: Y, receiver: O.into() }),
+        ("get o3 y7 receiver f3", Step::Get { object: O, key: Y, receiver: F.into() }),
+        ("set f3 y7 f3", Step::Set { object: O, key: Y, value: F.into(), receiver: F.into() }),
+        ("set o3 y7 f3", Step::Set { object: O, key: Y, value: F.into(), receiver: O.into() }),
     ] {
         assert_eq!(one(text), (step, vec![]), "{text}");
     }
@@ -161,8 +202,10 @@ fn error(text: &str, line: usize, column: usize, expected: &str, found: &str) {
 
 const END: &str = "the end of the line";
 const VALUE: &str = "a value (as undefined, null, true, 70000, -0.5, \"text\", o0, s0, y0 or f0)";
+const OBJECT: &str = "an object (o0 to o255) or a function (f0 to f255)";
+const PROTOTYPE: &str = "null, an object (o0 to o255) or a function (f0 to f255)";
 const FIELD: &str = "a field (value, writable, get, set, enumerable or configurable)";
-const STEP: &str = "a step (string, object, proxy, revoke, getPrototypeOf, setPrototypeOf, isExtensible, preventExtensions, \
+const STEP: &str = "a step (string, object, function, proxy, revoke, getPrototypeOf, setPrototypeOf, isExtensible, preventExtensions, \
                     getOwnPropertyDescriptor, defineProperty, has, get, set, deleteProperty, ownKeys, seal, freeze, isSealed, isFrozen)";
 const TRAP: &str = "a trap (getPrototypeOf, setPrototypeOf, isExtensible, preventExtensions, getOwnPropertyDescriptor, defineProperty, has, \
                     get, set, deleteProperty, ownKeys), 'all' or a mask of at most 2047";
@@ -175,9 +218,11 @@ fn errors_say_what_was_expected_and_what_was_found() {
         ("{", 1, 1, STEP, "'{'"),
         ("string visits", 1, 8, "a text", "'visits'"),
         ("string \"a\" \"b\"", 1, 12, END, "\"b\""),
-        ("get", 1, 4, "an object (o0 to o255)", END),
-        ("get visits", 1, 5, "an object (o0 to o255)", "'visits'"),
+        ("get", 1, 4, OBJECT, END),
+        ("get visits", 1, 5, OBJECT, "'visits'"),
         ("get o256 y0", 1, 5, "o0 to o255", "'o256'"),
+        ("get f256 y0", 1, 5, "f0 to f255", "'f256'"),
+        ("get s0 y0", 1, 5, OBJECT, "'s0'"),
         ("get o0", 1, 7, "a key (a text, s0 to s255 or y0 to y255)", END),
         ("get o0 f0", 1, 8, "a key (a text, s0 to s255 or y0 to y255)", "'f0'"),
         ("get o0 s256", 1, 8, "s0 to s255", "'s256'"),
@@ -188,15 +233,21 @@ fn errors_say_what_was_expected_and_what_was_found() {
         ("get o0 y0 receiver", 1, 19, VALUE, END),
         ("get o0 y0 receiver it", 1, 20, VALUE, "'it'"),
         ("get o0 y0 receiver f256", 1, 20, "f0 to f255", "'f256'"),
-        ("object it", 1, 8, "null or an object (o0 to o255)", "'it'"),
-        ("setPrototypeOf o0", 1, 18, "null or an object (o0 to o255)", END),
+        ("object it", 1, 8, PROTOTYPE, "'it'"),
+        ("object f256", 1, 8, "f0 to f255", "'f256'"),
+        ("function it", 1, 10, PROTOTYPE, "'it'"),
+        ("function \"f0\"", 1, 10, PROTOTYPE, "\"f0\""),
+        ("function o256", 1, 10, "o0 to o255", "'o256'"),
+        ("function null null", 1, 15, "'answers:' or the end of the line", "'null'"),
+        ("setPrototypeOf o0", 1, 18, PROTOTYPE, END),
+        ("setPrototypeOf o0 undefined", 1, 19, PROTOTYPE, "'undefined'"),
         ("proxy o0 get", 1, 10, "'traps', 'answers:' or the end of the line", "'get'"),
         ("proxy o0 traps", 1, 15, TRAP, END),
         ("proxy o0 traps read", 1, 16, TRAP, "'read'"),
         ("proxy o0 traps 2048", 1, 16, TRAP, "'2048'"),
         ("proxy o0 traps freeze", 1, 16, TRAP, "'freeze'"),
-        ("freeze", 1, 7, "an object (o0 to o255)", END),
-        ("isSealed \"o0\"", 1, 10, "an object (o0 to o255)", "\"o0\""),
+        ("freeze", 1, 7, OBJECT, END),
+        ("isSealed \"o0\"", 1, 10, OBJECT, "\"o0\""),
         ("seal o0 frozen", 1, 9, "'answers:' or the end of the line", "'frozen'"),
         ("proxy o0 traps get set", 1, 20, "',', 'answers:' or the end of the line", "'set'"),
         ("defineProperty o0 y0", 1, 21, "'{'", END),
@@ -231,8 +282,8 @@ fn errors_say_what_was_expected_and_what_was_found() {
     let many: String = (0..257).map(|i| format!("has o0 \"{i}\"\n")).collect();
     error(&many, 257, 8, "at most 256 different texts", "one more");
     // what is found is not told at length
-    error(&format!("get {}", "x".repeat(61)), 1, 5, "an object (o0 to o255)", &format!("'{}...'", "x".repeat(60)));
-    error(&format!("get \"{}\"", "é".repeat(100)), 1, 5, "an object (o0 to o255)", &format!("\"{}...", "é".repeat(59)));
+    error(&format!("get {}", "x".repeat(61)), 1, 5, OBJECT, &format!("'{}...'", "x".repeat(60)));
+    error(&format!("get \"{}\"", "é".repeat(100)), 1, 5, OBJECT, &format!("\"{}...", "é".repeat(59)));
 }
 
 /// Each step and each trap that an error names is one.
@@ -298,7 +349,8 @@ fn numbers_that_do_not_fit_are_errors() {
 fn cells_are_hexadecimal() {
     assert_eq!(HEADING, "step object key value receiver descriptor sheet");
     let text =
-        "object\nstring \"\"\nstring \"aé\"\nget o0 \"aé\" answers: 4464\nownKeys o0\nseal o0\nfreeze o1 answers: false\nisSealed o0\nisFrozen o0";
+        "object\nstring \"\"\nstring \"aé\"\nget o0 \"aé\" answers: 4464\nownKeys o0\nseal o0\nfreeze o1 answers: false\nisSealed o0\nisFrozen o0\n\
+         function\nfunction f2 answers: f31\nget f2 y0";
     let lines: Vec<String> = calls(text).iter().map(cells).collect();
     assert_eq!(
         lines,
@@ -312,6 +364,9 @@ fn cells_are_hexadecimal() {
             "12 01 - 030100000000000000 - - 0101020000000000000000",
             "13 00 - 030000000000000000 - - -",
             "13 00 - 030100000000000000 - - -",
+            "10 00 - 010000000000000000 - - -",
+            "10 00 - 080200000000000000 - - 0101081f00000000000000",
+            "0b 02 060000000000000000 - 080200000000000000 - -",
         ]
     );
 }
@@ -332,6 +387,10 @@ fn readable_calls_are_read_again() {
     for step in [
         "object",
         "object o1",
+        "object f1",
+        "function",
+        "function o1",
+        "function f1",
         "proxy o0",
         "proxy o0 traps all",
         "proxy o0 traps 1365",
@@ -340,12 +399,15 @@ fn readable_calls_are_read_again() {
         "getPrototypeOf o1",
         "setPrototypeOf o1 null",
         "setPrototypeOf o1 o2",
+        "setPrototypeOf f1 f2",
         "isExtensible o1",
         "preventExtensions o1",
         "getOwnPropertyDescriptor o1 \"a\"",
         "defineProperty o1 y7 {value: 1, writable: true, get: undefined, set: f1, enumerable: false, configurable: true}",
         "has o1 \"a\"",
         "get o1 \"a\" receiver null",
+        "get f1 \"a\"",
+        "set f1 \"a\" f2",
         "set o1 \"a\" -0 receiver \"b\"",
         "deleteProperty o1 s200",
         "ownKeys o1",

@@ -40,4 +40,5 @@ fn every_call_is_as_the_plain_implementation_says() {
     assert_eq!(tally.missing(), (vec![], vec![]), "refusals and messages that never came");
     assert!(tally.steps().all(|(_, n)| n > 0));
     assert!(tally.midway > 0);
+    assert!(tally.functions.all());
 }

@@ -59,10 +59,10 @@ fn lines_bytes_and_reports_are_printed() {
 
 #[test]
 fn cells_are_printed_and_nothing_runs() {
-    let ran = steps(&["--cells", "-"], "object\nhas o0 \"a\"");
+    let ran = steps(&["--cells", "-"], "object\nhas o0 \"a\"\nfunction o0");
     assert!(ran.status.success());
-    let expected =
-        "step object key value receiver descriptor sheet\n01 00 - 010000000000000000 - - -\n0f 00 - - - - 0061\n0a 00 050000000000000000 - - - -\n";
+    let expected = "step object key value receiver descriptor sheet\n01 00 - 010000000000000000 - - -\n0f 00 - - - - 0061\n\
+                    0a 00 050000000000000000 - - - -\n10 00 - 070000000000000000 - - -\n";
     assert_eq!(text_of(ran.stdout), expected);
 }
 
@@ -363,6 +363,14 @@ fn lines_alike_are_shown_as_one() {
         "isSealed o0",
         "isFrozen o0",
         "freeze o0",
+        "function",
+        "function",
+        "function f6",
+        "get f6 y0",
+        "get f6 y0 receiver o6",
+        "freeze o6",
+        "has f8 y0",
+        "function",
     ]
     .join("\n");
     let rows = [
@@ -385,6 +393,14 @@ fn lines_alike_are_shown_as_one() {
         "17 1 0 0 2 020100000000000000",
         "18 1 0 0 2 020000000000000000",
         "19 3 0 0 2 030500000000000000",
+        "20 1 0 0 0 080600000000000000",
+        "21 1 0 0 0 080700000000000000",
+        "22 0 7 0 0 -",
+        "23 1 0 0 3 080700000000000000",
+        "24 0 3 0 0 -",
+        "25 1 0 0 2 020100000000000000",
+        "26 0 2 0 0 -",
+        "27 1 0 0 0 080800000000000000",
     ];
     let shown = [
         "1 to 3: object: o0 to o2 (0 answers, 0 calls)",
@@ -401,6 +417,14 @@ fn lines_alike_are_shown_as_one() {
         "16 to 17: isSealed o0: true (0 answers, 2 calls)",
         "18: isFrozen o0: false (0 answers, 2 calls)",
         "19: freeze o0: thrown 5 (0 answers, 2 calls)",
+        "20 to 21: function: f6 to f7 (0 answers, 0 calls)",
+        "22: function f6: refused 7, there is no room",
+        // what was made as a function is called so
+        "23: get f6 y0: f7 (0 answers, 3 calls)",
+        "24: get f6 y0 receiver o6: refused 3, a string was not entered or is too long, or a part has a kind that cannot be used",
+        "25: freeze f6: true (0 answers, 2 calls)",
+        "26: has o8 y0: refused 2, an object was never made",
+        "27: function: f8 (0 answers, 0 calls)",
     ];
     let ran = Steps::new("alike", &text).rows(&format!("{ROWS}{}\n", rows.join("\n")));
     assert_eq!(text_of(ran.stderr), "");

@@ -210,7 +210,9 @@ fn bytes_that_are_no_record_are_refused_as_1_and_not_as_12() {
     for line in [
         "- - - - - - -",
         "00 00 - 010000000000000000 - - -",
-        "10 00 - - - - -",
+        "11 00 - - - - -",
+        "10 01 - 010000000000000000 - - -",
+        "10 00 - 010000000000000000 010000000000000000 - -",
         "ff 00 - - - - -",
         "01 01 - 010000000000000000 - - -",
         "01 00 - 090000000000000000 - - -",
@@ -363,15 +365,15 @@ fn code_units_stand_high_byte_first() {
     assert_eq!(rows[5], "1 0 0 1 050100000000000000050000000000000000");
 }
 
-/// In a record of 58 bytes 15, 16, 17 and 20 are no codes, whatever else it holds.
+/// In a record of 58 bytes 15, 17 and 20 are no codes, whatever else it holds.
 #[test]
 fn records_of_codes_that_are_none_are_refused_as_1() {
-    let (mut words, mut strings) = (vec![0; 1634], vec![0; 8449]);
+    let (mut words, mut strings) = (vec![0; 1635], vec![0; 8449]);
     assert!(lent::empty_store(&mut words) && lent::empty_strings(&mut strings));
     let mut random = Random::new(15);
     for i in 0..200 {
         let mut step: Vec<u8> = (0..58).map(|_| if i % 2 == 0 { 0 } else { random.next() as u8 }).collect();
-        step[0] = random.pick(&[15, 16, 17, 20]);
+        step[0] = random.pick(&[15, 17, 20]);
         let report = lent::step(&mut words, &strings, &step, &[0], &mut [0; 2304]);
         assert_eq!(report.as_slice(), [0, 1, 0, 0, 0, 0, 0, 0, 0, 0]);
     }
@@ -381,13 +383,14 @@ fn records_of_codes_that_are_none_are_refused_as_1() {
 #[test]
 fn values_of_rows() {
     let (visits, symbol, data) = ("050000000000000000", "060300000000000000", "037011010000000000");
-    let (zero, o1, f1) = ("000000000000000000", "070100000000000000", "080100000000000000");
+    let (zero, o2, f1) = ("000000000000000000", "070200000000000000", "080100000000000000");
     let fixed = format!("0f01{data}{zero}{zero}");
     let accessor = format!("3202{zero}{f1}{zero}");
     let proxy = "02 00 - 03ff07000000000000 - - -";
     for (line, row) in rows_of(&[
         "0f - - - - - 007600690073006900740073",
         MAKE,
+        "10 00 - 070000000000000000 - - -",
         &format!("09 00 {visits} - - {fixed} -"),
         &format!("09 00 {symbol} - - {accessor} -"),
         &format!("08 00 {visits} - - - -"),
@@ -396,20 +399,23 @@ fn values_of_rows() {
         "0e 00 - - - - -",
         &format!("0b 00 {visits} - 070000000000000000 - -"),
         MAKE,
-        "0e 01 - - - - -",
+        "0e 02 - - - - -",
         proxy,
-        &format!("0b 02 {visits} - 070200000000000000 - 0101037011000000000000"),
-        &format!("0b 02 {visits} - {o1} - 0104{data}"),
-        &format!("0b 02 {visits} - {o1} - 010404000000000000f0ff"),
-        &format!("0b 02 {visits} - {o1} - 010404010000000000f8ff"),
-        &format!("0b 02 {visits} - {o1} - -"),
-        &format!("0e 02 - - - - 01030200{visits}{symbol}"),
+        &format!("0b 03 {visits} - 070300000000000000 - 0101037011000000000000"),
+        &format!("0b 03 {visits} - {o2} - 0104{data}"),
+        &format!("0b 03 {visits} - {o2} - 010404000000000000f0ff"),
+        &format!("0b 03 {visits} - {o2} - 010404010000000000f8ff"),
+        &format!("0b 03 {visits} - {o2} - -"),
+        &format!("0e 03 - - - - 01030200{visits}{symbol}"),
         "04 00 - - - - -",
+        "04 01 - - - - -",
+        &format!("04 03 - - - - 0101{f1}"),
     ])
     .into_iter()
     .zip([
         "1 0 0 0 050000000000000000",
         "1 0 0 0 070000000000000000",
+        "1 0 0 0 080100000000000000",
         "1 0 0 3 020100000000000000",
         "1 0 0 3 020100000000000000",
         &format!("1 0 0 1 {fixed}"),
@@ -417,9 +423,9 @@ fn values_of_rows() {
         "1 0 0 1 -",
         &format!("1 0 0 1 {visits}{symbol}"),
         &format!("1 0 0 2 {data}"),
-        "1 0 0 0 070100000000000000",
-        "1 0 0 1 -",
         "1 0 0 0 070200000000000000",
+        "1 0 0 1 -",
+        "1 0 0 0 070300000000000000",
         "2 17 1 2 -",
         &format!("3 0 1 1 {data}"),
         "3 0 1 1 04000000000000f0ff",
@@ -427,6 +433,8 @@ fn values_of_rows() {
         "0 8 0 0 -",
         &format!("1 0 1 5 {visits}{symbol}"),
         "1 0 0 1 010000000000000000",
+        "1 0 0 1 070000000000000000",
+        &format!("1 0 1 2 {f1}"),
     ]) {
         assert_eq!(line, row);
     }
@@ -470,9 +478,69 @@ fn lines_seal_and_freeze() {
         ("12 00 - - - - -".to_string(), "0 3 0 0 -".to_string()),
         (format!("12 09 - {sealed} - - -"), "0 2 0 0 -".to_string()),
         (format!("12 00 {name} {sealed} - - -"), "0 1 0 0 -".to_string()),
-        (format!("10 00 - {sealed} - - -"), "0 1 0 0 -".to_string()),
+        (format!("10 00 - {sealed} - - -"), "0 3 0 0 -".to_string()),
         (format!("11 00 - {sealed} - - -"), "0 1 0 0 -".to_string()),
         (format!("14 00 - {sealed} - - -"), "0 1 0 0 -".to_string()),
+    ]
+    .into_iter()
+    .unzip();
+    let rows = rows_of(&lines.iter().map(String::as_str).collect::<Vec<_>>());
+    for ((line, row), expected) in lines.iter().zip(rows).zip(expected) {
+        assert_eq!(row, expected, "{line}");
+    }
+}
+
+/// Step 10 by hand: functions as prototype, receiver, operand, getter and answer, and by a wrong kind or number.
+#[test]
+fn lines_make_functions() {
+    let (symbol, data, null, zero) = ("060300000000000000", "037011010000000000", "010000000000000000", "000000000000000000");
+    let (yes, no) = ("020100000000000000", "020000000000000000");
+    let object = |n: u8| format!("07{n:02x}00000000000000");
+    let function = |n: u8| format!("08{n:02x}00000000000000");
+    let whole = format!("0f07{data}{zero}{zero}");
+    let (f0, o1, f2) = (function(0), object(1), function(2));
+    let (lines, expected): (Vec<String>, Vec<String>) = [
+        (format!("10 00 - {null} - - -"), format!("1 0 0 0 {f0}")),
+        (format!("01 00 - {f0} - - -"), format!("1 0 0 0 {o1}")),
+        (format!("10 - - {o1} - - 00"), format!("1 0 0 0 {f2}")),
+        // as operand, prototype and receiver
+        (format!("09 00 {symbol} - - {whole} -"), format!("1 0 0 3 {yes}")),
+        (format!("0b 02 {symbol} - {f2} - -"), format!("1 0 0 8 {data}")),
+        (format!("0c 01 {symbol} {f0} {f2} - -"), format!("1 0 0 9 {yes}")),
+        (format!("08 02 {symbol} - - - -"), format!("1 0 0 1 0f07{f0}{zero}{zero}")),
+        ("04 02 - - - - -".to_string(), format!("1 0 0 1 {o1}")),
+        ("04 01 - - - - -".to_string(), format!("1 0 0 1 {f0}")),
+        (format!("05 00 - {f2} - - -"), format!("1 0 0 1 {no}")),
+        ("12 02 - 030100000000000000 - - -".to_string(), format!("1 0 0 6 {yes}")),
+        ("0e 02 - - - - -".to_string(), format!("1 0 0 1 {symbol}")),
+        // as getter and setter
+        (format!("09 00 060400000000000000 - - 3000{zero}{f2}{f0} -"), format!("1 0 0 3 {yes}")),
+        (format!("0b 00 060400000000000000 - {f2} - 0101{f2}"), format!("1 0 1 2 {f2}")),
+        (format!("0c 00 060400000000000000 {f2} {f2} - 0104{f2}"), format!("3 0 1 2 {f2}")),
+        // as answer
+        ("02 01 - 03ff07000000000000 - - -".to_string(), format!("1 0 0 0 {}", object(3))),
+        (format!("04 03 - - - - 0101{f2}"), format!("1 0 1 2 {f2}")),
+        (format!("06 03 - - - - 0101{f2}"), format!("1 0 1 2 {yes}")),
+        (format!("08 03 {symbol} - - - 0101{f2}"), "0 9 0 0 -".to_string()),
+        (format!("0e 03 - - - - 0101{f2}"), "0 9 0 0 -".to_string()),
+        // no proxy over one, and none of it is revoked
+        ("02 00 - 030000000000000000 - - -".to_string(), "0 3 0 0 -".to_string()),
+        ("03 00 - - - - -".to_string(), "0 3 0 0 -".to_string()),
+        // a number that was never made, and a made one of the other kind
+        (format!("10 00 - {} - - -", function(4)), "0 2 0 0 -".to_string()),
+        (format!("10 00 - {} - - -", function(255)), "0 2 0 0 -".to_string()),
+        ("10 00 - 080001000000000000 - - -".to_string(), "0 2 0 0 -".to_string()),
+        (format!("10 00 - {} - - -", function(1)), "0 3 0 0 -".to_string()),
+        (format!("10 00 - {} - - -", object(2)), "0 3 0 0 -".to_string()),
+        (format!("0b 01 {symbol} - {} - -", object(0)), "0 3 0 0 -".to_string()),
+        (format!("06 01 - - - - 0101{}", function(4)), "0 2 0 0 -".to_string()),
+        (format!("06 01 - - - - 0101{}", function(3)), "0 3 0 0 -".to_string()),
+        (format!("10 00 - {null} - - 0104{}", object(0)), "0 3 0 0 -".to_string()),
+        (format!("10 00 - {data} - - -"), "0 3 0 0 -".to_string()),
+        ("10 00 - - - - -".to_string(), "0 3 0 0 -".to_string()),
+        (format!("10 01 - {null} - - -"), "0 1 0 0 -".to_string()),
+        (format!("10 00 {symbol} {null} - - -"), "0 1 0 0 -".to_string()),
+        (format!("10 00 - {null} - - -"), format!("1 0 0 0 {}", function(4))),
     ]
     .into_iter()
     .unzip();
@@ -587,7 +655,7 @@ fn random_bytes_are_as_the_plain_implementation_says() {
 fn reading_starts_only_in_memory_of_the_right_lengths() {
     assert_eq!((TEXT_STATE_WORDS, TEXT_LINE_BYTES, TEXT_ROW_BYTES), (10, 16_384, 4_800));
     for (words, strings, state) in
-        [(1633, 8449, 10), (1635, 8449, 10), (0, 8449, 10), (1634, 8448, 10), (1634, 8450, 10), (1634, 8449, 9), (1634, 8449, 11), (1634, 0, 0)]
+        [(1634, 8449, 10), (1636, 8449, 10), (0, 8449, 10), (1635, 8448, 10), (1635, 8450, 10), (1635, 8449, 9), (1635, 8449, 11), (1635, 0, 0)]
     {
         let (mut a, mut b, mut c) = (vec![7; words], vec![7; strings], vec![7; state]);
         assert!(!lent::text_start(&mut a, &mut b, &mut c));
@@ -640,7 +708,7 @@ fn memory_that_is_no_readers_is_refused() {
         edit(&mut reader);
         reader
     };
-    for size in [0, 1, 1633, 1635] {
+    for size in [0, 1, 1634, 1636] {
         refuses(&change(&|r| r.words = vec![0; size].into()), "the words' length");
     }
     for size in [0, 1, 8448, 8450] {
@@ -817,36 +885,57 @@ fn the_day_is_a_page_that_can_be_read() {
     let page = String::from_utf8(piped(Command::new(steps).args(["--rows", DAY]), &rows)).unwrap();
     let fixed = "{value: 70000, writable: false, enumerable: true, configurable: false}";
     let (told, open) = ("{value: 70000, enumerable: true}", "{value: 5, writable: true, enumerable: true, configurable: true}");
+    let unusable = "a string was not entered or is too long, or a part has a kind that cannot be used";
     for line in [
         "1: string \"visits\": s0".to_string(),
-        format!("9: defineProperty o0 \"visits\" {fixed}: true (0 answers, 3 calls)"),
-        "13: ownKeys o0: [\"7\", \"10\", \"visits\", y3] (0 answers, 1 call)".to_string(),
-        format!("14: getOwnPropertyDescriptor o0 \"visits\": {fixed} (0 answers, 1 call)"),
-        "20: get o1 \"visits\", handler answers 4464: TypeError 17, Proxy trap returned unexpected data descriptor (1 answer, 2 calls)".to_string(),
-        "28: setPrototypeOf o1 o0, handler answers throw \"name\": thrown \"name\" (1 answer, 1 call)".to_string(),
-        "54: getOwnPropertyDescriptor o1 \"name\", handler answers undefined: absent (1 answer, 2 calls)".to_string(),
-        "90: get o1 \"visits\": refused 8, the sheet has no next answer".to_string(),
-        "101: isFrozen o8: false (0 answers, 3 calls)".to_string(),
-        "103: freeze o8: true (0 answers, 6 calls)".to_string(),
-        "106: freeze o5, handler answers false: false (1 answer, 1 call)".to_string(),
-        "113: freeze o10, handler answers {value: 70000, enumerable: true}: refused 8, the sheet has no next answer".to_string(),
-        "114: isExtensible o9: true (0 answers, 1 call)".to_string(),
+        "9: function: f1 (0 answers, 0 calls)".to_string(),
+        format!("10: defineProperty o0 \"visits\" {fixed}: true (0 answers, 3 calls)"),
+        "14: ownKeys o0: [\"7\", \"10\", \"visits\", y3] (0 answers, 1 call)".to_string(),
+        format!("15: getOwnPropertyDescriptor o0 \"visits\": {fixed} (0 answers, 1 call)"),
+        "21: get o2 \"visits\", handler answers 4464: TypeError 17, Proxy trap returned unexpected data descriptor (1 answer, 2 calls)".to_string(),
+        "29: setPrototypeOf o2 o0, handler answers throw \"name\": thrown \"name\" (1 answer, 1 call)".to_string(),
+        "55: getOwnPropertyDescriptor o2 \"name\", handler answers undefined: absent (1 answer, 2 calls)".to_string(),
+        "91: get o2 \"visits\": refused 8, the sheet has no next answer".to_string(),
+        "93: getOwnPropertyDescriptor o2 \"visits\", handler answers f1: refused 9, the next answer cannot be read".to_string(),
+        "102: isFrozen o9: false (0 answers, 3 calls)".to_string(),
+        "104: freeze o9: true (0 answers, 6 calls)".to_string(),
+        "107: freeze o6, handler answers false: false (1 answer, 1 call)".to_string(),
+        "114: freeze o11, handler answers {value: 70000, enumerable: true}: refused 8, the sheet has no next answer".to_string(),
+        "115: isExtensible o10: true (0 answers, 1 call)".to_string(),
         format!(
-            "115: freeze o11, handler answers {told}, then true, then {told}, then {open}, then false: \
+            "116: freeze o12, handler answers {told}, then true, then {told}, then {open}, then false: \
              TypeError 32, Property definition was rejected (5 answers, 21 calls)"
         ),
-        "116: isExtensible o9: false (0 answers, 1 call)".to_string(),
-        format!("117: getOwnPropertyDescriptor o9 \"name\": {open} (0 answers, 1 call)"),
-        format!("118: freeze o10, handler answers {told}, then {open}, then throw \"name\": thrown \"name\" (3 answers, 19 calls)"),
-        format!("119: getOwnPropertyDescriptor o9 \"name\": {} (0 answers, 1 call)", fixed.replace("70000", "5")),
-        format!("120: getOwnPropertyDescriptor o9 y3: {open} (0 answers, 1 call)"),
-        "121: isSealed o9: false (0 answers, 5 calls)".to_string(),
-        "124 to 143: object: o12 to o31 (0 answers, 0 calls)".to_string(),
-        "144: object: refused 7, there is no room".to_string(),
+        "117: isExtensible o10: false (0 answers, 1 call)".to_string(),
+        format!("118: getOwnPropertyDescriptor o10 \"name\": {open} (0 answers, 1 call)"),
+        format!("119: freeze o11, handler answers {told}, then {open}, then throw \"name\": thrown \"name\" (3 answers, 19 calls)"),
+        format!("120: getOwnPropertyDescriptor o10 \"name\": {} (0 answers, 1 call)", fixed.replace("70000", "5")),
+        format!("121: getOwnPropertyDescriptor o10 y3: {open} (0 answers, 1 call)"),
+        "122: isSealed o10: false (0 answers, 5 calls)".to_string(),
+        // functions by their own name, as operands too
+        format!("126: defineProperty f13 \"visits\" {fixed}: true (0 answers, 3 calls)"),
+        "127: object f13: o14 (0 answers, 0 calls)".to_string(),
+        "128: get o14 \"visits\": 70000 (0 answers, 5 calls)".to_string(),
+        "130: function o14: f15 (0 answers, 0 calls)".to_string(),
+        "131: set o14 \"name\" 5 receiver f15: true (0 answers, 10 calls)".to_string(),
+        "133: getPrototypeOf o14: f13 (0 answers, 1 call)".to_string(),
+        "134: setPrototypeOf f13 f15: false (0 answers, 1 call)".to_string(),
+        "136: get o14 y3 receiver f13, answers f1: f1 (1 answer, 2 calls)".to_string(),
+        "137: freeze f15: true (0 answers, 6 calls)".to_string(),
+        "139: set f15 \"name\" 6: false (0 answers, 2 calls)".to_string(),
+        "141: getPrototypeOf o16, handler answers f15: f15 (1 answer, 2 calls)".to_string(),
+        "142: has o16 \"name\", handler answers f1: true (1 answer, 1 call)".to_string(),
+        "145: getPrototypeOf o16, handler answers f15: TypeError 3, Proxy trap returned unexpected prototype (1 answer, 3 calls)".to_string(),
+        format!("146: proxy f13 traps get: refused 3, {unusable}"),
+        format!("148: setPrototypeOf o0 o13: refused 3, {unusable}"),
+        "150: function f17: refused 2, an object was never made".to_string(),
+        "152 to 166: object: o17 to o31 (0 answers, 0 calls)".to_string(),
+        "167: object: refused 7, there is no room".to_string(),
+        "168: function: refused 7, there is no room".to_string(),
     ] {
         assert!(page.lines().any(|l| l == line), "{line}");
     }
-    assert!(page.ends_with(&format!("145: getOwnPropertyDescriptor o0 \"visits\": {fixed} (0 answers, 1 call)\n")));
+    assert!(page.ends_with(&format!("169: getOwnPropertyDescriptor o0 \"visits\": {fixed} (0 answers, 1 call)\n")));
     // every line of the day is shown, those alike together
     let shown: Vec<(usize, usize)> = page.lines().map(|l| l.split_once(':').unwrap().0).map(numbers).collect();
     assert!(shown.windows(2).all(|w| w[0].1 + 1 == w[1].0));
@@ -855,7 +944,7 @@ fn the_day_is_a_page_that_can_be_read() {
     assert_eq!(rows::HEADING, HEADING);
 }
 
-/// `8`, or `124 to 143`.
+/// `8`, or `152 to 166`.
 fn numbers(text: &str) -> (usize, usize) {
     let (from, to) = text.split_once(" to ").unwrap_or((text, text));
     (from.parse().unwrap(), to.parse().unwrap())

@@ -69,7 +69,7 @@ fn as_prototype(v: Value, s: Progress) -> ValueOut
     match v {
         Value::Null => ValueOut::Done(v, s),
         Value::Object(_) => ValueOut::Done(v, s),
-        Value::Function(_) => ValueOut::Failed(Failure::Refused(9), s),
+        Value::Function(_) => ValueOut::Done(v, s),
         _ => ValueOut::Failed(Failure::TypeError(2), s),
     }
 }

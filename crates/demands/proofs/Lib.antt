@@ -4,3 +4,4 @@ pub mod Decided
 pub mod FurtherHold
 pub mod AcceptsHold
 pub mod IntegrityProved
+pub mod NamesHold

@@ -6,8 +6,9 @@ use mathlib.Core.Option.{none, some}
 use mathlib.Core.List.{List, [], _∷_}
 use lib.ListN.{length}
 use Rattle.value.specs.declared.Value.{Value}
-use Rattle.value.specs.declared.Value.the-variants.{Null, Object}
+use Rattle.value.specs.declared.Value.the-variants.{Null}
 use Rattle.value.specs.declared.PropertyKey.{PropertyKey}
+use Rattle.value.specs.Value.{objectOf}
 use Rattle.property.specs.declared.PropertyDescriptor.{PropertyDescriptor}
 use Rattle.property.specs.declared.Property.{Property}
 use Rattle.property.specs.declared.OwnProperty.the-variants.{Present}
@@ -66,7 +67,7 @@ pub data OnPlain (o : ℕ) (k : PropertyKey) : Operation → Type 0 where
   by-defineOwnProperty : (d : PropertyDescriptor) → OnPlain o k (defineOwnProperty o k d)
   by-hasProperty : OnPlain o k (hasProperty o k)
   by-get : (receiver : Value) → OnPlain o k (get o k receiver)
-  by-set : (v : Value) → OnPlain o k (set o k v (Object o))
+  by-set : (v receiver : Value) → objectOf receiver ≡ some o → OnPlain o k (set o k v receiver)
   by-delete : OnPlain o k (delete o k)
   by-ownPropertyKeys : OnPlain o k (ownPropertyKeys o)
 

@@ -4,3 +4,4 @@ pub mod Refusals
 pub mod Further
 pub mod Accepts
 pub mod Integrity
+pub mod Names

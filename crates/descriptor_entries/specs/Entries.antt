@@ -19,7 +19,7 @@ use Rattle.descriptor_entries.specs.Operations.{completeRecord, validate
 use Rattle.descriptor_entries.specs.declared.Held.{Held}
 use Rattle.descriptor_entries.specs.declared.Held.the-variants.{Counts, Malformed}
 
--- how many objects and strings the memory holds; words that are no store and cells that are no table are malformed
+-- how many objects and strings the memory holds, and which objects are callable; words that are no store and cells that are no table are malformed
 unfoldable pub countsIn : List ℕ → List ℕ → Held
 countsIn words cells = cond (isMemory words cells) (Counts (countsOf (worldOf words cells))) Malformed
 

@@ -1,4 +1,4 @@
-// Completing, validating and merging descriptors over lent memory, which says how many objects and strings there are.
+// Completing, validating and merging descriptors over lent memory, which says how many objects and strings there are, and which objects are callable.
 // operations: the three over byte records. records: reading those, and refusals 1 to 4.
 use crate::operations::DescriptorAnswer;
 use crate::operations::Verdict;
@@ -13,7 +13,7 @@ ghost use Rattle.descriptor_entries.specs.Entries.{countsIn, answerRepor
 pub mod operations;
 mod records;
 
-// How many objects and strings the memory holds, if it is a store and a table.
+// How many objects and strings the memory holds, and which objects are callable, if it is a store and a table.
 pub enum Held {
     Counts(Counts),
     Malformed,

@@ -18,6 +18,7 @@ use Rattle.demands.proofs.LastingHolds.{lasting}
 use Rattle.demands.proofs.FurtherHold.{further}
 use Rattle.demands.proofs.Decided.{step-decided, entry-decided}
 use Rattle.demands.proofs.IntegrityProved.{integrity-holds}
+use Rattle.demands.proofs.NamesHold.{names-decided, object-made, names-last}
 use Rattle.steps.proofs.Outputs.{output-is}
 use Rattle.reporting.specs.Seen.{responseSeen}
 use Rattle.reporting.specs.Memory.{Shown, isMemory}
@@ -94,4 +95,7 @@ kept m n cs rs outs h s t ds =
       decided = λ bytes sheet output. subst (λ (ω : World). StepDecided ω bytes sheet output) (sym (f .after ∙ ap (λ (ω : World). worldFrom ω cs (length cs)) z)) (step-decided cs (length cs) bytes sheet output);
       entry-decided = λ units. entry-decided (world n) units;
       integrity = λ bytes sheet output. integrity-holds (world n) bytes sheet output;
+      names = λ o. names-decided (world n) o;
+      objects = λ bytes sheet output. object-made (world n) bytes sheet output;
+      names-last = names-last cs;
     }

@@ -11,6 +11,7 @@ use Rattle.demands.specs.Lasting.{Lasting}
 use Rattle.demands.specs.Further.{Further}
 use Rattle.demands.specs.Refusals.{StepDecided, EntryDecided}
 use Rattle.demands.specs.Integrity.{IntegrityHolds}
+use Rattle.demands.specs.Names.{NamesDecided, ObjectMade, NamesLast}
 use Rattle.store.specs.Words.{worldOf}
 use Rattle.reporting.specs.Seen.{responseSeen}
 use Rattle.reporting.specs.Memory.{Stepped, StringEntered}
@@ -61,3 +62,6 @@ pub record Kept (calls : List Call) (reports : List Report) (outputs : List (Lis
   pub decided : (bytes sheet output : List ℕ) → StepDecided (worldOf (m .words) (m .cells)) bytes sheet output  -- demand 1, of the step that comes next
   pub entry-decided : (units : List ℕ) → EntryDecided (worldOf (m .words) (m .cells)) units  -- and of the string
   pub integrity : (bytes sheet output : List ℕ) → IntegrityHolds (worldOf (m .words) (m .cells)) bytes sheet output  -- of steps 18 and 19 that come next
+  pub names : (o : ℕ) → NamesDecided (worldOf (m .words) (m .cells)) o  -- which values of kinds 7 and 8 pass refusals 2 and 3
+  pub objects : (bytes sheet output : List ℕ) → ObjectMade (worldOf (m .words) (m .cells)) bytes sheet output  -- of steps 1, 2 and 16 that come next
+  pub names-last : NamesLast calls

@@ -28,9 +28,8 @@ use Rattle.internal_methods.specs.Methods.{Context}
 use Rattle.internal_methods.specs.Answers.{consKey, keysOf}
 use Rattle.internal_methods.specs.Internal.{methods}
 use Rattle.internal_methods.proofs.Longer.{methods-longer}
-use Rattle.record.specs.Tests.{isKnown}
 use Rattle.record.specs.Sheet.{valuesPass}
-use Rattle.key_lists.specs.Keys.{keysHeld, greatest}
+use Rattle.key_lists.specs.Keys.{keysHeld, isBoundedKey}
 use Rattle.calls.specs.declared.Progress.{Progress}
 use Rattle.own_keys.specs.Lists.{areListsFit}
 use Rattle.own_keys.specs.Loading.{listedKeys, Loadable, LoadableKeys}
@@ -108,8 +107,8 @@ module _ (ws : List ℕ) (fits : (i : ℕ) → getD ws i 0 < 2 ^ 64) (o : ℕ) w
 
 -- Of a sheet -----------------------------------------------------------------------------
 
-known-fits : (v : Value) (k : PropertyKey) → isKnown greatest v ≡ true → keyOf v ≡ some k → numberIn k < 2 ^ 58
-unfolding isKnown
+known-fits : (v : Value) (k : PropertyKey) → isBoundedKey v ≡ true → keyOf v ≡ some k → numberIn k < 2 ^ 58
+unfolding isBoundedKey
 known-fits value.Undefined k h e = let z : _≡_ {A = ℕ} 0 1 = cc in absurd (omega arith)
 known-fits value.Null k h e = let z : _≡_ {A = ℕ} 0 1 = cc in absurd (omega arith)
 known-fits (value.Boolean b) k h e = let z : _≡_ {A = ℕ} 0 1 = cc in absurd (omega arith)
@@ -120,11 +119,11 @@ known-fits (value.Symbol s) k h e = let p : Symbol s ≡ k = cc in rw (sym p) (o
 known-fits (value.Object o) k h e = let z : _≡_ {A = ℕ} 0 1 = cc in absurd (omega arith)
 known-fits (value.Function f) k h e = let z : _≡_ {A = ℕ} 0 1 = cc in absurd (omega arith)
 
-values-fit : (vs : List Value) → valuesPass (isKnown greatest) vs ≡ true → AllFit (keysHeld (keysOf vs))
+values-fit : (vs : List Value) → valuesPass isBoundedKey vs ≡ true → AllFit (keysHeld (keysOf vs))
 unfolding AllFit valuesPass keysOf
 values-fit [] h = tt
 values-fit (v ∷ vs) h =
-    let p = and-true (isKnown greatest v) (valuesPass (isKnown greatest) vs) h in
+    let p = and-true (isBoundedKey v) (valuesPass isBoundedKey vs) h in
     go (keyOf v) (keysOf vs) (λ k e. known-fits v k (p .0) e) (values-fit vs (p .1))
   where
     go : (x : Option PropertyKey) (y : Option (List PropertyKey)) → ((k : PropertyKey) → x ≡ some k → numberIn k < 2 ^ 58) → AllFit (keysHeld y) → AllFit (keysHeld (consKey x y))

@@ -268,18 +268,18 @@ last-or (z ∷ l) x zero y e f g = g e
 last-or (z ∷ l) x (suc i) y e f g = last-or l x i y e f g
 
 -- a new object's chain goes on through one that ended before
-pub ends-add : (σ : Store) (x : Object) → MadeObject σ x → Ends σ → Ends (add σ x)
+pub ends-add : (σ : Store) (x : Object) (b : Bool) → MadeObject σ x → Ends σ → Ends (add σ x b)
 unfolding lookup add
-ends-add σ x mx h = record { chain = λ v m. from v m (objectOf v) refl }
+ends-add σ x b mx h = record { chain = λ v m. from v m (objectOf v) refl }
   where
-    kept : {n : ℕ} {v : Value} → Chain σ n v → Chain (add σ x) n v
-    kept c = chain-kept (record { keeps = λ q z f. (z, lookup-add σ x q z f, alike-refl z) }) c
+    kept : {n : ℕ} {v : Value} → Chain σ n v → Chain (add σ x b) n v
+    kept c = chain-kept (record { keeps = λ q z f. (z, lookup-add σ x b q z f, alike-refl z) }) c
 
-    new : (v : Value) (q : ℕ) → objectOf v ≡ some q → (y : Object) → lookup (add σ x) q ≡ some y → MadeObject σ y → (n : ℕ) × Chain (add σ x) n v
+    new : (v : Value) (q : ℕ) → objectOf v ≡ some q → (y : Object) → lookup (add σ x b) q ≡ some y → MadeObject σ y → (n : ℕ) × Chain (add σ x b) n v
     new v q e (Ordinary r) f m = let (n, c) = h .chain (r .prototype) m in (suc n, ordinary {r = r} e f (kept c))
     new v q e (Proxy p) f m = (0, proxy {p = p} e f)
 
-    from : (v : Value) → MadeValue (add σ x) v → (t : Option ℕ) → objectOf v ≡ t → (n : ℕ) × Chain (add σ x) n v
+    from : (v : Value) → MadeValue (add σ x b) v → (t : Option ℕ) → objectOf v ≡ t → (n : ℕ) × Chain (add σ x b) n v
     from v m none e = (0, value e)
     from v m (some q) e =
         let (y, f) = m .made q e in

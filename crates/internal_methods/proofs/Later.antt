@@ -1,10 +1,11 @@
 -- What lasts of an ordinary object, and of a store. Assumes nothing.
 use Prim.Native.Nat.{ℕ}
-use mathlib.Core.Path.{_≡_, refl, sym, _∙_, subst}
+use mathlib.Core.Path.{_≡_, refl, sym, ap, _∙_, subst}
 use mathlib.Core.Bool.{Bool, true, false, cond, false≢true}
-use mathlib.Core.Option.{some}
+use mathlib.Core.Option.{Option, none, some}
 use lib.Dec.{eqb}
 use borrow.Author.Tests.{eqb-true}
+use Rattle.value.specs.Bits.{bit}
 use Rattle.value.specs.declared.Value.{Value}
 use Rattle.value.specs.declared.PropertyKey.{PropertyKey}
 use Rattle.property.specs.declared.Property.{Property}
@@ -14,8 +15,8 @@ use Rattle.store.specs.declared.OrdinaryObject.{OrdinaryObject}
 use Rattle.store.specs.declared.ProxyObject.{ProxyObject}
 use Rattle.store.specs.declared.Object.{Object}
 use Rattle.store.specs.declared.Object.the-variants.{Ordinary, Proxy}
-use Rattle.store.specs.Store.{Store, lookup, put, add, own, withProperty, withoutProperty}
-use Rattle.store.proofs.StoreLaws.{samePlace, place-eq, lookup-put, lookup-put-other, lookup-add, lookup-with, lookup-without, own-put, own-add, own-with, own-without}
+use Rattle.store.specs.Store.{Store, lookup, put, add, isFunction, own, withProperty, withoutProperty}
+use Rattle.store.proofs.StoreLaws.{samePlace, place-eq, lookup-put, lookup-put-other, lookup-add, lookup-new, function-add, function-new, lookup-with, lookup-without, own-put, own-add, own-with, own-without}
 use Rattle.internal_methods.proofs.Base.{frozenAs, isAbsent, Base, here, over, Under, Frozen, Shut, Rooted, Lacking}
 
 -- the ordinary object b of σ was r, and in τ is s
@@ -30,9 +31,19 @@ pub data Lasts (σ τ : Store) (b : ℕ) : Object → Object → Type 0 where
   ordinaries : {r s : OrdinaryObject} → Later σ τ b r s → Lasts σ τ b (Ordinary r) (Ordinary s)
   proxies : {p q : ProxyObject} → q .target ≡ p .target → Lasts σ τ b (Proxy p) (Proxy q)
 
--- each object of the store lasts, and there may be new ones
+pub record IsOrdinary (x : Object) : Type 0 where
+  pub object : OrdinaryObject
+  pub is : x ≡ Ordinary object
+
+lasts-ordinary : {σ τ : Store} {b : ℕ} {x y : Object} → Lasts σ τ b x y → IsOrdinary x → IsOrdinary y
+lasts-ordinary (ordinaries {s = s} l) h = record { object = s; is = refl }
+lasts-ordinary (proxies l) h = let e = h .is in absurd (false≢true cc)
+
+-- each object of the store lasts, with its name, and there may be new ones, of which only an ordinary one is callable
 pub record Grows (σ τ : Store) : Type 0 where
   pub lasts : (o : ℕ) (x : Object) → lookup σ o ≡ some x → (y : Object) × (lookup τ o ≡ some y) × Lasts σ τ o x y
+  pub named : (o : ℕ) (x : Object) → lookup σ o ≡ some x → isFunction τ o ≡ isFunction σ o
+  pub added : (o : ℕ) (y : Object) → lookup σ o ≡ none → lookup τ o ≡ some y → isFunction τ o ≡ true → IsOrdinary y
 
 -- where the objects and the properties of b are as before
 lasts-same : (σ τ : Store) (b : ℕ) (x : Object) → ((k : PropertyKey) → own τ b k ≡ own σ b k) → Lasts σ τ b x x
@@ -54,21 +65,37 @@ lasts-trans (ordinaries m) (ordinaries n) = ordinaries (record {
 lasts-trans (proxies m) (proxies n) = proxies (n ∙ m)
 
 pub grows-refl : (σ : Store) → Grows σ σ
-grows-refl σ = record { lasts = λ o x e. (x, e, lasts-same σ σ o x (λ k. refl)) }
+grows-refl σ = record { lasts = λ o x e. (x, e, lasts-same σ σ o x (λ k. refl)); named = λ o x e. refl; added = λ o y e f _. absurd (false≢true cc) }
 
 pub grows-trans : {σ τ υ : Store} → Grows σ τ → Grows τ υ → Grows σ υ
-grows-trans f g = record {
+grows-trans {σ} {τ} {υ} f g = record {
   lasts = λ o x e.
       let (y, a, l) = f .lasts o x e in
       let (z, b, m) = g .lasts o y a in
       (z, b, lasts-trans l m);
+  named = λ o x e. g .named o _ (f .lasts o x e .1) ∙ f .named o x e;
+  added = λ o z e h i. from-middle o z e h i _ refl;
+}
+  where
+    from-middle : (o : ℕ) (z : Object) → lookup σ o ≡ none → lookup υ o ≡ some z → isFunction υ o ≡ true → (m : Option Object) → lookup τ o ≡ m → IsOrdinary z
+    from-middle o z e h i none m = g .added o z m h i
+    from-middle o z e h i (some y) m =
+        let (w, b, l) = g .lasts o y m in
+        let q : w ≡ z = cc in
+        subst IsOrdinary q (lasts-ordinary l (f .added o y e m (sym (g .named o y m) ∙ i)))
+
+pub grows-add : (σ : Store) (x : Object) (b : Bool) → (b ≡ true → IsOrdinary x) → Grows σ (add σ x b)
+grows-add σ y b h = record {
+  lasts = λ o x e. (x, lookup-add σ y b o x e, lasts-same σ (add σ y b) o x (λ k. own-add σ y b o k));
+  named = λ o x e. function-add σ y b o x e;
+  added = λ o z e f i.
+      let (p, q) = lookup-new σ y b o z e f in
+      subst IsOrdinary q (h (sym (function-new σ y b) ∙ subst (λ (n : ℕ). isFunction (add σ y b) n ≡ true) p i));
 }
 
-pub grows-add : (σ : Store) (x : Object) → Grows σ (add σ x)
-grows-add σ y = record { lasts = λ o x e. (x, lookup-add σ y o x e, lasts-same σ (add σ y) o x (λ k. own-add σ y o k)) }
-
 pub grows-put : (σ : Store) (o : ℕ) (x y : Object) → lookup σ o ≡ some x → Lasts σ (put σ o y) o x y → Grows σ (put σ o y)
-grows-put σ o x y e l = record { lasts = λ b z f. go b z f (eqb o b) refl }
+unfolding put
+grows-put σ o x y e l = record { lasts = λ b z f. go b z f (eqb o b) refl; named = λ b z f. refl; added = λ b w f g _. absurd (none-new b w f g (eqb o b) refl) }
   where
     go : (b : ℕ) (z : Object) → lookup σ b ≡ some z → (t : Bool) → eqb o b ≡ t → (w : Object) × (lookup (put σ o y) b ≡ some w) × Lasts σ (put σ o y) b z w
     go b z f true h =
@@ -79,6 +106,10 @@ grows-put σ o x y e l = record { lasts = λ b z f. go b z f (eqb o b) refl }
           subst (λ (n : ℕ). Lasts σ (put σ o y) n z y) p (subst (λ (u : Object). Lasts σ (put σ o y) o u y) q l),
         )
     go b z f false h = (z, lookup-put-other σ o b y h ∙ f, lasts-same σ (put σ o y) b z (λ k. own-put σ o y b k))
+
+    none-new : (b : ℕ) (w : Object) → lookup σ b ≡ none → lookup (put σ o y) b ≡ some w → (t : Bool) → eqb o b ≡ t → ⊥
+    none-new b w f g true h = let p : o ≡ b = eqb-true o b h in false≢true cc
+    none-new b w f g false h = let q : lookup (put σ o y) b ≡ none = lookup-put-other σ o b y h ∙ f in false≢true cc
 
 -- a proxy is revoked, or has other traps
 pub grows-proxy : (σ : Store) (o : ℕ) (p q : ProxyObject) → lookup σ o ≡ some (Proxy p) → q .target ≡ p .target → Grows σ (put σ o (Proxy q))
@@ -98,8 +129,8 @@ grows-object σ o r s e shut rooted = grows-put σ o (Ordinary r) (Ordinary s) e
 grows-at : (σ τ : Store) (o : ℕ) (k : PropertyKey) (r : OrdinaryObject) (d : OwnProperty) → lookup σ o ≡ some (Ordinary r)
     → ((b : ℕ) → lookup τ b ≡ lookup σ b) → ((b : ℕ) (l : PropertyKey) → own τ b l ≡ cond (samePlace o k b l) d (own σ b l))
     → ((v : Value) → frozenAs v (own σ o k) ≡ true → frozenAs v d ≡ true)
-    → (r .extensible ≡ false → isAbsent (own σ o k) ≡ true → isAbsent d ≡ true) → Grows σ τ
-grows-at σ τ o k r d e objects properties keeps lacks = record { lasts = λ b x f. (x, objects b ∙ f, go b x f) }
+    → (r .extensible ≡ false → isAbsent (own σ o k) ≡ true → isAbsent d ≡ true) → τ .callable ≡ σ .callable → Grows σ τ
+grows-at σ τ o k r d e objects properties keeps lacks marks = record { lasts = λ b x f. (x, objects b ∙ f, go b x f); named = λ b x f. ap (λ (m : ℕ). bit m b) marks; added = λ b y f g _. let q : lookup τ b ≡ none = objects b ∙ f in absurd (false≢true cc) }
   where
     kept : (b : ℕ) (l : PropertyKey) (v : Value) → frozenAs v (own σ b l) ≡ true → (t : Bool) → samePlace o k b l ≡ t → frozenAs v (cond t d (own σ b l)) ≡ true
     kept b l v h true q = let (m, n) = place-eq o k b l q in keeps v (rw (m, n) h)
@@ -125,12 +156,14 @@ grows-at σ τ o k r d e objects properties keeps lacks = record { lasts = λ b 
 pub grows-with : (σ : Store) (o : ℕ) (r : OrdinaryObject) (k : PropertyKey) (p : Property) → lookup σ o ≡ some (Ordinary r)
     → ((v : Value) → frozenAs v (own σ o k) ≡ true → frozenAs v (Present p) ≡ true)
     → (r .extensible ≡ false → isAbsent (own σ o k) ≡ true → ⊥) → Grows σ (withProperty σ o k p)
-grows-with σ o r k p e keeps there = grows-at σ (withProperty σ o k p) o k r (Present p) e (lookup-with σ o k p) (own-with σ o k p) keeps (λ x a. absurd (there x a))
+unfolding withProperty
+grows-with σ o r k p e keeps there = grows-at σ (withProperty σ o k p) o k r (Present p) e (lookup-with σ o k p) (own-with σ o k p) keeps (λ x a. absurd (there x a)) refl
 
 pub grows-without : (σ : Store) (o : ℕ) (r : OrdinaryObject) (k : PropertyKey) → lookup σ o ≡ some (Ordinary r)
     → ((v : Value) → frozenAs v (own σ o k) ≡ false) → Grows σ (withoutProperty σ o k)
+unfolding withoutProperty
 grows-without σ o r k e loose =
-    grows-at σ (withoutProperty σ o k) o k r Absent e (lookup-without σ o k) (own-without σ o k) (λ v h. absurd (false≢true (sym (loose v) ∙ h))) (λ _ _. refl)
+    grows-at σ (withoutProperty σ o k) o k r Absent e (lookup-without σ o k) (own-without σ o k) (λ v h. absurd (false≢true (sym (loose v) ∙ h))) (λ _ _. refl) refl
 
 -- the base stays the base, and lasts
 pub base-grows : {σ τ : Store} {o b : ℕ} {r : OrdinaryObject} → Grows σ τ → Base σ o b r → (s : OrdinaryObject) × Base τ o b s × Later σ τ b r s

@@ -7,6 +7,7 @@ use mathlib.Core.List.{List}
 use Rattle.value.specs.declared.Value.{Value}
 use Rattle.value.specs.declared.Value.the-variants as value
 use Rattle.value.specs.declared.PropertyKey.{PropertyKey}
+use Rattle.value.specs.Value.{objectOf}
 use Rattle.property.specs.declared.Property.{Property}
 use Rattle.property.specs.declared.Property.the-variants.{Data, Accessor}
 use Rattle.property.specs.declared.PropertyDescriptor.{PropertyDescriptor}
@@ -127,7 +128,7 @@ module _ (c : Context) (o : ℕ) (r : OrdinaryObject) (found : lookup (c .store)
         go Absent i = completes-bind _ _ (own-run n (suc m) k _ i) (completes-bind _ _ (prototype-run n m _ alone) (completes-pure _ _))
 
     -- the receiver is the object itself
-    module _ (room : isFull c ≡ false) (v : Value) where
+    module _ (room : isFull c ≡ false) (v receiver : Value) (itself : objectOf receiver ≡ some o) where
       receiver-completes : (m : ℕ) → Completes (setOnReceiver c (methods (suc (suc n)) c) k v o) (state a (suc (suc (suc (suc m)))))
       unfolding setOnReceiver
       receiver-completes m = go (own (c .store) o k) refl
@@ -137,15 +138,15 @@ module _ (c : Context) (o : ℕ) (r : OrdinaryObject) (found : lookup (c .store)
           go (Present (Accessor g s e f)) i = absurd (false≢true (sym (isData _ i)))
           go Absent i = completes-bind _ _ (own-run (suc n) (suc (suc (suc m))) k _ i) (defineOwnProperty-completes n m k room _)
 
-      data-completes : (m : ℕ) (writable : Bool) → Completes (setData c (methods (suc (suc n)) c) k v writable (value.Object o)) (state a (suc (suc (suc (suc m)))))
+      data-completes : (m : ℕ) (writable : Bool) → Completes (setData c (methods (suc (suc n)) c) k v writable receiver) (state a (suc (suc (suc (suc m)))))
       unfolding setData
-      data-completes m writable = completes-if (not writable) _ _ _ (completes-pure _ _) (receiver-completes m)
+      data-completes m writable = completes-if (not writable) _ _ _ (completes-pure _ _) (rw itself (receiver-completes m))
 
-      pub set-completes : (m : ℕ) → Completes (methods (suc (suc (suc n))) c .set o k v (value.Object o)) (state a (suc (suc (suc (suc (suc (suc (suc m))))))))
+      pub set-completes : (m : ℕ) → Completes (methods (suc (suc (suc n))) c .set o k v receiver) (state a (suc (suc (suc (suc (suc (suc (suc m))))))))
       unfolding methods ordinarySet
       set-completes m = begins _ _ (suc (suc (suc (suc (suc (suc m)))))) (go (own (c .store) o k) refl)
         where
-          go : (d : OwnProperty) → own (c .store) o k ≡ d → Completes (ordinarySet c (methods (suc (suc n)) c) o k v (value.Object o)) (state a (suc (suc (suc (suc (suc (suc m)))))))
+          go : (d : OwnProperty) → own (c .store) o k ≡ d → Completes (ordinarySet c (methods (suc (suc n)) c) o k v receiver) (state a (suc (suc (suc (suc (suc (suc m)))))))
           go (Present (Data w writable e f)) i = completes-bind _ _ (own-run (suc n) (suc (suc (suc (suc (suc m))))) k _ i) (data-completes (suc m) writable)
           go (Present (Accessor g s e f)) i = absurd (false≢true (sym (isData _ i)))
           go Absent i = completes-bind _ _ (own-run (suc n) (suc (suc (suc (suc (suc m))))) k _ i) (completes-bind _ _ (prototype-run (suc n) (suc (suc (suc (suc m)))) _ alone) (data-completes m true))

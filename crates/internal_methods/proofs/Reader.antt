@@ -22,7 +22,7 @@ use Rattle.internal_methods.specs.declared.Failure.{Failure}
 use Rattle.internal_methods.specs.declared.Failure.the-variants.{Refused, TypeError, Thrown}
 use Rattle.internal_methods.specs.Monad.{Answer, State, state, Out, M, pure, fails, next, _>>=_, _>>_, throwIf, answered, ask, counted, tick, if_then_else_, dispatched, dispatch}
 use Rattle.internal_methods.specs.Answers.{asValue, askValue, askBoolean, asPrototype, askPrototype, asDescriptor, askDescriptor, keysOf, listed, asKeys, askKeys}
-use Rattle.internal_methods.specs.Readable.{Reading, anyValue, prototype, descriptor, keyList, isUnreadable}
+use Rattle.internal_methods.specs.Readable.{Reading, anyValue, descriptor, keyList, isUnreadable}
 use Rattle.internal_methods.specs.Methods.{Context}
 use Rattle.internal_methods.specs.Ordinary.{applyValidation}
 use Rattle.internal_methods.specs.Internal.{methods}
@@ -123,15 +123,15 @@ module _ (n : ℕ) where
   prototype-ended [] = other refl
   prototype-ended (Answer.value value.Null ∷ a) = done (Answer.value value.Null ∷ []) refl (λ rest. refl)
   prototype-ended (Answer.value (value.Object o) ∷ a) = done (Answer.value (value.Object o) ∷ []) refl (λ rest. refl)
-  prototype-ended (Answer.value (value.Function f) ∷ a) = unreadable [] (Answer.value (value.Function f)) prototype refl refl (λ v rest. refl)
+  prototype-ended (Answer.value (value.Function f) ∷ a) = done (Answer.value (value.Function f) ∷ []) refl (λ rest. refl)
   prototype-ended (Answer.value value.Undefined ∷ a) = other refl
   prototype-ended (Answer.value (value.Boolean b) ∷ a) = other refl
   prototype-ended (Answer.value (value.Integer32 i) ∷ a) = other refl
   prototype-ended (Answer.value (value.Float64 x) ∷ a) = other refl
   prototype-ended (Answer.value (value.String s) ∷ a) = other refl
   prototype-ended (Answer.value (value.Symbol s) ∷ a) = other refl
-  prototype-ended (Answer.descriptor d ∷ a) = unreadable [] (Answer.descriptor d) prototype refl refl (λ v rest. refl)
-  prototype-ended (Answer.keys ks ∷ a) = unreadable [] (Answer.keys ks) prototype refl refl (λ v rest. refl)
+  prototype-ended (Answer.descriptor d ∷ a) = unreadable [] (Answer.descriptor d) anyValue refl refl (λ v rest. refl)
+  prototype-ended (Answer.keys ks ∷ a) = unreadable [] (Answer.keys ks) anyValue refl refl (λ v rest. refl)
   prototype-ended (Answer.throw v ∷ a) = other refl
 
   descriptor-ended : (a : List Answer) → Ended askDescriptor (state a n) (next asDescriptor (answered n a))

@@ -23,7 +23,7 @@ use Rattle.internal_methods.specs.Methods.{Context, Written, Methods}
 use Rattle.internal_methods.specs.Ordinary.{ordinaryGet, ordinarySet}
 use Rattle.internal_methods.specs.Proxy.{hasTrap}
 use Rattle.internal_methods.specs.Internal.{methods}
-use Rattle.internal_methods.specs.Readable.{Reading, anyValue, prototype, descriptor, keyList, isUnreadable, ReadsAs, HasTrap, HasAccessor, TableHolds}
+use Rattle.internal_methods.specs.Readable.{Reading, anyValue, descriptor, keyList, isUnreadable, ReadsAs, HasTrap, HasAccessor, TableHolds}
 use Rattle.internal_methods.proofs.OrdinaryRuns.{ordinary-run, own-run}
 use Rattle.internal_methods.proofs.Walk.{Any, allowing, Trapped, TrappedWrite, getPrototypeOf-proxy, setPrototypeOf-proxy, isExtensible-proxy, preventExtensions-proxy, getOwnProperty-proxy, defineOwnProperty-proxy, hasProperty-proxy, get-proxy, set-proxy, delete-proxy, ownPropertyKeys-proxy}
 use Rattle.internal_methods.proofs.Walk as walk
@@ -70,7 +70,7 @@ boolean-asked strings a n = go (value-asked a n)
     go on = on
     go (out q) = out q
 
-prototype-asked : (a : Answer) (n : ℕ) → Asked n (isUnreadable prototype a) (askPrototype .run (state (a ∷ []) n))
+prototype-asked : (a : Answer) (n : ℕ) → Asked n (isUnreadable anyValue a) (askPrototype .run (state (a ∷ []) n))
 unfolding askPrototype askValue _>>=_ next ask asValue asPrototype pure fails
 prototype-asked (Answer.value value.Undefined) n = out refl
 prototype-asked (Answer.value value.Null) n = on
@@ -80,7 +80,7 @@ prototype-asked (Answer.value (value.Float64 x)) n = out refl
 prototype-asked (Answer.value (value.String s)) n = out refl
 prototype-asked (Answer.value (value.Symbol s)) n = out refl
 prototype-asked (Answer.value (value.Object o)) n = on
-prototype-asked (Answer.value (value.Function f)) n = stop
+prototype-asked (Answer.value (value.Function f)) n = on
 prototype-asked (Answer.descriptor d) n = stop
 prototype-asked (Answer.keys vs) n = stop
 prototype-asked (Answer.throw v) n = out refl

@@ -199,7 +199,7 @@ module _ {Val : Value → Type 0} (J : Asking Val) where
   unfolding asPrototype
   asPrototype-by value.Null m = J .gives _ m
   asPrototype-by (value.Object o) m = J .gives _ m
-  asPrototype-by (value.Function f) m = J .unreadable
+  asPrototype-by (value.Function f) m = J .gives _ m
   asPrototype-by value.Undefined m = type-error 2 tt
   asPrototype-by (value.Boolean b) m = type-error 2 tt
   asPrototype-by (value.Integer32 i) m = type-error 2 tt

@@ -32,7 +32,7 @@ askBoolean strings = askValue >>= λ v. pure (toBoolean (lengthOf strings) v)
 unfoldable pub asPrototype : Value → M Value
 asPrototype value.Null = pure value.Null
 asPrototype (value.Object o) = pure (value.Object o)
-asPrototype (value.Function f) = fails (Refused 9)
+asPrototype (value.Function f) = pure (value.Function f)
 asPrototype value.Undefined = fails (TypeError 2)
 asPrototype (value.Boolean b) = fails (TypeError 2)
 asPrototype (value.Integer32 n) = fails (TypeError 2)

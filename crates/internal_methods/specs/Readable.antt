@@ -41,12 +41,11 @@ pub data Asker : Type 0 where
 -- what it asks for
 pub data Reading : Type 0 where
   anyValue : Reading
-  prototype : Reading
   descriptor : Reading
   keyList : Reading
 
 abbrev pub reading : Asker → Reading
-reading getPrototypeOf = prototype
+reading getPrototypeOf = anyValue
 reading setPrototypeOf = anyValue
 reading isExtensible = anyValue
 reading preventExtensions = anyValue
@@ -60,17 +59,6 @@ reading ownPropertyKeys = keyList
 reading getter = anyValue
 reading setter = anyValue
 
-abbrev pub isFunction : Value → Bool
-isFunction value.Undefined = false
-isFunction value.Null = false
-isFunction (value.Boolean b) = false
-isFunction (value.Integer32 n) = false
-isFunction (value.Float64 x) = false
-isFunction (value.String s) = false
-isFunction (value.Symbol s) = false
-isFunction (value.Object o) = false
-isFunction (value.Function f) = true
-
 abbrev pub isObjectOrFunction : Value → Bool
 isObjectOrFunction value.Undefined = false
 isObjectOrFunction value.Null = false
@@ -82,16 +70,12 @@ isObjectOrFunction (value.Symbol s) = false
 isObjectOrFunction (value.Object o) = true
 isObjectOrFunction (value.Function f) = true
 
--- descriptors and lists are for who asks for them; who does cannot read an object or a function; a prototype is no function
+-- descriptors and lists are for who asks for them; who does cannot read an object or a function
 abbrev pub isUnreadable : Reading → Answer → Bool
 isUnreadable anyValue (answer.value v) = false
 isUnreadable anyValue (answer.descriptor d) = true
 isUnreadable anyValue (answer.keys ks) = true
 isUnreadable anyValue (answer.throw v) = false
-isUnreadable prototype (answer.value v) = isFunction v
-isUnreadable prototype (answer.descriptor d) = true
-isUnreadable prototype (answer.keys ks) = true
-isUnreadable prototype (answer.throw v) = false
 isUnreadable descriptor (answer.value v) = isObjectOrFunction v
 isUnreadable descriptor (answer.descriptor d) = false
 isUnreadable descriptor (answer.keys ks) = true

@@ -18,7 +18,6 @@ use Rattle.value.specs.PropertyKey.{keyOf, keyValue}
 use Rattle.value.specs.Words.{pick, valueOf}
 use Rattle.internal_methods.specs.Answers.{consKey, keysOf}
 use Rattle.record.specs.Bytes.{byteAt, numberAt, valueAt, valueBytes}
-use Rattle.record.specs.Tests.{isKnown}
 use Rattle.record.specs.Step.{isSome}
 use Rattle.record.specs.Sheet.{valuesAt, valuesPass}
 use Rattle.record.proofs.RoundTrip.{length-value}
@@ -26,7 +25,7 @@ use Rattle.steps.proofs.Outputs.{length-keys}
 use Rattle.store_read.specs.Answers.{keyFromWord, Listed}
 use Rattle.store_read.proofs.ListLaws.{map-append, Listing, listing-start, listing-more, listing-end}
 use Rattle.steps.specs.Step.{keysBytes}
-use Rattle.key_lists.specs.Keys.{keysHeld, greatest}
+use Rattle.key_lists.specs.Keys.{keysHeld, isBoundedKey}
 
 -- A value by its kind ---------------------------------------------------------------------
 
@@ -70,12 +69,12 @@ module _ (b : List ℕ) (i : ℕ) where
       go false e = rw (other-none h e)
 
 -- a key is a string or a symbol, and known where its number is below 256
-module _ (b : List ℕ) (i : ℕ) (known : isKnown greatest (valueAt b i) ≡ true) (p : ℕ) (e : p ≡ numberAt b (i + 1) 8) where
+module _ (b : List ℕ) (i : ℕ) (known : isBoundedKey (valueAt b i) ≡ true) (p : ℕ) (e : p ≡ numberAt b (i + 1) 8) where
   payload : numberAt b (suc i) 8 ≡ p
   payload = sym (rw add-one at e)
 
   pub string-word : byteAt b i ≡ 5 → (keyOf (valueAt b i) ≡ some (keyFromWord (2 * p))) × (p < 256)
-  unfolding isKnown keyFromWord
+  unfolding isBoundedKey keyFromWord
   string-word h =
       let l : p < 256 = ltb-true _ _ (rw (is-string b i h, payload) at known) in
       let m : 2 * p % 2 ≡ 0 = omega arith in
@@ -83,7 +82,7 @@ module _ (b : List ℕ) (i : ℕ) (known : isKnown greatest (valueAt b i) ≡ tr
       (rw (is-string b i h, payload, m, d), l)
 
   symbol-word : byteAt b i ≡ 6 → (keyOf (valueAt b i) ≡ some (keyFromWord (2 * p + 1))) × (p < 256)
-  unfolding isKnown keyFromWord
+  unfolding isBoundedKey keyFromWord
   symbol-word h =
       let l : p < 256 = ltb-true _ _ (rw (is-symbol b i h, payload) at known) in
       let m : (2 * p + 1) % 2 ≡ 1 = omega arith in
@@ -164,9 +163,9 @@ module _ (b : List ℕ) (i n : ℕ) where
 
 -- Loading keys --------------------------------------------------------------------------------
 
-known-head : (v : Value) (vs : List Value) → valuesPass (isKnown greatest) (v ∷ vs) ≡ true → (isKnown greatest v ≡ true) × (valuesPass (isKnown greatest) vs ≡ true)
+known-head : (v : Value) (vs : List Value) → valuesPass isBoundedKey (v ∷ vs) ≡ true → (isBoundedKey v ≡ true) × (valuesPass isBoundedKey vs ≡ true)
 unfolding valuesPass
-known-head v vs e = go (isKnown greatest v) (valuesPass (isKnown greatest) vs) e
+known-head v vs e = go (isBoundedKey v) (valuesPass isBoundedKey vs) e
   where
     go : (s t : Bool) → (s && t) ≡ true → (s ≡ true) × (t ≡ true)
     go true t q = (refl, q)
@@ -180,12 +179,12 @@ pub record Loading (b w : List ℕ) (first n : ℕ) (v : List ℕ) (at i : ℕ) 
   pub within : i ≤ n
   pub place : at ≡ first + 9 * i
   pub keys : isSome (keysOf (valuesAt b at (n - i))) ≡ true
-  pub known : valuesPass (isKnown greatest) (valuesAt b at (n - i)) ≡ true
+  pub known : valuesPass isBoundedKey (valuesAt b at (n - i)) ≡ true
   pub listing : Listing w v i (keysHeld (keysOf (valuesAt b at (n - i)))) (keysHeld (keysOf (valuesAt b first n)))
   pub below : (j : ℕ) → j < i → getD v j 0 < 512
 
 module _ (b w : List ℕ) (first n : ℕ) where
-  pub loading-start : isSome (keysOf (valuesAt b first n)) ≡ true → valuesPass (isKnown greatest) (valuesAt b first n) ≡ true → Loading b w first n w first 0
+  pub loading-start : isSome (keysOf (valuesAt b first n)) ≡ true → valuesPass isBoundedKey (valuesAt b first n) ≡ true → Loading b w first n w first 0
   loading-start k p = record {
     within = omega arith;
     place = omega arith;
@@ -202,7 +201,7 @@ module _ (b w : List ℕ) (first n : ℕ) where
     pub loading-key : i < n → isSome (keyOf (valueAt b at)) ≡ true
     loading-key h = keys-head (valueAt b at) (valuesAt b (at + 9) (n - (i + 1))) (rw (loading-values h) at (s .keys))
 
-    pub loading-known : i < n → isKnown greatest (valueAt b at) ≡ true
+    pub loading-known : i < n → isBoundedKey (valueAt b at) ≡ true
     loading-known h = known-head (valueAt b at) (valuesAt b (at + 9) (n - (i + 1))) (rw (loading-values h) at (s .known)) .0
 
     pub loading-more : (x : ℕ) → i < n → n ≤ length w → isSome (keysOf (valuesAt b first n)) ≡ true

@@ -11,12 +11,11 @@ ghost use lib.ListN.{length, getD, take, drop};
 ghost use Rattle.value.specs.PropertyKey.{keyOf};
 ghost use Rattle.internal_methods.specs.Answers.{keysOf};
 ghost use Rattle.record.specs.Bytes.{valueAt};
-ghost use Rattle.record.specs.Tests.{isKnown};
 ghost use Rattle.record.specs.Step.{isSome};
 ghost use Rattle.record.specs.Sheet.{valuesAt, valuesPass};
 ghost use Rattle.store_read.specs.Answers.{keyFromWord, Listed};
 ghost use Rattle.steps.specs.Step.{keysBytes};
-ghost use Rattle.key_lists.specs.Keys.{keysHeld, greatest};
+ghost use Rattle.key_lists.specs.Keys.{keysHeld, isBoundedKey};
 
 // Its kind alone says whether a value is a key.
 fn is_key_at(sheet: &[u8], at: usize) -> bool
@@ -49,7 +48,7 @@ pub fn are_keys(sheet: &[u8], first: usize, n: usize) -> bool
 
 // The word of a key whose number is below 256.
 fn key_word_at(sheet: &[u8], at: usize) -> u64
-    requires { ⌜ (at + 9 ≤ length (now sheet)) × ((isSome (keyOf (valueAt (now sheet) at)) ≡ true) × (isKnown greatest (valueAt (now sheet) at) ≡ true)) ⌝ }
+    requires { ⌜ (at + 9 ≤ length (now sheet)) × ((isSome (keyOf (valueAt (now sheet) at)) ≡ true) × (isBoundedKey (valueAt (now sheet) at) ≡ true)) ⌝ }
     ensures { λ r. ⌜ (keyOf (valueAt (now (sheet .entry)) at) ≡ some (keyFromWord r)) × (r < 512) ⌝ }
 {
     let number = numbers::word_at(sheet, at + 1);
@@ -62,7 +61,7 @@ fn key_word_at(sheet: &[u8], at: usize) -> u64
 
 // The words of n keys; those after them stay.
 pub fn load_keys(sheet: &[u8], first: usize, n: usize, out: &mut [u64])
-    requires { ⌜ (first + 9 * n ≤ length (now sheet)) × ((n ≤ length (now out)) × ((isSome (keysOf (valuesAt (now sheet) first n)) ≡ true) × (valuesPass (isKnown greatest) (valuesAt (now sheet) first n) ≡ true))) ⌝ }
+    requires { ⌜ (first + 9 * n ≤ length (now sheet)) × ((n ≤ length (now out)) × ((isSome (keysOf (valuesAt (now sheet) first n)) ≡ true) × (valuesPass isBoundedKey (valuesAt (now sheet) first n) ≡ true))) ⌝ }
     ensures { λ _. ⌜ Listed (now (out .entry)) (now (out .exit)) n (keysHeld (keysOf (valuesAt (now (sheet .entry)) first n))) × ((i : ℕ) → i < n → getD (now (out .exit)) i 0 < 512) ⌝ }
 {
     let mut at: usize = first;

@@ -20,13 +20,12 @@ use Rattle.internal_methods.specs.Monad.{Answer, keys, State, failed, done, pur
 use Rattle.internal_methods.specs.Answers.{keysOf, listed, unlisted}
 use Rattle.internal_methods.proofs.Longer.{Suffix, same, more}
 use Rattle.record.specs.Bytes.{valueSize}
-use Rattle.record.specs.Tests.{isKnown}
 use Rattle.record.specs.Step.{isSome}
 use Rattle.record.specs.Sheet.{valuesAt, valuesPass}
 use Rattle.sheet.specs.declared.NextAnswer.{NextAnswer}
 use Rattle.sheet.specs.declared.NextAnswer.the-variants as next
 use Rattle.sheet.specs.Next.{answersFrom, Next}
-use Rattle.key_lists.specs.Keys.{keysHeld, greatest}
+use Rattle.key_lists.specs.Keys.{keysHeld, isBoundedKey}
 use Rattle.own_keys.specs.Lists.{LoadableAt, isListFit, areListsFit}
 
 -- what is left of fit lists is fit
@@ -50,7 +49,7 @@ module _ (bytes : List ℕ) (at left : ℕ) (r : NextAnswer) (h : Next bytes at 
 
   pub loadable : areListsFit (answersFrom bytes at left) ≡ true → isSome (keysOf (valuesAt bytes first n)) ≡ true → LoadableAt bytes first n
   loadable f k =
-      let (few, known) = and-true (leb (length (valuesAt bytes first n)) 256) (valuesPass (isKnown greatest) (valuesAt bytes first n)) (list-fit f) in
+      let (few, known) = and-true (leb (length (valuesAt bytes first n)) 256) (valuesPass isBoundedKey (valuesAt bytes first n)) (list-fit f) in
       record {
         within = keys-within;
         few = omega (arith, leb-true (length (valuesAt bytes first n)) 256 few, length-values bytes first n);

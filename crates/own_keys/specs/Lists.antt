@@ -9,10 +9,9 @@ use Rattle.value.specs.declared.PropertyKey.{PropertyKey}
 use Rattle.internal_methods.specs.Monad.{Answer, Out, failed, done}
 use Rattle.internal_methods.specs.Monad as answer
 use Rattle.internal_methods.specs.Answers.{keysOf}
-use Rattle.record.specs.Tests.{isKnown}
 use Rattle.record.specs.Step.{isSome}
 use Rattle.record.specs.Sheet.{valuesAt, valuesPass}
-use Rattle.key_lists.specs.Keys.{keysHeld, greatest}
+use Rattle.key_lists.specs.Keys.{keysHeld, isBoundedKey}
 use Rattle.calls.specs.Outs.{stateOf}
 use Rattle.own_keys.specs.declared.answered.AnsweredOut.{AnsweredOut}
 use Rattle.own_keys.specs.declared.answered.AnsweredOut.the-variants as answered
@@ -26,13 +25,13 @@ pub record LoadableAt (sheet : List ℕ) (first n : ℕ) : Type 0 where
   pub within : first + 9 * n ≤ length sheet
   pub few : n ≤ 256
   pub all-keys : isSome (keysOf (valuesAt sheet first n)) ≡ true
-  pub known : valuesPass (isKnown greatest) (valuesAt sheet first n) ≡ true
+  pub known : valuesPass isBoundedKey (valuesAt sheet first n) ≡ true
 
 -- a key list has at most 256 values, and each is one that there can be
 abbrev pub isListFit : Answer → Bool
 isListFit (answer.value v) = true
 isListFit (answer.descriptor d) = true
-isListFit (answer.keys vs) = leb (length vs) 256 && valuesPass (isKnown greatest) vs
+isListFit (answer.keys vs) = leb (length vs) 256 && valuesPass isBoundedKey vs
 isListFit (answer.throw v) = true
 
 unfoldable pub areListsFit : List Answer → Bool

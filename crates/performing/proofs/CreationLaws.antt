@@ -1,31 +1,31 @@
 -- The operations that make no calls, as the definitions have them. Assumes nothing.
-use Prim.Native.Nat.{ℕ}
+use Prim.Native.Nat.{ℕ, _≤_}
 use native.Mathlib.Omega.{arith}
-use mathlib.Core.Path.{_≡_, refl}
-use mathlib.Core.Bool.{Bool, true, false, cond}
+use mathlib.Core.Path.{_≡_, refl, sym, _∙_}
+use mathlib.Core.Bool.{Bool, true, false, _||_, cond, true≢false}
 use mathlib.Core.Option.{Option, none, some}
 use mathlib.Core.List.{List, [], _∷_}
 use types.Run.{OneOf, miss}
 use denote.Enum.Declared.{tagOf}
-use borrow.Author.Tests.{ltb-true}
+use borrow.Author.Tests.{ltb-true, ltb-false, eqb-true}
 use lib.IntN.{ℤ, pos, negsuc, natAbs}
 use lib.Signed.{ltZ, nonNeg}
 use mir.Syntax.{w32, w64}
 use mir.Val.{SFits, Fits, ofZ, toZ}
 use mir.ValLaws.{toZ-ofZ}
 use Rattle.value.proofs.Value.{the-type}
-use lib.Dec.{T, ltb}
+use lib.Dec.{T, eqb, ltb}
 use lib.ListN.{length}
 use Rattle.value.specs.declared.Value.{Value}
 use Rattle.value.specs.declared.Value.the-variants as value
 use Rattle.store.specs.declared.Object.{Object}
 use Rattle.store.specs.declared.Object.the-variants.{Ordinary, Proxy}
-use Rattle.store.specs.Store.{Store, lookup, add, maximumObjects}
+use Rattle.store.specs.Store.{Store, lookup, add, named, maximumObjects}
 use Rattle.internal_methods.specs.Monad.{done, pure, fails, if_then_else_}
 use Rattle.internal_methods.specs.Methods.{Context}
 use Rattle.calls.specs.declared.Progress.{Progress}
 use Rattle.calls.specs.Outs.{stateOf}
-use Rattle.steps.specs.Operation.{makeObject, makeProxy, revoke, naturalNumber, naturalOf}
+use Rattle.steps.specs.Operation.{makeObject, makeProxy, revoke, makeFunction, naturalNumber, naturalOf}
 use Rattle.steps.specs.Sequence.{written}
 use Rattle.steps.specs.Perform.{once, make, perform, boolean, revoked}
 use Rattle.steps.specs.Perform as result
@@ -35,30 +35,35 @@ use Rattle.internal_methods.specs.declared.Failure.the-variants.{Refused}
 use Rattle.reporting.specs.declared.Performed.the-variants.{Failed, Done}
 use Rattle.reporting.specs.Performed.{outPerformed}
 use Rattle.performing.specs.Creation.{makeOut, makeObjectOut, makeProxyOut, revokeOut, revocation}
+use Rattle.performing.specs.Results.{isCreation}
 use Rattle.store.specs.Words.{storeOf, isStore}
 use Rattle.store_write.specs.Write.{fitsIn}
 use Rattle.store_read.proofs.ReadLaws.{lookup-below}
 
 module _ (sheet : List ℕ) (s : Progress) where
-  making : (σ : Store) (x : Object) (b : Bool)
-      → outPerformed sheet σ (cond b (Done (completion.Value (value.Object (length (σ .objects)))) (write.NewObject x) s) (Failed (Refused 7) s))
-      ≡ written σ ((if b then pure (result.value (value.Object (length (σ .objects))), add σ x) else fails (Refused 7)) .run (stateOf sheet s))
+  making : (σ : Store) (x : Object) (callable b : Bool)
+      → outPerformed sheet σ (cond b (Done (completion.Value (named callable (length (σ .objects)))) (write.NewObject x callable) s) (Failed (Refused 7) s))
+      ≡ written σ ((if b then pure (result.value (named callable (length (σ .objects))), add σ x callable) else fails (Refused 7)) .run (stateOf sheet s))
   unfolding pure fails if_then_else_
-  making σ x true = refl
-  making σ x false = refl
+  making σ x callable true = refl
+  making σ x callable false = refl
 
-  made : (σ : Store) (x : Object) → outPerformed sheet σ (makeOut σ x s) ≡ once σ (make σ x) .run (stateOf sheet s)
+  made : (σ : Store) (x : Object) (callable : Bool) → outPerformed sheet σ (makeOut σ x callable s) ≡ once σ (make σ x callable) .run (stateOf sheet s)
   unfolding makeOut once make
-  made σ x = making σ x (ltb (length (σ .objects)) maximumObjects)
+  made σ x callable = making σ x callable (ltb (length (σ .objects)) maximumObjects)
 
   module _ (depth : ℕ) (c : Context) where
-    pub object-made : (v : Value) → outPerformed sheet (c .store) (makeObjectOut (c .store) v s) ≡ perform depth c (makeObject v) .run (stateOf sheet s)
+    pub object-made : (v : Value) → outPerformed sheet (c .store) (makeObjectOut (c .store) v false s) ≡ perform depth c (makeObject v) .run (stateOf sheet s)
     unfolding perform
-    object-made v = made (c .store) _
+    object-made v = made (c .store) _ false
+
+    pub function-made : (v : Value) → outPerformed sheet (c .store) (makeObjectOut (c .store) v true s) ≡ perform depth c (makeFunction v) .run (stateOf sheet s)
+    unfolding perform
+    function-made v = made (c .store) _ true
 
     pub proxy-made : (o : ℕ) (mask : Value) → outPerformed sheet (c .store) (makeProxyOut (c .store) o mask s) ≡ perform depth c (makeProxy o (naturalOf mask)) .run (stateOf sheet s)
     unfolding perform
-    proxy-made o mask = made (c .store) _
+    proxy-made o mask = made (c .store) _ false
 
     revoking : (o : ℕ) (x : Option Object) → outPerformed sheet (c .store) (revokeOut o x s) ≡ (done (boolean true) (stateOf sheet s), revoked (c .store) o x)
     revoking o none = refl
@@ -105,3 +110,18 @@ no-number (value.Function f) h = refl
 pub revocation-fits : (words : List ℕ) (o : ℕ) (x : Object) → isStore words ≡ true → lookup (storeOf words) o ≡ some x → fitsIn (revocation o x) words
 revocation-fits words o (Ordinary r) s e = record { store = s; bounds = tt }
 revocation-fits words o (Proxy p) s e = record { store = s; bounds = lookup-below words o (Proxy p) e }
+
+-- the codes that make or revoke: the last of them, and where the others begin
+pub last-creation : (code : ℕ) → isCreation code ≡ true → 1 ≤ code → (code ≡ 1 → ⊥) → (code ≡ 2 → ⊥) → (code ≡ 3 → ⊥) → code ≡ 16
+last-creation code t h a b c = go (ltb code 4) refl t
+  where
+    go : (low : Bool) → ltb code 4 ≡ low → (low || eqb code 16) ≡ true → code ≡ 16
+    go true e q = absurd (omega (arith, ltb-true code 4 e))
+    go false e q = eqb-true code 16 q
+
+pub past-creation : (code : ℕ) → isCreation code ≡ false → 4 ≤ code
+past-creation code f = go (ltb code 4) refl f
+  where
+    go : (low : Bool) → ltb code 4 ≡ low → (low || eqb code 16) ≡ false → 4 ≤ code
+    go true e q = absurd (true≢false q)
+    go false e q = ltb-false code 4 e

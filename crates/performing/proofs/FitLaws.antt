@@ -13,12 +13,12 @@ use Rattle.value.specs.declared.Value.the-variants.{Undefined, Null, Boolean, I
 use Rattle.record.specs.Bytes.{byteAt}
 use Rattle.record.specs.Tests.{Counts, isKnown}
 use Rattle.record.specs.Sheet.{valuesAt, areValuesAt, keyCountAt, answerAt, answerEnd, answersAt, isBodyAt, isAnswerAt, areAnswersAt, sheetOf, isSheet, valuesPass, answerPasses, sheetPasses}
-use Rattle.key_lists.specs.Keys.{greatest}
+use Rattle.key_lists.specs.Keys.{isBoundedKey}
 use Rattle.own_keys.specs.Lists.{isListFit, areListsFit}
 
 module _ (n : Counts) (h : n .strings ≤ 256) where
-  known-widens : (v : Value) → isKnown n v ≡ true → isKnown greatest v ≡ true
-  unfolding isKnown
+  known-widens : (v : Value) → isKnown n v ≡ true → isBoundedKey v ≡ true
+  unfolding isKnown isBoundedKey
   known-widens Undefined e = refl
   known-widens Null e = refl
   known-widens (Boolean b) e = refl
@@ -27,9 +27,9 @@ module _ (n : Counts) (h : n .strings ≤ 256) where
   known-widens (String s) e = lt-ltb s 256 (omega (arith, ltb-true s (n .strings) e))
   known-widens (Symbol s) e = e
   known-widens (Object o) e = refl
-  known-widens (Function f) e = e
+  known-widens (Function f) e = refl
 
-  values-widen : (vs : List Value) → valuesPass (isKnown n) vs ≡ true → valuesPass (isKnown greatest) vs ≡ true
+  values-widen : (vs : List Value) → valuesPass (isKnown n) vs ≡ true → valuesPass isBoundedKey vs ≡ true
   unfolding valuesPass
   values-widen [] e = refl
   values-widen (v ∷ vs) e = let p = and-true (isKnown n v) (valuesPass (isKnown n) vs) e in and-both _ _ (known-widens v (p .0)) (values-widen vs (p .1))
@@ -49,7 +49,7 @@ module _ (n : Counts) (h : n .strings ≤ 256) where
       let body : (leb (keyCountAt b i) 256 && areValuesAt b (i + 3) (keyCountAt b i)) ≡ true = rw (p, q, r) at e in
       let pass : valuesPass (isKnown n) (valuesAt b (i + 3) (keyCountAt b i)) ≡ true = rw (p, q, r) at f in
       let few : leb (length (valuesAt b (i + 3) (keyCountAt b i))) 256 ≡ true = rw (length-values b (i + 3) (keyCountAt b i)) (and-true (leb (keyCountAt b i) 256) _ body .0) in
-      rw (p, q, r) (and-both (leb (length (valuesAt b (i + 3) (keyCountAt b i))) 256) (valuesPass (isKnown greatest) (valuesAt b (i + 3) (keyCountAt b i))) few (values-widen (valuesAt b (i + 3) (keyCountAt b i)) pass))
+      rw (p, q, r) (and-both (leb (length (valuesAt b (i + 3) (keyCountAt b i))) 256) (valuesPass isBoundedKey (valuesAt b (i + 3) (keyCountAt b i))) few (values-widen (valuesAt b (i + 3) (keyCountAt b i)) pass))
   tagged b i false false false p q r e f = rw (p, q, r)
 
   lists-fit : (b : List ℕ) (i m : ℕ) → areAnswersAt b i m ≡ true → sheetPasses (isKnown n) (answersAt b i m) ≡ true → areListsFit (answersAt b i m) ≡ true

@@ -8,7 +8,7 @@ use Rattle.value.specs.declared.Value.{Value}
 use Rattle.value.specs.declared.Value.the-variants as value
 use Rattle.store.specs.declared.Object.{Object}
 use Rattle.store.specs.declared.Object.the-variants.{Ordinary, Proxy}
-use Rattle.store.specs.Store.{Store, maximumObjects}
+use Rattle.store.specs.Store.{Store, named, maximumObjects}
 use Rattle.store_write.specs.declared.write.Write.{Write}
 use Rattle.store_write.specs.declared.write.Write.the-variants as write
 use Rattle.internal_methods.specs.declared.Failure.the-variants.{Refused}
@@ -18,14 +18,14 @@ use Rattle.steps.specs.Operation.{naturalOf}
 use Rattle.reporting.specs.declared.Performed.{Performed}
 use Rattle.reporting.specs.declared.Performed.the-variants.{Failed, Done}
 
-unfoldable pub makeOut : Store → Object → Progress → Performed
-makeOut σ x s = cond (ltb (length (σ .objects)) maximumObjects) (Done (completion.Value (value.Object (length (σ .objects)))) (write.NewObject x) s) (Failed (Refused 7) s)
+unfoldable pub makeOut : Store → Object → Bool → Progress → Performed
+makeOut σ x b s = cond (ltb (length (σ .objects)) maximumObjects) (Done (completion.Value (named b (length (σ .objects)))) (write.NewObject x b) s) (Failed (Refused 7) s)
 
-abbrev pub makeObjectOut : Store → Value → Progress → Performed
-makeObjectOut σ v s = makeOut σ (Ordinary (record { prototype = v; extensible = true })) s
+abbrev pub makeObjectOut : Store → Value → Bool → Progress → Performed
+makeObjectOut σ v b s = makeOut σ (Ordinary (record { prototype = v; extensible = true })) b s
 
 abbrev pub makeProxyOut : Store → ℕ → Value → Progress → Performed
-makeProxyOut σ o mask s = makeOut σ (Proxy (record { target = o; traps = naturalOf mask; revoked = false })) s
+makeProxyOut σ o mask s = makeOut σ (Proxy (record { target = o; traps = naturalOf mask; revoked = false })) false s
 
 abbrev pub revocation : ℕ → Object → Write
 revocation o (Ordinary r) = write.Nothing

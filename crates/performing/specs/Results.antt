@@ -3,7 +3,7 @@ use Prim.Native.Nat.{ℕ, _<_, _≤_, _^_}
 use mathlib.Core.Bool.{Bool, _||_}
 use mathlib.Core.List.{List}
 use lib.ListN.{length}
-use lib.Dec.{eqb}
+use lib.Dec.{eqb, ltb}
 use Rattle.value.specs.declared.Value.the-variants as language
 use Rattle.value.specs.PropertyKey.{keyOf}
 use Rattle.property.specs.declared.OwnProperty.{OwnProperty}
@@ -37,6 +37,10 @@ pub record Performable (words cells : List ℕ) (allowance : ℕ) (bytes : List 
 -- the codes of the methods that write nothing and list no keys
 unfoldable pub isReading : ℕ → Bool
 isReading code = eqb code 4 || (eqb code 6 || (eqb code 8 || (eqb code 10 || eqb code 11)))
+
+-- the codes that make or revoke an object
+abbrev pub isCreation : ℕ → Bool
+isCreation code = ltb code 4 || eqb code 16
 
 abbrev pub valueResult : ValueOut → Performed
 valueResult (value.Failed f s) = Failed f s

@@ -1,4 +1,4 @@
-// Making objects and proxies, and revoking a proxy: the operations that make no calls.
+// Making objects, functions and proxies, and revoking a proxy: the operations that make no calls.
 use calls::Progress;
 use internal_methods::Failure;
 use reporting::Performed;
@@ -11,41 +11,51 @@ use store_write::Write;
 use value::Value;
 ghost use mathlib.Core.Path.{_≡_};
 ghost use mathlib.Core.Bool.{true};
-ghost use Rattle.store.specs.Store.{lookup};
+ghost use Rattle.store.specs.Store.{named, lookup};
 ghost use Rattle.store.specs.Words.{isStore, storeOf};
 ghost use Rattle.steps.specs.Operation.{naturalNumber, naturalOf};
 ghost use Rattle.reporting.specs.Performed.{Taken};
 ghost use Rattle.performing.specs.Creation.{makeOut, makeObjectOut, makeProxyOut, revokeOut, revocation};
 
+// The value that names an object.
+fn named(callable: bool, o: u64) -> Value
+    ensures { λ r. ⌜ r ≡ named callable o ⌝ }
+{
+    if callable {
+        return Value::Function(o);
+    }
+    Value::Object(o)
+}
+
 // An object has the next number, if there is one.
-fn make(words: &[u64], x: Object, s: Progress) -> Performed
+fn make(words: &[u64], x: Object, callable: bool, s: Progress) -> Performed
     requires { ⌜ isStore (now words) ≡ true ⌝ }
-    ensures { λ r. ⌜ r ≡ makeOut (storeOf (now (words .entry))) x s ⌝ }
+    ensures { λ r. ⌜ r ≡ makeOut (storeOf (now (words .entry))) x callable s ⌝ }
     ensures { λ r. ⌜ Taken (now (words .entry)) r ⌝ }
 {
     let n = store_read::object_count(words);
     if n < 32 {
         let number = n as u64;
         return Performed::Done(
-            Completion::Value(Value::Object(number)),
-            Write::NewObject(x),
+            Completion::Value(named(callable, number)),
+            Write::NewObject(x, callable),
             s,
         );
     }
     Performed::Failed(Failure::Refused(7), s)
 }
 
-// Code 1: an ordinary object
-pub fn make_object(words: &[u64], prototype: Value, s: Progress) -> Performed
+// Codes 1 and 16: an ordinary object, callable or not
+pub fn make_object(words: &[u64], prototype: Value, callable: bool, s: Progress) -> Performed
     requires { ⌜ isStore (now words) ≡ true ⌝ }
-    ensures { λ r. ⌜ r ≡ makeObjectOut (storeOf (now (words .entry))) prototype s ⌝ }
+    ensures { λ r. ⌜ r ≡ makeObjectOut (storeOf (now (words .entry))) prototype callable s ⌝ }
     ensures { λ r. ⌜ Taken (now (words .entry)) r ⌝ }
 {
     let object = OrdinaryObject {
         prototype,
         extensible: true,
     };
-    make(words, Object::Ordinary(object), s)
+    make(words, Object::Ordinary(object), callable, s)
 }
 
 fn natural_number(n: i32) -> u64
@@ -78,7 +88,7 @@ pub fn make_proxy(words: &[u64], target: u64, mask: Value, s: Progress) -> Perfo
         traps: natural_of(mask),
         revoked: false,
     };
-    make(words, Object::Proxy(proxy), s)
+    make(words, Object::Proxy(proxy), false, s)
 }
 
 // The write that revokes a proxy.

@@ -8,6 +8,7 @@ use lib.IntN.{ℤ, pos, negsuc}
 use lib.ListN.{length}
 use Rattle.value.specs.declared.Value.{Value}
 use Rattle.value.specs.declared.Value.the-variants.{Undefined, Null, Boolean, Integer32, Float64, String, Symbol, Object, Function}
+use Rattle.value.specs.Bits.{bit}
 use Rattle.value.specs.PropertyKey.{keyOf}
 use Rattle.value.specs.Words.{kindOf}
 use Rattle.record.specs.declared.Step.{Step}
@@ -29,14 +30,17 @@ stepOf bytes = record {
 }
 
 -- the codes, by the parts that they use
+abbrev pub makesOrdinary : ℕ → Bool
+makesOrdinary code = eqb code 1 || eqb code 16
+
 abbrev pub usesObject : ℕ → Bool
-usesObject code = not (eqb code 1)
+usesObject code = not (makesOrdinary code)
 
 abbrev pub usesKey : ℕ → Bool
 usesKey code = leb 8 code && leb code 13
 
 abbrev pub usesPrototype : ℕ → Bool
-usesPrototype code = eqb code 1 || eqb code 5
+usesPrototype code = makesOrdinary code || eqb code 5
 
 abbrev pub usesMask : ℕ → Bool
 usesMask code = eqb code 2
@@ -70,7 +74,7 @@ abbrev pub unless : Bool → Bool → Bool
 unless used test = not used || test
 
 abbrev pub isCode : ℕ → Bool
-isCode code = (leb 1 code && leb code 14) || usesLevel code
+isCode code = (leb 1 code && leb code 14) || (eqb code 16 || usesLevel code)
 
 -- the object, the values and the descriptor, each zero where the code does not use it
 abbrev pub isObjectFormed : ℕ → ℕ → Bool
@@ -114,7 +118,7 @@ isSome none = false
 isSome (some a) = true
 
 abbrev pub isNullOrObject : Value → Bool
-isNullOrObject v = eqb (kindOf v) 1 || eqb (kindOf v) 7
+isNullOrObject v = eqb (kindOf v) 1 || (eqb (kindOf v) 7 || eqb (kindOf v) 8)
 
 -- the kinds that each code asks for
 abbrev pub isKeyUsable : Step → Bool
@@ -133,14 +137,15 @@ isLevelUsable s = unless (usesLevel (s .code)) (eqb (kindOf (s .value)) 3)
 abbrev pub isObjectUsable : Bool → Step → Bool
 isObjectUsable proxy s = unless (eqb (s .code) 3) proxy
 
-abbrev pub isReceiverUsable : Step → Bool
-isReceiverUsable s = unless (usesReceiver (s .code)) (not (eqb (kindOf (s .receiver)) 8))
+-- a proxy is over no function
+abbrev pub isTargetUsable : Counts → Step → Bool
+isTargetUsable n s = unless (usesMask (s .code)) (not (bit (n .callable) (s .object)))
 
 -- refusal 3 over the step: known numbers, and kinds that the step can use
 unfoldable pub areKindsUsable : Bool → Counts → Step → Bool
 areKindsUsable proxy n s =
     stepPasses (isKnown n) s
-    && (isKeyUsable s && (isPrototypeUsable s && (isMaskUsable s && (isLevelUsable s && (isObjectUsable proxy s && isReceiverUsable s)))))
+    && (isKeyUsable s && (isPrototypeUsable s && (isMaskUsable s && (isLevelUsable s && (isObjectUsable proxy s && isTargetUsable n s)))))
 
 -- the 58 bytes of a step
 unfoldable pub stepBytes : Step → List ℕ

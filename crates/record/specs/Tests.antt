@@ -4,6 +4,7 @@ use mathlib.Core.Option.{Option, none, some}
 use mathlib.Core.List.{List, [], _∷_}
 use mathlib.Core.Bool.{Bool, true, false, not, _&&_, _||_}
 use lib.Dec.{ltb}
+use Rattle.value.specs.Bits.{bit}
 use Rattle.value.specs.declared.Value.{Value}
 use Rattle.value.specs.declared.Value.the-variants.{Undefined, Null, Boolean, Integer32, Float64, String, Symbol, Object, Function}
 use Rattle.property.specs.declared.Field.{Field}
@@ -16,11 +17,11 @@ use Rattle.record.specs.declared.Test.the-variants.{Made, Known}
 use Rattle.record.specs.declared.Refusal.{Refusal}
 use Rattle.record.specs.declared.Refusal.the-variants.{Passed, Failed}
 
--- how many objects and strings there are
+-- how many objects and strings there are, and which objects are callable
 abbrev pub Counts : Type 0
 Counts = counts.Counts
 
--- refusal 2 unless the object that a value names is there
+-- refusal 2 unless the object or function that a value names is there
 unfoldable pub isMade : Counts → Value → Bool
 isMade n Undefined = true
 isMade n Null = true
@@ -30,9 +31,9 @@ isMade n (Float64 x) = true
 isMade n (String s) = true
 isMade n (Symbol s) = true
 isMade n (Object o) = ltb o (n .objects)
-isMade n (Function f) = true
+isMade n (Function f) = ltb f (n .objects)
 
--- refusal 3 unless a string is in the table, and a symbol or a function one of the 256
+-- refusal 3 unless a string is in the table, a symbol one of the 256, and what is named as a function callable, and as an object not
 unfoldable pub isKnown : Counts → Value → Bool
 isKnown n Undefined = true
 isKnown n Null = true
@@ -41,8 +42,8 @@ isKnown n (Integer32 i) = true
 isKnown n (Float64 x) = true
 isKnown n (String s) = ltb s (n .strings)
 isKnown n (Symbol s) = ltb s 256
-isKnown n (Object o) = true
-isKnown n (Function f) = ltb f 256
+isKnown n (Object o) = not (bit (n .callable) o)
+isKnown n (Function f) = bit (n .callable) f
 
 -- what refusals 2 and 3 ask of each value
 abbrev pub asks : Test → Counts → Value → Bool

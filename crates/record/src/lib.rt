@@ -11,10 +11,11 @@ pub struct Step {
     pub descriptor: DescriptorObject,
 }
 
-// How many objects and strings there are.
+// How many objects and strings there are, and which objects are callable: bit o for object o.
 pub struct Counts {
     pub objects: u64,
     pub strings: u64,
+    pub callable: u64,
 }
 
 // The number of the first test that does not pass, if there is one.

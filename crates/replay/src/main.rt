@@ -183,7 +183,7 @@ fn turn(
 }
 
 fn main() {
-    let mut words = [0u64; 1634];
+    let mut words = [0u64; 1635];
     let mut strings = [0u16; 8449];
     let mut text = io::large_buffer();
     let mut output = io::buffer();

@@ -174,9 +174,11 @@ fn put_entries(out: &mut [u8], at: usize, words: &[u64], strings: &[u16], o: u64
     next
 }
 
-fn put_ordinary(out: &mut [u8], at: usize, r: OrdinaryObject) -> usize {
+// Callable, extensible, and the prototype.
+fn put_ordinary(out: &mut [u8], at: usize, callable: bool, r: OrdinaryObject) -> usize {
     let prototype = r.prototype;
-    let next = put_byte(out, at, bits::weight(r.extensible, 1));
+    let first = put_byte(out, at, bits::weight(callable, 1));
+    let next = put_byte(out, first, bits::weight(r.extensible, 1));
     put_value(out, next, prototype)
 }
 
@@ -188,7 +190,8 @@ fn put_object(out: &mut [u8], at: usize, words: &[u64], strings: &[u16], o: u64)
         ObjectFound::Made(made) => match made {
             Object::Proxy(_) => put_byte(out, at, 2),
             Object::Ordinary(r) => {
-                let next = put_ordinary(out, at, r);
+                let callable = bits::bit(store_read::callable(words), o);
+                let next = put_ordinary(out, at, callable, r);
                 put_entries(out, next, words, strings, o)
             }
         },

@@ -47,12 +47,12 @@ module _ (p : ℕ) where
       refl refl refl (three (λ t v. false ≡ isSome (keyOf v)) refl refl) refl refl refl refl refl
       (λ k h. rw (above k p h, ne-eqb k 5 (λ e. omega arith), ne-eqb k 6 (λ e. omega arith)))
 
-  pub prototype-kind : (k : ℕ) → (eqb k 1 || eqb k 7) ≡ isNullOrObject (valueOf k p)
+  pub prototype-kind : (k : ℕ) → (eqb k 1 || (eqb k 7 || eqb k 8)) ≡ isNullOrObject (valueOf k p)
   unfolding valueOf
   prototype-kind =
-      by-kind (λ k. (eqb k 1 || eqb k 7) ≡ isNullOrObject (valueOf k p))
+      by-kind (λ k. (eqb k 1 || (eqb k 7 || eqb k 8)) ≡ isNullOrObject (valueOf k p))
       refl refl refl (three (λ t v. false ≡ isNullOrObject v) refl refl) refl refl refl refl refl
-      (λ k h. rw (above k p h, ne-eqb k 1 (λ e. omega arith), ne-eqb k 7 (λ e. omega arith)))
+      (λ k h. rw (above k p h, ne-eqb k 1 (λ e. omega arith), ne-eqb k 7 (λ e. omega arith), ne-eqb k 8 (λ e. omega arith)))
 
   pub integer-kind : (k : ℕ) → (eqb k 3 && ltb p 4294967296) ≡ eqb (kindOf (valueOf k p)) 3
   unfolding valueOf
@@ -60,13 +60,6 @@ module _ (p : ℕ) where
       by-kind (λ k. (eqb k 3 && ltb p 4294967296) ≡ eqb (kindOf (valueOf k p)) 3)
       refl refl refl (three (λ t v. t ≡ eqb (kindOf v) 3) refl refl) refl refl refl refl refl
       (λ k h. rw (above k p h, ne-eqb k 3 (λ e. omega arith)))
-
-  pub function-kind : (k : ℕ) → eqb k 8 ≡ eqb (kindOf (valueOf k p)) 8
-  unfolding valueOf
-  function-kind =
-      by-kind (λ k. eqb k 8 ≡ eqb (kindOf (valueOf k p)) 8)
-      refl refl refl (three (λ t v. false ≡ eqb (kindOf v) 8) refl refl) refl refl refl refl refl
-      (λ k h. rw (above k p h, ne-eqb k 8 (λ e. omega arith)))
 
   -- an Integer32 that is at most `most`
   module _ (most : ℕ) where

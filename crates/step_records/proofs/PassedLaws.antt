@@ -2,13 +2,13 @@
 use Prim.Native.Nat.{ℕ, _<_, _≤_, _^_}
 use native.Mathlib.Omega.{arith}
 use mathlib.Core.Path.{_≡_, refl}
-use mathlib.Core.Bool.{Bool, true, false, _&&_}
+use mathlib.Core.Bool.{Bool, true, false, _&&_, _||_}
 use mathlib.Core.Option.{none}
 use mathlib.Core.List.{List, _∷_}
-use lib.Dec.{eqb, leb}
+use lib.Dec.{eqb, leb, ltb}
 use lib.ListN.{length}
-use borrow.Author.Tests.{ltb-true, leb-true, eqb-true}
-use Rattle.value.proofs.Bools.{and-true, or-cases}
+use borrow.Author.Tests.{ltb-true, leb-true, eqb-true, eqb-false}
+use Rattle.value.proofs.Bools.{and-true, or-false, or-cases}
 use Rattle.value.specs.declared.Value.{Value}
 use Rattle.value.specs.declared.Value.the-variants.{Undefined, Null, Boolean, Integer32, Float64, String, Symbol, Object, Function}
 use Rattle.value.specs.PropertyKey.{keyOf}
@@ -44,12 +44,14 @@ known-key n (Symbol s) h e = omega (arith, ltb-true s 256 e)
 known-key n (Object o) h e = omega arith
 known-key n (Function f) h e = omega arith
 
--- the codes that are left
-below : (c : ℕ) → isCode c ≡ true → (c ≡ 14 → ⊥) → (c ≡ 18 → ⊥) → (c ≡ 19 → ⊥) → (1 ≤ c) × (c < 14)
+-- the codes that are left: 1 to 13, and 16, which makes a function
+below : (c : ℕ) → isCode c ≡ true → (c ≡ 14 → ⊥) → (c ≡ 18 → ⊥) → (c ≡ 19 → ⊥) → (1 ≤ c) × ((ltb c 4 || eqb c 16) ≡ false → c < 14)
 below c e n14 n18 n19 =
-    or-cases (leb 1 c && leb c 14) (usesLevel c) e
-    (λ h. let p = and-true (leb 1 c) (leb c 14) h in (leb-true 1 c (p .0), omega (arith, leb-true c 14 (p .1), n14)))
-    (λ h. absurd (or-cases (eqb c 18) (eqb c 19) h (λ q. n18 (eqb-true c 18 q)) (λ q. n19 (eqb-true c 19 q))))
+    or-cases (leb 1 c && leb c 14) (eqb c 16 || usesLevel c) e
+    (λ h. let p = and-true (leb 1 c) (leb c 14) h in (leb-true 1 c (p .0), λ f. omega (arith, leb-true c 14 (p .1), n14)))
+    (λ h. or-cases (eqb c 16) (usesLevel c) h
+    (λ q. let s = eqb-true c 16 q in (omega arith, λ f. absurd (eqb-false c 16 (or-false (ltb c 4) (eqb c 16) f .1) s)))
+    (λ q. absurd (or-cases (eqb c 18) (eqb c 19) q (λ t. n18 (eqb-true c 18 t)) (λ t. n19 (eqb-true c 19 t)))))
 
 module _ (ω : World) (bytes sheet : List ℕ) (h : firstFailing (recordTests ω bytes sheet) ≡ none) where
   pub step-formed : isStep bytes ≡ true
@@ -70,7 +72,7 @@ module _ (ω : World) (bytes sheet : List ℕ) (h : firstFailing (recordTests ω
   code-formed = and-true (isCode (byteAt bytes 0)) _ (and-true (eqb (length bytes) 58) _ step-formed .1) .0
 
   -- a code that neither lists keys nor uses a level
-  pub other-code : (byteAt bytes 0 ≡ 14 → ⊥) → (byteAt bytes 0 ≡ 18 → ⊥) → (byteAt bytes 0 ≡ 19 → ⊥) → (1 ≤ byteAt bytes 0) × (byteAt bytes 0 < 14)
+  pub other-code : (byteAt bytes 0 ≡ 14 → ⊥) → (byteAt bytes 0 ≡ 18 → ⊥) → (byteAt bytes 0 ≡ 19 → ⊥) → (1 ≤ byteAt bytes 0) × ((ltb (byteAt bytes 0) 4 || eqb (byteAt bytes 0) 16) ≡ false → byteAt bytes 0 < 14)
   other-code = below (byteAt bytes 0) code-formed
 
   pub sheet-there : 0 < length sheet

@@ -2,7 +2,7 @@
 use Prim.Native.Nat.{ℕ, _+_, _-_, _<_, _≤_}
 use native.Mathlib.Omega.{arith}
 use mathlib.Core.Path.{_≡_, refl, sym, ap, _∙_}
-use mathlib.Core.Bool.{Bool, true, false, cond, not, _&&_, _||_, and-assoc, and-comm}
+use mathlib.Core.Bool.{Bool, true, false, cond, not, Bool·beq, _&&_, _||_, and-assoc, and-comm}
 use mathlib.Core.Bool as bool
 use mathlib.Core.Logic.{_⊎_, inl, inr, ⊎-elim}
 use mathlib.Core.List.{List}
@@ -10,6 +10,7 @@ use lib.Dec.{eqb, ltb}
 use lib.ListN.{length}
 use borrow.Author.Tests.{eq-eqb, ne-eqb, eqb-true, eqb-false, ltb-true, ltb-false, le-ltb, le-leb, lt-leb}
 use Rattle.value.proofs.Bools.{and-true}
+use Rattle.value.specs.Bits.{bit}
 use Rattle.value.specs.PropertyKey.{keyOf}
 use Rattle.value.specs.Words.{kindOf, valueOf, isFormed}
 use Rattle.record.specs.Bytes.{byteAt, numberAt, areZero, valueAt, isValueAt, isPartAt}
@@ -17,10 +18,10 @@ use Rattle.record.specs.Descriptor.{descriptorAt, isDescriptorAt}
 use Rattle.record.specs.Tests.{Counts, isMade, isKnown, descriptorPasses}
 use Rattle.record.specs.Step.{stepOf, usesObject, usesKey, usesPrototype, usesMask, usesLevel, usesValue, usesReceiver, unless, isCode, isObjectFormed, isDescriptorFormed, isMaskFormed, isLevelFormed, isStep, areObjectsMade, isSome, isNullOrObject, isAtMostIfInteger32, areKindsUsable}
 use Rattle.byte_records.proofs.ByteLaws.{zero-number, zero-join}
-use Rattle.step_records.specs.Refusals.{first, earlier, valueRefusal, partRefusal, objectRefusal, keyRefusal, prototypeRefusal, boundedRefusal, receiverRefusal, descriptorRefusal, stepRefusal}
+use Rattle.step_records.specs.Refusals.{first, earlier, namedRefusal, valueRefusal, partRefusal, objectRefusal, keyRefusal, prototypeRefusal, boundedRefusal, descriptorRefusal, stepRefusal}
 use Rattle.step_records.proofs.RefusalLaws.{earlier-first, first-least, first-most, by-form, earlier-left, earlier-right}
-use Rattle.step_records.proofs.ValueLaws.{refusal-0, refusal-1, refusal-5, refusal-6, refusal-7, zero-byte, no-fields, part-zero, part-nonzero}
-use Rattle.step_records.proofs.KindLaws.{key-kind, prototype-kind, integer-kind, function-kind, small-integer, no-integer}
+use Rattle.step_records.proofs.ValueLaws.{refusal-0, refusal-1, refusal-5, refusal-6, refusal-named, zero-byte, no-fields, part-zero, part-nonzero}
+use Rattle.step_records.proofs.KindLaws.{key-kind, prototype-kind, integer-kind, small-integer, no-integer}
 
 -- bytes that are zero, a word at a time: from `at` to i, and to 58
 
@@ -55,9 +56,6 @@ module _ (b : List ℕ) (at : ℕ) where
 -- a value of kind k with payload p, by the kinds that it may have
 
 module _ (n : Counts) (k p : ℕ) where
-  usable : (u : Bool) → u ≡ true → valueRefusal n k p ≡ first (isFormed k p) (isMade n (valueOf k p)) (u && isKnown n (valueOf k p))
-  usable u e = rw e
-
   unusable : (u : Bool) → u ≡ false → earlier 3 (valueRefusal n k p) ≡ first (isFormed k p) (isMade n (valueOf k p)) (u && isKnown n (valueOf k p))
   unusable u e = rw e (earlier-first true true false (isFormed k p) (isMade n (valueOf k p)) (isKnown n (valueOf k p)))
 
@@ -95,13 +93,14 @@ module _ (n : Counts) (b : List ℕ) (k p : ℕ) where
     unfolding valueAt isValueAt valueOf
     prototype-null h = rw (← e, ← f, h) (refusal-1 n p)
 
-    pub prototype-object : k ≡ 7 → cond (ltb p (n .objects)) 4 2 ≡ prototypeRefusal n b
+    pub prototype-named : (callable : Bool) → k ≡ cond callable 8 7 → namedRefusal n p callable ≡ prototypeRefusal n b
     unfolding valueAt isValueAt valueOf
-    prototype-object h = rw (← e, ← f, h) (refusal-7 n p)
+    prototype-named true h = rw (← e, ← f, h) (refusal-named n p true)
+    prototype-named false h = rw (← e, ← f, h) (refusal-named n p false)
 
-    pub prototype-other : (k ≡ 1 → ⊥) → (k ≡ 7 → ⊥) → earlier 3 (valueRefusal n k p) ≡ prototypeRefusal n b
+    pub prototype-other : (k ≡ 1 → ⊥) → (k ≡ 7 → ⊥) → (k ≡ 8 → ⊥) → earlier 3 (valueRefusal n k p) ≡ prototypeRefusal n b
     unfolding valueAt isValueAt
-    prototype-other s t = rw (← e, ← f) (unusable n k p (isNullOrObject (valueOf k p)) (sym (prototype-kind p k) ∙ neither k 1 7 s t))
+    prototype-other s t u = rw (← e, ← f) (unusable n k p (isNullOrObject (valueOf k p)) (sym (prototype-kind p k) ∙ rw (ne-eqb k 1 s) (neither k 7 8 t u)))
 
     module _ (most : ℕ) where
       pub bounded-integer : most < 2147483648 → k ≡ 3 → cond (ltb p (most + 1)) 4 1 ≡ boundedRefusal most n b
@@ -112,34 +111,25 @@ module _ (n : Counts) (b : List ℕ) (k p : ℕ) where
       unfolding valueAt isValueAt
       bounded-other s = rw (← e, ← f, ← no-integer p most k s) (unusable n k p (eqb (kindOf (valueOf k p)) 3) (sym (integer-kind p k) ∙ rw (ne-eqb k 3 s)))
 
-  module _ (e : k ≡ byteAt b 20) (f : p ≡ numberAt b 21 8) where
-    pub receiver-function : k ≡ 8 → 3 ≡ receiverRefusal n b
-    unfolding valueAt isValueAt valueOf isFormed isMade
-    receiver-function h = rw (← e, ← f, h)
-
-    pub receiver-other : (k ≡ 8 → ⊥) → valueRefusal n k p ≡ receiverRefusal n b
-    unfolding valueAt isValueAt
-    receiver-other s = rw (← e, ← f) (usable n k p (not (eqb (kindOf (valueOf k p)) 8)) (rw (← function-kind p k, ne-eqb k 8 s)))
-
 past-14 : (c : ℕ) → 13 ≤ c → (c ≡ 13 → ⊥) → (c ≡ 14 → ⊥) → 14 < c
 past-14 c h s t = omega arith
 
 -- no code
 module _ (c : ℕ) where
   pub code-low : c < 1 → isCode c ≡ false
-  code-low h = rw (lt-leb 1 c h, ne-eqb c 18 (λ e. omega arith), ne-eqb c 19 (λ e. omega arith))
+  code-low h = rw (lt-leb 1 c h, ne-eqb c 16 (λ e. omega arith), ne-eqb c 18 (λ e. omega arith), ne-eqb c 19 (λ e. omega arith))
 
-  above-14 : 14 < c → (c ≡ 18 → ⊥) → (c ≡ 19 → ⊥) → isCode c ≡ false
-  above-14 h s t = rw (le-leb 1 c (omega arith), lt-leb c 14 h, ne-eqb c 18 s, ne-eqb c 19 t)
+  above-14 : 14 < c → (c ≡ 16 → ⊥) → (c ≡ 18 → ⊥) → (c ≡ 19 → ⊥) → isCode c ≡ false
+  above-14 h r s t = rw (le-leb 1 c (omega arith), lt-leb c 14 h, ne-eqb c 16 r, ne-eqb c 18 s, ne-eqb c 19 t)
 
-  pub code-middle : ((c ≡ 4) ⊎ (c ≡ 14) → ⊥) → ((c ≡ 8) ⊎ ((c ≡ 10) ⊎ (c ≡ 13)) → ⊥) → (c ≡ 9 → ⊥) → (c ≡ 11 → ⊥) → (c ≡ 12 → ⊥) → 8 ≤ c → c < 18 → isCode c ≡ false
-  code-middle n4 n8 n9 n11 n12 h l =
+  pub code-middle : ((c ≡ 1) ⊎ (c ≡ 16) → ⊥) → ((c ≡ 4) ⊎ (c ≡ 14) → ⊥) → ((c ≡ 8) ⊎ ((c ≡ 10) ⊎ (c ≡ 13)) → ⊥) → (c ≡ 9 → ⊥) → (c ≡ 11 → ⊥) → (c ≡ 12 → ⊥) → 8 ≤ c → c < 18 → isCode c ≡ false
+  code-middle n1 n4 n8 n9 n11 n12 h l =
       let n8' : c ≡ 8 → ⊥ = λ e. n8 (inl e) in
       let n10 : c ≡ 10 → ⊥ = λ e. n8 (inr (inl e)) in
-      above-14 (past-14 c (omega arith) (λ e. n8 (inr (inr e))) (λ e. n4 (inr e))) (λ e. omega arith) (λ e. omega arith)
+      above-14 (past-14 c (omega arith) (λ e. n8 (inr (inr e))) (λ e. n4 (inr e))) (λ e. n1 (inr e)) (λ e. omega arith) (λ e. omega arith)
 
   pub code-high : 20 ≤ c → isCode c ≡ false
-  code-high h = above-14 (omega arith) (λ e. omega arith) (λ e. omega arith)
+  code-high h = above-14 (omega arith) (λ e. omega arith) (λ e. omega arith) (λ e. omega arith)
 
 -- the parts of a step by its code
 
@@ -151,7 +141,7 @@ and-left-comm false false z = refl
 formed : (o k v r d m l : Bool) → (o && (k && ((m && (l && v)) && (r && d)))) ≡ (o && ((k && (v && r)) && (d && (m && l))))
 formed o k v r d m l = simp (and-assoc, and-comm, and-left-comm)
 
-known : (k v r d i j m l o w : Bool) → (o && ((i && k) && ((j && (m && (l && v))) && ((w && r) && d)))) ≡ ((k && (v && (r && d))) && (i && (j && (m && (l && (o && w))))))
+known : (k v r d i j m l o w : Bool) → ((w && o) && ((i && k) && ((j && (m && (l && v))) && (r && d)))) ≡ ((k && (v && (r && d))) && (i && (j && (m && (l && (o && w))))))
 known k v r d i j m l o w = simp (and-assoc, and-comm, and-left-comm)
 
 same : (a p b c r : Bool) → a ≡ p → c ≡ r → first a b c ≡ first p b r
@@ -212,9 +202,13 @@ revoked true false = refl
 revoked false true = refl
 revoked false false = refl
 
+unmarked : (b : Bool) → Bool·beq b false ≡ (not b && true)
+unmarked true = refl
+unmarked false = refl
+
 module _ (proxy : Bool) (n : Counts) (b : List ℕ) where
   abbrev object : ℕ → ℕ
-  object c = first (isObjectFormed c (byteAt b 1)) (unless (usesObject c) (ltb (byteAt b 1) (n .objects))) (unless (eqb c 3) proxy)
+  object c = first (isObjectFormed c (byteAt b 1)) (unless (usesObject c) (ltb (byteAt b 1) (n .objects))) (unless (usesMask c) (not (bit (n .callable) (byteAt b 1))) && unless (eqb c 3) proxy)
 
   abbrev key : ℕ → ℕ
   key c = first (isPartAt (usesKey c) b 2) (isMade n (valueAt b 2)) (unless (usesKey c) (isSome (keyOf (valueAt b 2))) && isKnown n (valueAt b 2))
@@ -222,14 +216,11 @@ module _ (proxy : Bool) (n : Counts) (b : List ℕ) where
   abbrev value : ℕ → ℕ
   value c = first (isMaskFormed c b && (isLevelFormed c b && isPartAt (usesValue c) b 11)) (isMade n (valueAt b 11)) (unless (usesPrototype c) (isNullOrObject (valueAt b 11)) && (unless (usesMask c) (eqb (kindOf (valueAt b 11)) 3) && (unless (usesLevel c) (eqb (kindOf (valueAt b 11)) 3) && isKnown n (valueAt b 11))))
 
-  abbrev receiver : ℕ → ℕ
-  receiver c = first (isPartAt (usesReceiver c) b 20) (isMade n (valueAt b 20)) (unless (usesReceiver c) (not (eqb (kindOf (valueAt b 20)) 8)) && isKnown n (valueAt b 20))
-
   abbrev descriptor : ℕ → ℕ
   descriptor c = first (isDescriptorFormed c b) (descriptorPasses (isMade n) (descriptorAt b 29)) (descriptorPasses (isKnown n) (descriptorAt b 29))
 
   abbrev whole : ℕ → ℕ
-  whole c = earlier (object c) (earlier (key c) (earlier (value c) (earlier (receiver c) (descriptor c))))
+  whole c = earlier (object c) (earlier (key c) (earlier (value c) (earlier (partRefusal (usesReceiver c) n b 20) (descriptor c))))
 
   pub no-length : (length b ≡ 58 → ⊥) → 1 ≡ stepRefusal proxy n b
   unfolding isStep
@@ -246,7 +237,7 @@ module _ (proxy : Bool) (n : Counts) (b : List ℕ) where
         (same _ _ _ _ _
         (formed (isObjectFormed c (byteAt b 1)) (isPartAt (usesKey c) b 2) (isPartAt (usesValue c) b 11) (isPartAt (usesReceiver c) b 20) (isDescriptorFormed c b) (isMaskFormed c b) (isLevelFormed c b))
         (known (isKnown n (valueAt b 2)) (isKnown n (valueAt b 11)) (isKnown n (valueAt b 20)) (descriptorPasses (isKnown n) (descriptorAt b 29))
-        (unless (usesKey c) (isSome (keyOf (valueAt b 2)))) (unless (usesPrototype c) (isNullOrObject (valueAt b 11))) (unless (usesMask c) (eqb (kindOf (valueAt b 11)) 3)) (unless (usesLevel c) (eqb (kindOf (valueAt b 11)) 3)) (unless (eqb c 3) proxy) (unless (usesReceiver c) (not (eqb (kindOf (valueAt b 20)) 8)))))
+        (unless (usesKey c) (isSome (keyOf (valueAt b 2)))) (unless (usesPrototype c) (isNullOrObject (valueAt b 11))) (unless (usesMask c) (eqb (kindOf (valueAt b 11)) 3)) (unless (usesLevel c) (eqb (kindOf (valueAt b 11)) 3)) (unless (eqb c 3) proxy) (unless (usesMask c) (not (bit (n .callable) (byteAt b 1))))))
 
   -- the parts that are not used, by the runs of bytes that are zero
 
@@ -285,11 +276,8 @@ module _ (proxy : Bool) (n : Counts) (b : List ℕ) where
   in-bounded : (most : ℕ) → In (boundedRefusal most n b)
   in-bounded most = in-first (isAtMostIfInteger32 most (valueAt b 11) && isValueAt b 11) (isMade n (valueAt b 11)) (eqb (kindOf (valueAt b 11)) 3 && isKnown n (valueAt b 11))
 
-  in-value : In (partRefusal true n b 11)
-  in-value = in-first (isPartAt true b 11) (isMade n (valueAt b 11)) (isKnown n (valueAt b 11))
-
-  in-receiver : In (receiverRefusal n b)
-  in-receiver = in-first (isValueAt b 20) (isMade n (valueAt b 20)) (not (eqb (kindOf (valueAt b 20)) 8) && isKnown n (valueAt b 20))
+  in-value : (i : ℕ) → In (partRefusal true n b i)
+  in-value i = in-first (isPartAt true b i) (isMade n (valueAt b i)) (isKnown n (valueAt b i))
 
   in-descriptor : In (descriptorRefusal n b 29)
   in-descriptor = in-first (isDescriptorAt b 29) (descriptorPasses (isMade n) (descriptorAt b 29)) (descriptorPasses (isKnown n) (descriptorAt b 29))
@@ -307,15 +295,19 @@ module _ (proxy : Bool) (n : Counts) (b : List ℕ) where
     like : (m d : ℕ) → Like m d → c ≡ m → Like c d
     like m d h e = rw e h
 
+    creation-codes : (c ≡ 1) ⊎ (c ≡ 16) → Like c 1
+    creation-codes = ⊎-elim (like 1 1 (refl, refl)) (like 16 1 (refl, refl))
+
     object-codes : (c ≡ 4) ⊎ (c ≡ 14) → Like c 4
     object-codes = ⊎-elim (like 4 4 (refl, refl)) (like 14 4 (refl, refl))
 
-    object-range : (c ≡ 1 → ⊥) → (c ≡ 2 → ⊥) → (c ≡ 3 → ⊥) → (c ≡ 5 → ⊥) → ((c ≡ 4) ⊎ (c ≡ 14) → ⊥) → 1 ≤ c → c < 8 → Like c 4
+    object-range : ((c ≡ 1) ⊎ (c ≡ 16) → ⊥) → (c ≡ 2 → ⊥) → (c ≡ 3 → ⊥) → (c ≡ 5 → ⊥) → ((c ≡ 4) ⊎ (c ≡ 14) → ⊥) → 1 ≤ c → c < 8 → Like c 4
     object-range n1 n2 n3 n5 n4 h k = by (eqb c 6) refl
       where
         by : (t : Bool) → eqb c 6 ≡ t → Like c 4
         by true q = like 6 4 (refl, refl) (eqb-true c 6 q)
         by false q =
+            let n1' : c ≡ 1 → ⊥ = λ e. n1 (inl e) in
             let n4' : c ≡ 4 → ⊥ = λ e. n4 (inl e) in
             let n6 : c ≡ 6 → ⊥ = eqb-false c 6 q in
             like 7 4 (refl, refl) (omega arith)
@@ -347,7 +339,7 @@ module _ (proxy : Bool) (n : Counts) (b : List ℕ) where
     pub object-code : (c ≡ 4) ⊎ (c ≡ 14) → cond (areZero b 2 56) (objectRefusal n (byteAt b 1)) 1 ≡ stepRefusal proxy n b
     object-code h = by-object (object-codes c h)
 
-    pub object-range-code : (c ≡ 1 → ⊥) → (c ≡ 2 → ⊥) → (c ≡ 3 → ⊥) → (c ≡ 5 → ⊥) → ((c ≡ 4) ⊎ (c ≡ 14) → ⊥) → 1 ≤ c → c < 8
+    pub object-range-code : ((c ≡ 1) ⊎ (c ≡ 16) → ⊥) → (c ≡ 2 → ⊥) → (c ≡ 3 → ⊥) → (c ≡ 5 → ⊥) → ((c ≡ 4) ⊎ (c ≡ 14) → ⊥) → 1 ≤ c → c < 8
         → cond (areZero b 2 56) (objectRefusal n (byteAt b 1)) 1 ≡ stepRefusal proxy n b
     object-range-code n1 n2 n3 n5 n4 h k = by-object (object-range c n1 n2 n3 n5 n4 h k)
 
@@ -358,16 +350,20 @@ module _ (proxy : Bool) (n : Counts) (b : List ℕ) where
         (alone (first true (ltb (byteAt b 1) (n .objects)) proxy) (in-first true (ltb (byteAt b 1) (n .objects)) proxy)
         ∙ sym (rw (pull (cond proxy 4 3) (objectRefusal n (byteAt b 1)) (areZero b 2 56) (in-proxy proxy), revoked proxy (ltb (byteAt b 1) (n .objects)))))
 
-    pub creation-code : c ≡ 1 → cond (areZero b 2 9 && areZero b 20 38) (earlier (cond (ltb (byteAt b 1) 1) 4 1) (prototypeRefusal n b)) 1 ≡ stepRefusal proxy n b
+    pub creation-code : (c ≡ 1) ⊎ (c ≡ 16) → cond (areZero b 2 9 && areZero b 20 38) (earlier (cond (ltb (byteAt b 1) 1) 4 1) (prototypeRefusal n b)) 1 ≡ stepRefusal proxy n b
     unfolding isPartAt valueOf isFormed isMade isKnown
     creation-code h =
         rw (refusal-0 n (byteAt b 1))
-        (by-code 1 _ (same-code c 1 refl h)
+        (by-code 1 _ (creation-codes c h)
         (with-value (first (eqb (byteAt b 1) 0) true true) (prototypeRefusal n b) (in-first (eqb (byteAt b 1) 0) true true) in-prototype))
 
-    pub proxy-code : c ≡ 2 → cond (areZero b 2 9 && areZero b 20 38) (earlier (objectRefusal n (byteAt b 1)) (boundedRefusal 2047 n b)) 1 ≡ stepRefusal proxy n b
+    pub proxy-code : c ≡ 2 → cond (areZero b 2 9 && areZero b 20 38) (earlier (namedRefusal n (byteAt b 1) false) (boundedRefusal 2047 n b)) 1 ≡ stepRefusal proxy n b
     unfolding isPartAt
-    proxy-code h = by-code 2 _ (same-code c 2 refl h) (with-value (objectRefusal n (byteAt b 1)) (boundedRefusal 2047 n b) in-object (in-bounded 2047))
+    proxy-code h =
+        rw (unmarked (bit (n .callable) (byteAt b 1)))
+        (by-code 2 _ (same-code c 2 refl h)
+        (with-value (first true (ltb (byteAt b 1) (n .objects)) (not (bit (n .callable) (byteAt b 1)) && true)) (boundedRefusal 2047 n b)
+        (in-first true (ltb (byteAt b 1) (n .objects)) (not (bit (n .callable) (byteAt b 1)) && true)) (in-bounded 2047)))
 
     pub level-code : 18 ≤ c → c < 20 → cond (areZero b 2 9 && areZero b 20 38) (earlier (objectRefusal n (byteAt b 1)) (boundedRefusal 1 n b)) 1 ≡ stepRefusal proxy n b
     unfolding isPartAt
@@ -392,18 +388,18 @@ module _ (proxy : Bool) (n : Counts) (b : List ℕ) where
         rest : earlier (partRefusal false n b 11) (earlier (partRefusal false n b 20) (descriptorRefusal n b 29)) ≡ cond (areZero b 11 9 && areZero b 20 9) (descriptorRefusal n b 29) 1
         rest = rw (unused 11, unused 20) (before (areZero b 11 9) (areZero b 20 9) (descriptorRefusal n b 29) in-descriptor)
 
-    pub get-code : c ≡ 11 → cond (areZero b 11 9 && areZero b 29 29) (earlier (objectRefusal n (byteAt b 1)) (earlier (keyRefusal n b) (receiverRefusal n b))) 1 ≡ stepRefusal proxy n b
-    unfolding isPartAt
+    pub get-code : c ≡ 11 → cond (areZero b 11 9 && areZero b 29 29) (earlier (objectRefusal n (byteAt b 1)) (earlier (keyRefusal n b) (valueRefusal n (byteAt b 20) (numberAt b 21 8)))) 1 ≡ stepRefusal proxy n b
+    unfolding isPartAt isValueAt valueAt
     get-code h =
-        by-code 11 _ (same-code c 11 refl h) (pulls (objectRefusal n (byteAt b 1)) (keyRefusal n b) _ (receiverRefusal n b) (areZero b 11 9 && areZero b 29 29) in-object in-key rest)
+        by-code 11 _ (same-code c 11 refl h) (pulls (objectRefusal n (byteAt b 1)) (keyRefusal n b) _ (partRefusal true n b 20) (areZero b 11 9 && areZero b 29 29) in-object in-key rest)
       where
-        rest : earlier (partRefusal false n b 11) (earlier (receiverRefusal n b) (descriptor 0)) ≡ cond (areZero b 11 9 && areZero b 29 29) (receiverRefusal n b) 1
-        rest = rw (unused 11, tail29) (around (areZero b 11 9) (areZero b 29 29) (receiverRefusal n b) in-receiver)
+        rest : earlier (partRefusal false n b 11) (earlier (partRefusal true n b 20) (descriptor 0)) ≡ cond (areZero b 11 9 && areZero b 29 29) (partRefusal true n b 20) 1
+        rest = rw (unused 11, tail29) (around (areZero b 11 9) (areZero b 29 29) (partRefusal true n b 20) (in-value 20))
 
-    pub set-code : c ≡ 12 → cond (areZero b 29 29) (earlier (objectRefusal n (byteAt b 1)) (earlier (keyRefusal n b) (earlier (valueRefusal n (byteAt b 11) (numberAt b 12 8)) (receiverRefusal n b)))) 1 ≡ stepRefusal proxy n b
+    pub set-code : c ≡ 12 → cond (areZero b 29 29) (earlier (objectRefusal n (byteAt b 1)) (earlier (keyRefusal n b) (earlier (valueRefusal n (byteAt b 11) (numberAt b 12 8)) (valueRefusal n (byteAt b 20) (numberAt b 21 8))))) 1 ≡ stepRefusal proxy n b
     unfolding isPartAt isValueAt valueAt
     set-code h =
-        by-code 12 _ (same-code c 12 refl h) (pulls (objectRefusal n (byteAt b 1)) (keyRefusal n b) _ (earlier (partRefusal true n b 11) (receiverRefusal n b)) (areZero b 29 29) in-object in-key rest)
+        by-code 12 _ (same-code c 12 refl h) (pulls (objectRefusal n (byteAt b 1)) (keyRefusal n b) _ (earlier (partRefusal true n b 11) (partRefusal true n b 20)) (areZero b 29 29) in-object in-key rest)
       where
-        rest : earlier (partRefusal true n b 11) (earlier (receiverRefusal n b) (descriptor 0)) ≡ cond (areZero b 29 29) (earlier (partRefusal true n b 11) (receiverRefusal n b)) 1
-        rest = rw (tail29, last (receiverRefusal n b) (areZero b 29 29) in-receiver) (pull (partRefusal true n b 11) (receiverRefusal n b) (areZero b 29 29) in-value)
+        rest : earlier (partRefusal true n b 11) (earlier (partRefusal true n b 20) (descriptor 0)) ≡ cond (areZero b 29 29) (earlier (partRefusal true n b 11) (partRefusal true n b 20)) 1
+        rest = rw (tail29, last (partRefusal true n b 20) (areZero b 29 29) (in-value 20)) (pull (partRefusal true n b 11) (partRefusal true n b 20) (areZero b 29 29) (in-value 11))

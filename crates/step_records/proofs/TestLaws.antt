@@ -57,11 +57,11 @@ uncounted cells r h e f =
     let z : _≡_ {A = ℕ} 0 1 = cc in
     omega arith
 
-abbrev countsBy : ℕ → ℕ → Counts
-countsBy a b = record { objects = a; strings = b }
+abbrev countsBy : ℕ → ℕ → ℕ → Counts
+countsBy a b c = record { objects = a; strings = b; callable = c }
 
-pub same-counts : (a b i j : ℕ) → a ≡ i → b ≡ j → countsBy a b ≡ countsBy i j
-same-counts a b i j p q = rw (p, q)
+pub same-counts : (a b c i j k : ℕ) → a ≡ i → b ≡ j → c ≡ k → countsBy a b c ≡ countsBy i j k
+same-counts a b c i j k p q r = rw (p, q, r)
 
 -- three tests as one number
 

@@ -2,7 +2,7 @@
 use Prim.Native.Nat.{ℕ, zero, suc, _+_, _/_, _%_, _<_, _≤_}
 use native.Mathlib.Omega.{arith}
 use mathlib.Core.Path.{_≡_, refl}
-use mathlib.Core.Bool.{Bool, true, false, cond}
+use mathlib.Core.Bool.{Bool, true, false, not, Bool·beq, cond}
 use mathlib.Core.List.{List}
 use lib.Dec.{eqb, ltb}
 use borrow.Author.Tests.{eqb-true, le-ltb, ne-eqb}
@@ -16,14 +16,22 @@ use Rattle.record.specs.Descriptor.{fieldOf, descriptorAt}
 use Rattle.record.specs.Tests.{Counts, isMade, isKnown, fieldPasses, descriptorPasses, isDescriptor}
 use Rattle.byte_records.specs.Head.{isHeadAt}
 use Rattle.byte_records.proofs.DescriptorLaws.{by-head}
-use Rattle.step_records.specs.Refusals.{first, earlier, valueRefusal, partRefusal, descriptorRefusal}
-use Rattle.step_records.proofs.RefusalLaws.{earlier-first, by-form, by-made, by-known}
+use Rattle.step_records.specs.Refusals.{first, earlier, namedRefusal, valueRefusal, partRefusal, descriptorRefusal}
+use Rattle.step_records.proofs.RefusalLaws.{earlier-first, by-form, by-known}
 
 -- a value, by its kind
 
 ltb-one : (p : ℕ) → ltb p 1 ≡ eqb p 0
 ltb-one zero = refl
 ltb-one (suc k) = rw (le-ltb (suc k) 1 (omega arith), ne-eqb (suc k) 0 (λ e. omega arith))
+
+beq-true : (b : Bool) → Bool·beq b true ≡ b
+beq-true true = refl
+beq-true false = refl
+
+beq-false : (b : Bool) → Bool·beq b false ≡ not b
+beq-false true = refl
+beq-false false = refl
 
 past : (m k : ℕ) → m ≤ k → (k ≡ m → ⊥) → suc m ≤ k
 past m k h n = omega arith
@@ -61,13 +69,11 @@ module _ (n : Counts) (p : ℕ) where
   unfolding valueOf isFormed isMade isKnown
   refusal-6 = by-known (ltb p 256)
 
-  pub refusal-7 : cond (ltb p (n .objects)) 4 2 ≡ valueRefusal n 7 p
+  -- an object is of kind 7, and a function of kind 8
+  pub refusal-named : (callable : Bool) → namedRefusal n p callable ≡ valueRefusal n (cond callable 8 7) p
   unfolding valueOf isFormed isMade isKnown
-  refusal-7 = by-made (ltb p (n .objects))
-
-  pub refusal-8 : cond (ltb p 256) 4 3 ≡ valueRefusal n 8 p
-  unfolding valueOf isFormed isMade isKnown
-  refusal-8 = by-known (ltb p 256)
+  refusal-named true = rw beq-true
+  refusal-named false = rw beq-false
 
   refusal-above : (k : ℕ) → 9 ≤ k → 1 ≡ valueRefusal n k p
   unfolding isFormed

@@ -1,8 +1,9 @@
 -- Refusals 1 to 3 as one number, of a value, a part, a descriptor, an answer, a step and a sheet. Assumes nothing.
 use Prim.Native.Nat.{ℕ, _+_}
-use mathlib.Core.Bool.{Bool, true, false, not, cond, _&&_}
+use mathlib.Core.Bool.{Bool, true, false, Bool·beq, cond, _&&_}
 use mathlib.Core.List.{List}
 use lib.Dec.{eqb, leb, ltb}
+use Rattle.value.specs.Bits.{bit}
 use Rattle.value.specs.PropertyKey.{keyOf}
 use Rattle.value.specs.Words.{kindOf, valueOf, isFormed}
 use Rattle.record.specs.declared.Refusal.{Refusal}
@@ -30,6 +31,10 @@ refusalOf n = cond (ltb n 4) (Failed n) Passed
 abbrev pub valueRefusal : Counts → ℕ → ℕ → ℕ
 valueRefusal n kind payload = first (isFormed kind payload) (isMade n (valueOf kind payload)) (isKnown n (valueOf kind payload))
 
+-- an object, or where it is to be callable a function
+abbrev pub namedRefusal : Counts → ℕ → Bool → ℕ
+namedRefusal n object callable = first true (ltb object (n .objects)) (Bool·beq (bit (n .callable) object) callable)
+
 -- a part that is not used is zero
 abbrev pub partRefusal : Bool → Counts → List ℕ → ℕ → ℕ
 partRefusal used n bytes i = first (isPartAt used bytes i) (isMade n (valueAt bytes i)) (isKnown n (valueAt bytes i))
@@ -38,7 +43,7 @@ partRefusal used n bytes i = first (isPartAt used bytes i) (isMade n (valueAt by
 abbrev pub objectRefusal : Counts → ℕ → ℕ
 objectRefusal n object = first true (ltb object (n .objects)) true
 
--- a step's key, prototype, number and receiver, with the kinds that they may have
+-- a step's key, prototype and number, with the kinds that they may have
 abbrev pub keyRefusal : Counts → List ℕ → ℕ
 keyRefusal n bytes = first (isValueAt bytes 2) (isMade n (valueAt bytes 2)) (isSome (keyOf (valueAt bytes 2)) && isKnown n (valueAt bytes 2))
 
@@ -48,9 +53,6 @@ prototypeRefusal n bytes = first (isValueAt bytes 11) (isMade n (valueAt bytes 1
 -- a trap mask or an integrity level: an Integer32 from 0 to `most`
 abbrev pub boundedRefusal : ℕ → Counts → List ℕ → ℕ
 boundedRefusal most n bytes = first (isAtMostIfInteger32 most (valueAt bytes 11) && isValueAt bytes 11) (isMade n (valueAt bytes 11)) (eqb (kindOf (valueAt bytes 11)) 3 && isKnown n (valueAt bytes 11))
-
-abbrev pub receiverRefusal : Counts → List ℕ → ℕ
-receiverRefusal n bytes = first (isValueAt bytes 20) (isMade n (valueAt bytes 20)) (not (eqb (kindOf (valueAt bytes 20)) 8) && isKnown n (valueAt bytes 20))
 
 abbrev pub descriptorRefusal : Counts → List ℕ → ℕ → ℕ
 descriptorRefusal n bytes i = first (isDescriptorAt bytes i) (descriptorPasses (isMade n) (descriptorAt bytes i)) (descriptorPasses (isKnown n) (descriptorAt bytes i))

@@ -48,21 +48,24 @@ fn is_proxy(words: &[u64], o: u64) -> bool
     }
 }
 
-// How many objects were made and strings entered.
+// How many objects were made and strings entered, and which objects are callable.
 pub fn counts_of(words: &[u64], strings: &[u16]) -> Counts
     requires { ⌜ (isStore (now words) ≡ true) × (isTable (now strings) ≡ true) ⌝ }
     ensures { λ r. ⌜ r ≡ countsOf (worldOf (now (words .entry)) (now (strings .entry))) ⌝ }
 {
     let objects = store_read::object_count(words) as u64;
+    let callable = store_read::callable(words);
     let entered = text::count(strings);
     match entered {
         StringCount::Count(n) => Counts {
             objects: objects,
             strings: n,
+            callable: callable,
         },
         StringCount::Malformed => Counts {
             objects: objects,
             strings: 0,
+            callable: callable,
         },
     }
 }

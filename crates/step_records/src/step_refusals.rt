@@ -7,12 +7,12 @@ use byte_records::value_record;
 use record::Counts;
 use value_operations::bits;
 ghost use mathlib.Core.Path.{_≡_};
-ghost use mathlib.Core.Bool.{cond, _&&_};
+ghost use mathlib.Core.Bool.{false, cond, _&&_};
 ghost use Prim.Native.Nat.{_-_, _≤_, _<_};
 ghost use lib.Dec.{ltb};
 ghost use lib.ListN.{length};
 ghost use Rattle.record.specs.Bytes.{byteAt, numberAt, areZero};
-ghost use Rattle.step_records.specs.Refusals.{earlier, valueRefusal, objectRefusal, keyRefusal, prototypeRefusal, boundedRefusal, receiverRefusal, descriptorRefusal, stepRefusal};
+ghost use Rattle.step_records.specs.Refusals.{earlier, namedRefusal, valueRefusal, objectRefusal, keyRefusal, prototypeRefusal, boundedRefusal, descriptorRefusal, stepRefusal};
 
 // Whether the bytes from `at` on are zero, a word at a time; the last word may overlap the one before it.
 pub fn are_zero_from(bytes: &[u8], at: usize) -> bool
@@ -49,7 +49,7 @@ fn key_refusal(n: Counts, bytes: &[u8]) -> u64
     }
 }
 
-// Null or an object.
+// Null, an object or a function.
 fn prototype_refusal(n: Counts, bytes: &[u8]) -> u64
     requires { ⌜ length (now bytes) ≡ 58 ⌝ }
     ensures { λ r. ⌜ r ≡ prototypeRefusal n (now (bytes .entry)) ⌝ }
@@ -58,7 +58,8 @@ fn prototype_refusal(n: Counts, bytes: &[u8]) -> u64
     let kind = w.kind;
     match kind {
         1 => number_refusal(w.payload, 1, 1),
-        7 => number_refusal(w.payload, n.objects, 2),
+        7 => value_refusals::named_refusal(n, w.payload, false),
+        8 => value_refusals::named_refusal(n, w.payload, true),
         _ => earlier(3, value_refusals::value_refusal(n, w)),
     }
 }
@@ -73,18 +74,6 @@ fn bounded_refusal(most: u64, n: Counts, bytes: &[u8]) -> u64
         return number_refusal(w.payload, most + 1, 1);
     }
     earlier(3, value_refusals::value_refusal(n, w))
-}
-
-// No function receives.
-fn receiver_refusal(n: Counts, bytes: &[u8]) -> u64
-    requires { ⌜ length (now bytes) ≡ 58 ⌝ }
-    ensures { λ r. ⌜ r ≡ receiverRefusal n (now (bytes .entry)) ⌝ }
-{
-    let w = value_record::words_at(bytes, 20);
-    if w.kind == 8 {
-        return 3;
-    }
-    value_refusals::value_refusal(n, w)
 }
 
 // Codes 4, 6, 7 and 14: an object alone.
@@ -131,13 +120,16 @@ fn definition_step(n: Counts, object: u64, bytes: &[u8]) -> u64
 // Code 11: object, key and receiver.
 fn get_step(n: Counts, object: u64, bytes: &[u8]) -> u64
     requires { ⌜ length (now bytes) ≡ 58 ⌝ }
-    ensures { λ r. ⌜ r ≡ cond (areZero (now (bytes .entry)) 11 9 && areZero (now (bytes .entry)) 29 29) (earlier (objectRefusal n object) (earlier (keyRefusal n (now (bytes .entry))) (receiverRefusal n (now (bytes .entry))))) 1 ⌝ }
+    ensures { λ r. ⌜ r ≡ cond (areZero (now (bytes .entry)) 11 9 && areZero (now (bytes .entry)) 29 29) (earlier (objectRefusal n object) (earlier (keyRefusal n (now (bytes .entry))) (valueRefusal n (byteAt (now (bytes .entry)) 20) (numberAt (now (bytes .entry)) 21 8)))) 1 ⌝ }
 {
     if value_record::is_zero_at(bytes, 11) {
         if are_zero_from(bytes, 29) {
             return earlier(
                 object_refusal(n, object),
-                earlier(key_refusal(n, bytes), receiver_refusal(n, bytes)),
+                earlier(
+                    key_refusal(n, bytes),
+                    value_refusals::value_refusal(n, value_record::words_at(bytes, 20)),
+                ),
             );
         }
     }
@@ -147,16 +139,14 @@ fn get_step(n: Counts, object: u64, bytes: &[u8]) -> u64
 // Code 12: object, key, value and receiver.
 fn set_step(n: Counts, object: u64, bytes: &[u8]) -> u64
     requires { ⌜ length (now bytes) ≡ 58 ⌝ }
-    ensures { λ r. ⌜ r ≡ cond (areZero (now (bytes .entry)) 29 29) (earlier (objectRefusal n object) (earlier (keyRefusal n (now (bytes .entry))) (earlier (valueRefusal n (byteAt (now (bytes .entry)) 11) (numberAt (now (bytes .entry)) 12 8)) (receiverRefusal n (now (bytes .entry)))))) 1 ⌝ }
+    ensures { λ r. ⌜ r ≡ cond (areZero (now (bytes .entry)) 29 29) (earlier (objectRefusal n object) (earlier (keyRefusal n (now (bytes .entry))) (earlier (valueRefusal n (byteAt (now (bytes .entry)) 11) (numberAt (now (bytes .entry)) 12 8)) (valueRefusal n (byteAt (now (bytes .entry)) 20) (numberAt (now (bytes .entry)) 21 8))))) 1 ⌝ }
 {
     if are_zero_from(bytes, 29) {
         let value = value_refusals::value_refusal(n, value_record::words_at(bytes, 11));
+        let receiver = value_refusals::value_refusal(n, value_record::words_at(bytes, 20));
         return earlier(
             object_refusal(n, object),
-            earlier(
-                key_refusal(n, bytes),
-                earlier(value, receiver_refusal(n, bytes)),
-            ),
+            earlier(key_refusal(n, bytes), earlier(value, receiver)),
         );
     }
     1
@@ -173,7 +163,7 @@ fn has_value_alone(bytes: &[u8]) -> bool
     false
 }
 
-// Code 1: a prototype.
+// Codes 1 and 16: a prototype.
 fn creation_step(n: Counts, object: u64, bytes: &[u8]) -> u64
     requires { ⌜ length (now bytes) ≡ 58 ⌝ }
     ensures { λ r. ⌜ r ≡ cond (areZero (now (bytes .entry)) 2 9 && areZero (now (bytes .entry)) 20 38) (earlier (cond (ltb object 1) 4 1) (prototypeRefusal n (now (bytes .entry)))) 1 ⌝ }
@@ -184,13 +174,16 @@ fn creation_step(n: Counts, object: u64, bytes: &[u8]) -> u64
     1
 }
 
-// Code 2: an object and a trap mask, 0 to 2047.
+// Code 2: an object that is no function, and a trap mask, 0 to 2047.
 fn proxy_step(n: Counts, object: u64, bytes: &[u8]) -> u64
     requires { ⌜ length (now bytes) ≡ 58 ⌝ }
-    ensures { λ r. ⌜ r ≡ cond (areZero (now (bytes .entry)) 2 9 && areZero (now (bytes .entry)) 20 38) (earlier (objectRefusal n object) (boundedRefusal 2047 n (now (bytes .entry)))) 1 ⌝ }
+    ensures { λ r. ⌜ r ≡ cond (areZero (now (bytes .entry)) 2 9 && areZero (now (bytes .entry)) 20 38) (earlier (namedRefusal n object false) (boundedRefusal 2047 n (now (bytes .entry)))) 1 ⌝ }
 {
     if has_value_alone(bytes) {
-        return earlier(object_refusal(n, object), bounded_refusal(2047, n, bytes));
+        return earlier(
+            value_refusals::named_refusal(n, object, false),
+            bounded_refusal(2047, n, bytes),
+        );
     }
     1
 }
@@ -236,7 +229,7 @@ pub fn step_refusal(proxy: bool, n: Counts, bytes: &[u8]) -> u64
     let code = bits::wide(bytes[0]);
     let object = bits::wide(bytes[1]);
     match code {
-        1 => creation_step(n, object, bytes),
+        1 | 16 => creation_step(n, object, bytes),
         2 => proxy_step(n, object, bytes),
         3 => revoking_step(proxy, n, object, bytes),
         5 => prototype_step(n, object, bytes),

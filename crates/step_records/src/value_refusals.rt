@@ -12,7 +12,7 @@ ghost use lib.Dec.{ltb};
 ghost use lib.ListN.{length};
 ghost use Rattle.record.specs.Tests.{isDescriptor};
 ghost use Rattle.record.specs.Descriptor.{descriptorAt};
-ghost use Rattle.step_records.specs.Refusals.{earlier, valueRefusal, partRefusal, descriptorRefusal};
+ghost use Rattle.step_records.specs.Refusals.{earlier, namedRefusal, valueRefusal, partRefusal, descriptorRefusal};
 
 // The earlier of two refusals.
 pub fn earlier(a: u64, b: u64) -> u64
@@ -25,6 +25,20 @@ pub fn number_refusal(payload: u64, limit: u64, n: u64) -> u64
     ensures { λ r. ⌜ r ≡ cond (ltb payload limit) 4 n ⌝ }
 {
     if payload < limit { 4 } else { n }
+}
+
+// An object, or where it is to be callable a function.
+pub fn named_refusal(n: Counts, payload: u64, callable: bool) -> u64
+    ensures { λ r. ⌜ r ≡ namedRefusal n payload callable ⌝ }
+{
+    if payload >= n.objects {
+        return 2;
+    }
+    if bits::bit(n.callable, payload) == callable {
+        4
+    } else {
+        3
+    }
 }
 
 pub fn value_refusal(n: Counts, w: Words) -> u64
@@ -40,8 +54,8 @@ pub fn value_refusal(n: Counts, w: Words) -> u64
         4 => 4,
         5 => number_refusal(payload, n.strings, 3),
         6 => number_refusal(payload, 256, 3),
-        7 => number_refusal(payload, n.objects, 2),
-        8 => number_refusal(payload, 256, 3),
+        7 => named_refusal(n, payload, false),
+        8 => named_refusal(n, payload, true),
         _ => 1,
     }
 }

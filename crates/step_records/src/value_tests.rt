@@ -5,10 +5,11 @@ use property::Field;
 use record::Counts;
 use record::Test;
 use value::Value;
+use value_operations::bits;
 ghost use mathlib.Core.Path.{_≡_};
 ghost use Rattle.record.specs.Tests.{isMade, isKnown, asks, fieldPasses, descriptorPasses, isDescriptor};
 
-// 2: an object number was made.
+// 2: the object or function was made.
 fn is_made(n: Counts, v: Value) -> bool
     ensures { λ r. ⌜ r ≡ isMade n v ⌝ }
 {
@@ -21,11 +22,11 @@ fn is_made(n: Counts, v: Value) -> bool
         Value::String(_) => true,
         Value::Symbol(_) => true,
         Value::Object(o) => o < n.objects,
-        Value::Function(_) => true,
+        Value::Function(f) => f < n.objects,
     }
 }
 
-// 3: a string was entered, and a symbol or function number is at most 255.
+// 3: a string was entered, a symbol number is at most 255, and a function is callable, an object not.
 fn is_known(n: Counts, v: Value) -> bool
     ensures { λ r. ⌜ r ≡ isKnown n v ⌝ }
 {
@@ -37,8 +38,8 @@ fn is_known(n: Counts, v: Value) -> bool
         Value::Float64(_) => true,
         Value::String(s) => s < n.strings,
         Value::Symbol(s) => s < 256,
-        Value::Object(_) => true,
-        Value::Function(f) => f < 256,
+        Value::Object(o) => !bits::bit(n.callable, o),
+        Value::Function(f) => bits::bit(n.callable, f),
     }
 }
 

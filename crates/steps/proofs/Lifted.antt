@@ -7,13 +7,12 @@ use mathlib.Core.Option.{Option, none, some}
 use mathlib.Core.List.{List, [], _∷_}
 use lib.Dec.{ltb}
 use lib.ListN.{length}
-use Rattle.value.specs.declared.Value.the-variants as language
 use Rattle.value.specs.declared.PropertyKey.{PropertyKey}
 use Rattle.property.specs.declared.PropertyDescriptor.{PropertyDescriptor}
 use Rattle.property.specs.declared.OwnProperty.the-variants.{Absent, Present}
 use Rattle.store.specs.declared.Object.{Object}
 use Rattle.store.specs.declared.Object.the-variants.{Ordinary, Proxy}
-use Rattle.store.specs.Store.{Store, lookup, put, add, maximumObjects}
+use Rattle.store.specs.Store.{Store, lookup, put, add, named, maximumObjects}
 use Rattle.internal_methods.specs.declared.Failure.{Failure}
 use Rattle.internal_methods.specs.declared.Failure.the-variants.{Refused, TypeError}
 use Rattle.internal_methods.specs.Monad.{State, Out, M, pure, fails, next, _>>=_, if_then_else_}
@@ -25,7 +24,7 @@ use Rattle.internal_methods.proofs.Longer.{Longer, longer-pure, longer-fails, l
 use Rattle.internal_methods.proofs.Reader.{Reader, reader-pure, reader-fails, reader-bind, methods-reader}
 use Rattle.internal_methods.proofs.Richer.{Richer, richer-pure, richer-fails, richer-bind, methods-richer}
 use Rattle.internal_methods.proofs.Room.{isSeven, oneMore, Alike, Same, Room, Roomy, same-pure, same-bind, methods-roomy}
-use Rattle.steps.specs.Operation.{Level, sealed, frozen, Operation, makeObject, makeProxy, revoke, getPrototypeOf, setPrototypeOf, isExtensible, preventExtensions, getOwnProperty, defineOwnProperty, hasProperty, get, set, delete, ownPropertyKeys, setIntegrityLevel, testIntegrityLevel, makesObject, writesInTurn}
+use Rattle.steps.specs.Operation.{Level, sealed, frozen, Operation, makeObject, makeProxy, revoke, getPrototypeOf, setPrototypeOf, isExtensible, preventExtensions, getOwnProperty, defineOwnProperty, hasProperty, get, set, delete, ownPropertyKeys, makeFunction, setIntegrityLevel, testIntegrityLevel, makesObject, writesInTurn}
 use Rattle.steps.specs.Sequence.{Ran, Sequence, written, reads, writes, throwIf, forEach}
 use Rattle.steps.specs.Sequence as sequence
 use Rattle.steps.specs.SetIntegrityLevel.{definePropertyOrThrow, freezeProperty, turn}
@@ -111,9 +110,9 @@ module _ {J : (A : Type 0) → M A → M A → Type 0} (law : Rules J) (c : Cont
   once-by : {m m′ : M (Result × Store)} → J (Result × Store) m m′ → J (Result × Store) (settled (once (c .store) m)) (settled (once (c .store) m′))
   once-by {m} {m′} f = along law (settled-once (c .store) m) (settled-once (c .store) m′) f
 
-  makes : (x : Object) → J (Result × Store) (settled (once (c .store) (make (c .store) x))) (settled (once (c .store) (make (c .store) x)))
+  makes : (x : Object) (b : Bool) → J (Result × Store) (settled (once (c .store) (make (c .store) x b))) (settled (once (c .store) (make (c .store) x b)))
   unfolding make
-  makes x = once-by (by-if _ (law .gives _) (law .refuses))
+  makes x b = once-by (by-if _ (law .gives _) (law .refuses))
 
   reads-by : {A : Type 0} (result : A → Result) {m m′ : M A} → J A m m′ → J (Result × Store) (settled (once (c .store) (reading (c .store) result m))) (settled (once (c .store) (reading (c .store) result m′)))
   reads-by result f = once-by (law .binds f (λ a. law .gives _))
@@ -133,8 +132,8 @@ module _ {J : (A : Type 0) → M A → M A → Type 0} (law : Rules J) (c : Cont
 
   perform-by : (asks : Operation) → J (Result × Store) (settled (perform n c asks)) (settled (perform l c asks))
   unfolding perform
-  perform-by (makeObject v) = makes _
-  perform-by (makeProxy o traps) = makes _
+  perform-by (makeObject v) = makes _ _
+  perform-by (makeProxy o traps) = makes _ _
   perform-by (revoke o) = once-by (law .gives _)
   perform-by (getPrototypeOf o) = reads-by _ (h (c .store) .getPrototypeOf o tt)
   perform-by (setPrototypeOf o v) = writes-by (h (c .store) .setPrototypeOf o v tt tt)
@@ -147,6 +146,7 @@ module _ {J : (A : Type 0) → M A → M A → Type 0} (law : Rules J) (c : Cont
   perform-by (set o k v receiver) = writes-by (h (c .store) .set o k v receiver tt tt)
   perform-by (delete o k) = writes-by (h (c .store) .delete o k tt)
   perform-by (ownPropertyKeys o) = reads-by _ (h (c .store) .ownPropertyKeys o tt)
+  perform-by (makeFunction v) = makes _ _
   perform-by (setIntegrityLevel o level) = along law (settled-inTurn (c .store) _) (settled-inTurn (c .store) _)
       (turns-bind law (set-turns law (λ σ. methods n (over c σ)) (λ σ. methods l (over c σ)) o h level) (λ b. turns-pure law (boolean b)) .over (c .store))
   perform-by (testIntegrityLevel o level) = reads-by _ (test-by o level)
@@ -228,6 +228,7 @@ module _ (c : Context) (n : ℕ) where
   perform-room (set o k v receiver) e w s = writes-room (methods-roomy n c .set o k v receiver tt tt) s
   perform-room (delete o k) e w s = writes-room (methods-roomy n c .delete o k tt) s
   perform-room (ownPropertyKeys o) e w s = reads-room _ (methods-roomy n c .ownPropertyKeys o tt) s
+  perform-room (makeFunction v) e w s = absurd (false≢true (sym e))
   perform-room (setIntegrityLevel o level) e w s = absurd (false≢true (sym w))
   perform-room (testIntegrityLevel o level) e w s = reads-room _ (test-same o level) s
 
@@ -249,6 +250,7 @@ module _ (c : Context) (n : ℕ) where
   perform-fits (set o k v receiver) e s = absurd (false≢true e)
   perform-fits (delete o k) e s = absurd (false≢true e)
   perform-fits (ownPropertyKeys o) e s = absurd (false≢true e)
+  perform-fits (makeFunction v) e s = absurd (false≢true e)
   perform-fits (setIntegrityLevel o level) e s = leads-bind (integrity-fits n c o (c .store) level) (λ b. leads-pure (boolean b) (λ σ q. by σ b q)) .from (c .store) (le-refl _) s
     where
       by : (τ : Store) (b : Bool) {P : Type 0} → (b ≡ true → (length (τ .properties) ≤ length (c .store .properties)) × P) × (b ≡ false → length (τ .properties) ≤ length (c .store .properties)) → length (τ .properties) ≤ length (c .store .properties)
@@ -258,22 +260,22 @@ module _ (c : Context) (n : ℕ) where
 
   -- an object that is made, under any allowance
   pub data MakesOut (s : State) : Ran Result → Type 0 where
-    made : (x : Object) → ltb (length (c .store .objects)) maximumObjects ≡ true → MakesOut s (Out.done (value (language.Object (length (c .store .objects)))) s, add (c .store) x)
+    made : (x : Object) (b : Bool) → ltb (length (c .store .objects)) maximumObjects ≡ true → MakesOut s (Out.done (value (named b (length (c .store .objects)))) s, add (c .store) x b)
     crowded : ltb (length (c .store .objects)) maximumObjects ≡ false → MakesOut s (Out.failed (Refused 7) s, c .store)
 
-  make-out : (x : Object) (s : State) → MakesOut s (once (c .store) (make (c .store) x) .run s)
+  make-out : (x : Object) (b : Bool) (s : State) → MakesOut s (once (c .store) (make (c .store) x b) .run s)
   unfolding once make if_then_else_ pure fails
-  make-out x s = go (ltb (length (c .store .objects)) maximumObjects) refl
+  make-out x b s = go (ltb (length (c .store .objects)) maximumObjects) refl
     where
-      go : (b : Bool) → ltb (length (c .store .objects)) maximumObjects ≡ b
-          → MakesOut s (written (c .store) (if_then_else_ b (pure (value (language.Object (length (c .store .objects))), add (c .store) x)) (fails (Refused 7)) .run s))
-      go true e = made x e
+      go : (room : Bool) → ltb (length (c .store .objects)) maximumObjects ≡ room
+          → MakesOut s (written (c .store) (if_then_else_ room (pure (value (named b (length (c .store .objects))), add (c .store) x b)) (fails (Refused 7)) .run s))
+      go true e = made x b e
       go false e = crowded e
 
   pub perform-makes : (allowance : ℕ) (asks : Operation) → makesObject asks ≡ true → (s : State) → MakesOut s (perform n (allowing c allowance) asks .run s)
   unfolding perform
-  perform-makes a (makeObject v) e s = make-out _ s
-  perform-makes a (makeProxy o traps) e s = make-out _ s
+  perform-makes a (makeObject v) e s = make-out _ _ s
+  perform-makes a (makeProxy o traps) e s = make-out _ _ s
   perform-makes a (revoke o) e s = absurd (false≢true e)
   perform-makes a (getPrototypeOf o) e s = absurd (false≢true e)
   perform-makes a (setPrototypeOf o v) e s = absurd (false≢true e)
@@ -286,5 +288,6 @@ module _ (c : Context) (n : ℕ) where
   perform-makes a (set o k v receiver) e s = absurd (false≢true e)
   perform-makes a (delete o k) e s = absurd (false≢true e)
   perform-makes a (ownPropertyKeys o) e s = absurd (false≢true e)
+  perform-makes a (makeFunction v) e s = make-out _ _ s
   perform-makes a (setIntegrityLevel o level) e s = absurd (false≢true e)
   perform-makes a (testIntegrityLevel o level) e s = absurd (false≢true e)

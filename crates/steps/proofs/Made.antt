@@ -1,5 +1,5 @@
 -- A step whose records passed their tests names only objects that are made. Assumes nothing.
-use Prim.Native.Nat.{ℕ, zero, suc, _<_, suc-le-suc, zero-le}
+use Prim.Native.Nat.{ℕ, zero, suc, _<_}
 use native.Mathlib.Nat.{not-suc-le-zero, le-of-suc-le-suc}
 use mathlib.Core.Path.{_≡_, refl, sym, subst}
 use mathlib.Core.Bool.{Bool, true, false, not, false≢true}
@@ -7,22 +7,24 @@ use mathlib.Core.Option.{none, some}
 use mathlib.Core.List.{List, [], _∷_, _++_}
 use lib.Dec.{eqb, ltb}
 use lib.ListN.{length, getElem?}
-use borrow.Author.Tests.{ltb-true}
+use borrow.Author.Tests.{ltb-true, eqb-true}
 use Rattle.value.specs.declared.Value.{Value}
 use Rattle.value.specs.declared.Value.the-variants as value
+use Rattle.value.specs.PropertyKey.{keyOf}
 use Rattle.value.specs.Words.{pick}
 use Rattle.value.proofs.Bools.{and-true}
+use Rattle.property.specs.Descriptor.{toPropertyDescriptor}
 use Rattle.store.specs.declared.Object.{Object}
 use Rattle.store.specs.Store.{Store, World, lookup, add}
-use Rattle.store.proofs.StoreLaws.{lookup-add}
+use Rattle.store.proofs.StoreLaws.{lookup-add, found-below}
 use Rattle.internal_methods.specs.Monad.{Answer}
 use Rattle.internal_methods.proofs.StoreClosed.{Made, MadeValue, MadeObject, Closed, closed-object, closed-after}
 use Rattle.internal_methods.proofs.Budget.{MadeAnswer, MadeAnswers, nil, cons}
 use Rattle.record.specs.declared.Step.{Step}
 use Rattle.record.specs.Tests.{isMade, failing, firstFailing}
-use Rattle.record.specs.Step.{stepOf, usesObject, stepPasses, areObjectsMade, unless}
+use Rattle.record.specs.Step.{stepOf, makesOrdinary, usesObject, stepPasses, areObjectsMade, unless}
 use Rattle.record.specs.Sheet.{sheetOf, answerPasses, sheetPasses}
-use Rattle.steps.specs.Operation.{Operation, makeObject, makeProxy, revoke, getPrototypeOf, setPrototypeOf, isExtensible, preventExtensions, getOwnProperty, defineOwnProperty, hasProperty, get, set, delete, ownPropertyKeys, setIntegrityLevel, testIntegrityLevel, operationOf, asked}
+use Rattle.steps.specs.Operation.{Operation, makeObject, makeProxy, revoke, getPrototypeOf, setPrototypeOf, isExtensible, preventExtensions, getOwnProperty, defineOwnProperty, hasProperty, get, set, delete, ownPropertyKeys, makeFunction, setIntegrityLevel, testIntegrityLevel, keyOrFirst, byCode, operationOf, asked}
 use Rattle.steps.specs.Step.{countsOf, recordTests}
 
 -- the objects that an operation names are made
@@ -41,6 +43,7 @@ MadeOperation σ (get o k receiver) = Made σ o
 MadeOperation σ (set o k v receiver) = Made σ o × MadeValue σ receiver
 MadeOperation σ (delete o k) = Made σ o
 MadeOperation σ (ownPropertyKeys o) = Made σ o
+MadeOperation σ (makeFunction v) = MadeValue σ v
 MadeOperation σ (setIntegrityLevel o level) = Made σ o
 MadeOperation σ (testIntegrityLevel o level) = Made σ o
 
@@ -63,7 +66,7 @@ value-made ω (value.Float64 x) h = record { made = λ o e. absurd (false≢true
 value-made ω (value.String s) h = record { made = λ o e. absurd (false≢true cc) }
 value-made ω (value.Symbol s) h = record { made = λ o e. absurd (false≢true cc) }
 value-made ω (value.Object p) h = record { made = λ o e. subst (Made (ω .store)) (let q : p ≡ o = cc in q) (object-made ω p h) }
-value-made ω (value.Function f) h = record { made = λ o e. absurd (false≢true cc) }
+value-made ω (value.Function f) h = record { made = λ o e. subst (Made (ω .store)) (let q : f ≡ o = cc in q) (object-made ω f h) }
 
 answer-made : (ω : World) (a : Answer) → answerPasses (isMade (countsOf ω)) a ≡ true → MadeAnswer (ω .store) a
 answer-made ω (Answer.value v) h = value-made ω v h
@@ -83,6 +86,10 @@ by-pick P false f g = g refl
 either : {A : Type 0} (P : A → Type 0) (b : Bool) {x y : A} → P x → P y → P (pick b x y)
 either P b f g = by-pick P b (λ _. f) (λ _. g)
 
+by-cases : (b : Bool) {C : Type 0} → (b ≡ true → C) → (b ≡ false → C) → C
+by-cases true f g = f refl
+by-cases false f g = g refl
+
 operation-made : (ω : World) (s : Step) → areObjectsMade (countsOf ω) s ≡ true → MadeOperation (ω .store) (operationOf s)
 unfolding areObjectsMade operationOf
 operation-made ω s h =
@@ -91,8 +98,11 @@ operation-made ω s h =
     let (v, more) = and-true (isMade (countsOf ω) (s .value)) _ rest in
     let (r, d) = and-true (isMade (countsOf ω) (s .receiver)) _ more in
     let P : Operation → Type 0 = MadeOperation (ω .store) in
+    by-cases (eqb (s .code) 16)
+    (λ e. subst (λ (c : ℕ). P (byCode c (s .object) (keyOrFirst (keyOf (s .key))) (s .value) (s .receiver) (toPropertyDescriptor (s .descriptor)))) (sym (eqb-true (s .code) 16 e)) (value-made ω (s .value) v))
+    (λ f.
     by-pick P (eqb (s .code) 1) (λ _. value-made ω (s .value) v) (λ e.
-    let o = object-made ω (s .object) (used (eqb (s .code) 1) e named) in
+    let o = object-made ω (s .object) (used (makesOrdinary (s .code)) (rw (e, f)) named) in
     either P (eqb (s .code) 2) o
     (either P (eqb (s .code) 3) o
     (either P (eqb (s .code) 4) o
@@ -106,7 +116,8 @@ operation-made ω s h =
     (either P (eqb (s .code) 12) (o, value-made ω (s .receiver) r)
     (either P (eqb (s .code) 13) o
     (either P (eqb (s .code) 14) o
-    (either P (eqb (s .code) 18) o o))))))))))))))
+    (either P (eqb (s .code) 16) (value-made ω (s .value) v)
+    (either P (eqb (s .code) 18) o o))))))))))))))))
   where
     used : (b : Bool) → b ≡ false → unless (not b) (ltb (s .object) (countsOf ω .objects)) ≡ true → ltb (s .object) (countsOf ω .objects) ≡ true
     used true e f = absurd (false≢true (sym e))
@@ -139,15 +150,10 @@ names-made ω bytes sheet h =
 
 -- As many objects --------------------------------------------------------------------
 
-some-below : {A : Type 0} (l : List A) (i : ℕ) (x : A) → getElem? l i ≡ some x → i < length l
-some-below [] i x e = absurd (false≢true cc)
-some-below (y ∷ l) zero x e = suc-le-suc zero-le
-some-below (y ∷ l) (suc i) x e = suc-le-suc (some-below l i x e)
-
 -- what was made is made in a store with as many objects
 pub made-kept : (σ τ : Store) → length (τ .objects) ≡ length (σ .objects) → (o : ℕ) → Made σ o → Made τ o
 unfolding lookup
-made-kept σ τ e o (x, f) = element-below (τ .objects) o (subst (λ (n : ℕ). o < n) (sym e) (some-below (σ .objects) o x f))
+made-kept σ τ e o (x, f) = element-below (τ .objects) o (subst (λ (n : ℕ). o < n) (sym e) (found-below (σ .objects) o x f))
 
 pub answers-kept : (σ τ : Store) → length (τ .objects) ≡ length (σ .objects) → {l : List Answer} → MadeAnswers σ l → MadeAnswers τ l
 answers-kept σ τ e nil = nil
@@ -167,7 +173,7 @@ append-cases [] x (suc i) y e f g = absurd (false≢true cc)
 append-cases (z ∷ l) x zero y e f g = g e
 append-cases (z ∷ l) x (suc i) y e f g = append-cases l x i y e f g
 
-pub closed-add : (σ : Store) (x : Object) → Closed σ → MadeObject σ x → Closed (add σ x)
+pub closed-add : (σ : Store) (x : Object) (b : Bool) → Closed σ → MadeObject σ x → Closed (add σ x b)
 unfolding lookup add
-closed-add σ x h m = closed-after (λ o n. (n .0, lookup-add σ x o (n .0) (n .1))) λ o y e.
+closed-add σ x b h m = closed-after (λ o n. (n .0, lookup-add σ x b o (n .0) (n .1))) λ o y e.
     append-cases (σ .objects) x o y e (λ q. subst (MadeObject σ) q m) (λ f. closed-object h o y f)

@@ -16,9 +16,9 @@ use Rattle.internal_methods.specs.Methods.{Context, Written}
 use Rattle.internal_methods.specs.Internal.{methods}
 use Rattle.internal_methods.proofs.Ensures.{Ensures, ensures-pure, ensures-fails, ensures-bind, ensures-if, ensures-then, ensures-all}
 use Rattle.internal_methods.proofs.Base.{Under, Frozen, Shut}
-use Rattle.internal_methods.proofs.Later.{Grows, grows-refl, grows-add, grows-proxy}
+use Rattle.internal_methods.proofs.Later.{IsOrdinary, Grows, grows-refl, grows-add, grows-proxy}
 use Rattle.internal_methods.proofs.Reports.{Changed, Faithful, SamePrototype, Defined, Gone, KeysTied, HasTied, isExtensible-report, getOwnProperty-report, get-report, preventExtensions-report, defineOwnProperty-report, delete-report, getPrototypeOf-report, setPrototypeOf-report, ownPropertyKeys-report, hasProperty-report, set-report}
-use Rattle.steps.specs.Operation.{Level, Operation, makeObject, makeProxy, revoke, getPrototypeOf, setPrototypeOf, isExtensible, preventExtensions, getOwnProperty, defineOwnProperty, hasProperty, get, set, delete, ownPropertyKeys, setIntegrityLevel, testIntegrityLevel}
+use Rattle.steps.specs.Operation.{Level, Operation, makeObject, makeProxy, revoke, getPrototypeOf, setPrototypeOf, isExtensible, preventExtensions, getOwnProperty, defineOwnProperty, hasProperty, get, set, delete, ownPropertyKeys, makeFunction, setIntegrityLevel, testIntegrityLevel}
 use Rattle.steps.specs.Sequence.{Ran, written}
 use Rattle.steps.specs.TestIntegrityLevel
 use Rattle.steps.specs.Perform.{Result, value, keys, ownResult, boolean, once, inTurn, reading, writing, make, revoked, perform}
@@ -41,6 +41,7 @@ Says σ (get o k receiver) r τ = (x : Value) × (r ≡ value x) × ((v : Value)
 Says σ (set o k v receiver) r τ = r ≡ boolean true → (w : Value) → Frozen σ o k w → sameValue v w ≡ true
 Says σ (delete o k) r τ = r ≡ boolean true → Gone σ o k τ
 Says σ (ownPropertyKeys o) r τ = (ks : List PropertyKey) × (r ≡ keys ks) × Under σ o (λ b x. KeysTied σ b x ks)
+Says σ (makeFunction v) r τ = Unit {0}
 Says σ (setIntegrityLevel o level) r τ = r ≡ boolean true → Shut τ o
 Says σ (testIntegrityLevel o level) r τ = r ≡ boolean true → Shut σ o
 
@@ -78,9 +79,9 @@ read : {A : Type 0} (σ : Store) {Q : A → Type 0} (result : A → Result) {ask
     → ((a : A) → Q a → Says σ asks (result a) σ) → (s : State) → Said σ asks (once σ (reading σ result m) .run s)
 read σ result {asks} m h f = said-once σ asks (reading σ result m) (ensures-bind h (λ a q. ensures-pure _ (record { grows = grows-refl σ; says = f a q })))
 
-made : (σ : Store) (x : Object) (asks : Operation) → ((r : Result) (τ : Store) → Says σ asks r τ) → (s : State) → Said σ asks (once σ (make σ x) .run s)
+made : (σ : Store) (x : Object) (b : Bool) → (b ≡ true → IsOrdinary x) → (asks : Operation) → ((r : Result) (τ : Store) → Says σ asks r τ) → (s : State) → Said σ asks (once σ (make σ x b) .run s)
 unfolding make
-made σ x asks f = said-once σ asks _ (ensures-if _ (λ _. ensures-pure _ (record { grows = grows-add σ x; says = f _ _ })) (λ _. ensures-fails _))
+made σ x b o asks f = said-once σ asks _ (ensures-if _ (λ _. ensures-pure _ (record { grows = grows-add σ x b o; says = f _ _ })) (λ _. ensures-fails _))
 
 revoked-grows : (σ : Store) (o : ℕ) (x : Option Object) → lookup σ o ≡ x → Grows σ (revoked σ o x)
 revoked-grows σ o none e = grows-refl σ
@@ -113,8 +114,8 @@ set-said n c o level s = go (leads-bind (integrity-grows n c o (c .store) level)
 
 pub performed : (n : ℕ) (c : Context) (asks : Operation) (s : State) → Said (c .store) asks (perform n c asks .run s)
 unfolding perform
-performed n c (makeObject v) = made (c .store) _ _ (λ _ _. tt)
-performed n c (makeProxy o traps) = made (c .store) _ _ (λ _ _. tt)
+performed n c (makeObject v) = made (c .store) _ _ (λ e. absurd (false≢true e)) _ (λ _ _. tt)
+performed n c (makeProxy o traps) = made (c .store) _ _ (λ e. absurd (false≢true e)) _ (λ _ _. tt)
 performed n c (revoke o) = said-once (c .store) (revoke o) _ (ensures-pure _ (record { grows = revoked-grows (c .store) o _ refl; says = tt }))
 performed n c (getPrototypeOf o) = read _ value _ (getPrototypeOf-report n c o) (λ v u. (v, refl, u))
 performed n c (setPrototypeOf o v) = wrote _ (setPrototypeOf-report n c o v) (λ r τ f. f)
@@ -127,5 +128,6 @@ performed n c (get o k receiver) = read _ value _ (get-report n c o k receiver) 
 performed n c (set o k v receiver) = wrote _ (set-report n c o k v receiver) (λ r τ f. f)
 performed n c (delete o k) = wrote _ (delete-report n c o k) (λ r τ f. f)
 performed n c (ownPropertyKeys o) = read _ keys _ (ownPropertyKeys-report n c o) (λ ks u. (ks, refl, u))
+performed n c (makeFunction v) = made (c .store) _ _ (λ _. record { object = _; is = refl }) _ (λ _ _. tt)
 performed n c (setIntegrityLevel o level) = set-said n c o level
 performed n c (testIntegrityLevel o level) = read _ boolean _ (test-report n c o level) (λ b u e. u (boolean-is b true e))

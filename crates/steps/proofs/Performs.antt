@@ -7,13 +7,12 @@ use mathlib.Core.Option.{Option, none, some}
 use mathlib.Core.List.{List, [], _∷_}
 use lib.Dec.{ltb}
 use lib.ListN.{length}
-use Rattle.value.specs.declared.Value.the-variants as language
 use Rattle.value.specs.declared.PropertyKey.{PropertyKey}
 use Rattle.property.specs.declared.PropertyDescriptor.{PropertyDescriptor}
 use Rattle.property.specs.declared.OwnProperty.the-variants.{Absent, Present}
 use Rattle.store.specs.declared.Object.{Object}
 use Rattle.store.specs.declared.Object.the-variants.{Ordinary, Proxy}
-use Rattle.store.specs.Store.{Store, lookup, add, maximumObjects}
+use Rattle.store.specs.Store.{Store, lookup, add, named, maximumObjects}
 use Rattle.internal_methods.specs.declared.Failure.{Failure}
 use Rattle.internal_methods.specs.declared.Failure.the-variants.{Refused, TypeError}
 use Rattle.internal_methods.specs.Monad.{State, Out, M, pure, fails, if_then_else_}
@@ -22,7 +21,7 @@ use Rattle.internal_methods.specs.Internal.{methods}
 use Rattle.internal_methods.proofs.Walk.{Any}
 use Rattle.internal_methods.proofs.StoreClosed.{Made, MadeObject, Closed, closed-put, closed-object}
 use Rattle.internal_methods.proofs.Budget.{MadeAnswers, Met, Agree, Steady, KeptBy, steady-pure, steady-bind, steady-above, ends-alike, ends-failed, ends-done}
-use Rattle.steps.specs.Operation.{Level, sealed, frozen, Operation, makeObject, makeProxy, revoke, getPrototypeOf, setPrototypeOf, isExtensible, preventExtensions, getOwnProperty, defineOwnProperty, hasProperty, get, set, delete, ownPropertyKeys, setIntegrityLevel, testIntegrityLevel}
+use Rattle.steps.specs.Operation.{Level, sealed, frozen, Operation, makeObject, makeProxy, revoke, getPrototypeOf, setPrototypeOf, isExtensible, preventExtensions, getOwnProperty, defineOwnProperty, hasProperty, get, set, delete, ownPropertyKeys, makeFunction, setIntegrityLevel, testIntegrityLevel}
 use Rattle.steps.specs.Sequence.{Ran, Sequence, written, throwIf, forEach, giving}
 use Rattle.steps.specs.Sequence as sequence
 use Rattle.steps.specs.SetIntegrityLevel.{definePropertyOrThrow, freezeProperty, turn}
@@ -33,8 +32,8 @@ use Rattle.steps.specs.Perform.{Result, value, keys, ownResult, boolean,
 use Rattle.steps.proofs.Made.{MadeOperation, made-kept, answers-kept, closed-add}
 
 -- what making an object gives
-abbrev added : Store → Object → Result × Store
-added σ x = (value (language.Object (length (σ .objects))), add σ x)
+abbrev added : Store → Object → Bool → Result × Store
+added σ x b = (value (named b (length (σ .objects))), add σ x b)
 
 -- how an operation can fail: there are 32 objects, as a method can over a store on the way, or as a definition that is rejected
 pub data Fails (c : Context) : Failure → State → Type 0 where
@@ -176,21 +175,21 @@ module _ (c : Context) (n : ℕ) (closed : Closed (c .store)) where
   writes h = steady-bind h (λ a k. steady-pure _ (k .closed))
 
   -- an operation that makes an object
-  making : (asks : Operation) (x : Object) → MadeObject (c .store) x → ((d : ℕ) → perform d c asks ≡ once (c .store) (make (c .store) x)) → Performs c n asks
+  making : (asks : Operation) (x : Object) (b : Bool) → MadeObject (c .store) x → ((d : ℕ) → perform d c asks ≡ once (c .store) (make (c .store) x b)) → Performs c n asks
   unfolding once make if_then_else_ pure fails
-  making asks x m is = record {
+  making asks x b m is = record {
     alike = λ d d′ i i′ s le ms. ap (λ (r : Run). r .run s) (is d ∙ sym (is d′));
     fails = λ s t f le ms e. failing (ltb (length (c .store .objects)) maximumObjects) refl s t f (ap (λ (r : Run). r .run s .0) (sym (is n)) ∙ e);
     closes = λ s le ms. subst (λ (r : Run). Closed (r .run s .1)) (sym (is n)) (closing (ltb (length (c .store .objects)) maximumObjects) s);
   }
     where
-      failing : (b : Bool) → ltb (length (c .store .objects)) maximumObjects ≡ b → (s t : State) (f : Failure)
-          → written (c .store) ((if_then_else_ b (pure (added (c .store) x)) (fails (Refused 7))) .run s) .0 ≡ Out.failed f t → Fails c f t
+      failing : (room : Bool) → ltb (length (c .store .objects)) maximumObjects ≡ room → (s t : State) (f : Failure)
+          → written (c .store) ((if_then_else_ room (pure (added (c .store) x b)) (fails (Refused 7))) .run s) .0 ≡ Out.failed f t → Fails c f t
       failing true q s t f e = absurd (false≢true cc)
       failing false q s t f e = let g : Refused 7 ≡ f = cc in subst (λ (y : Failure). Fails c y t) g (crowded q)
 
-      closing : (b : Bool) (s : State) → Closed (written (c .store) ((if_then_else_ b (pure (added (c .store) x)) (fails (Refused 7))) .run s) .1)
-      closing true s = closed-add (c .store) x closed m
+      closing : (room : Bool) (s : State) → Closed (written (c .store) ((if_then_else_ room (pure (added (c .store) x b)) (fails (Refused 7))) .run s) .1)
+      closing true s = closed-add (c .store) x b closed m
       closing false s = closed
 
   revoked-closed : (o : ℕ) (x : Option Object) → lookup (c .store) o ≡ x → Closed (revoked (c .store) o x)
@@ -229,8 +228,8 @@ module _ (c : Context) (n : ℕ) (closed : Closed (c .store)) where
 
   pub performs : (asks : Operation) → MadeOperation (c .store) asks → Performs c n asks
   unfolding perform
-  performs (makeObject v) m = making (makeObject v) _ m (λ d. refl)
-  performs (makeProxy o traps) m = making (makeProxy o traps) _ m (λ d. refl)
+  performs (makeObject v) m = making (makeObject v) _ _ m (λ d. refl)
+  performs (makeProxy o traps) m = making (makeProxy o traps) _ _ m (λ d. refl)
   performs (revoke o) m = by-method (revoke o) _ (λ d. refl) (λ d d′ i i′. steady-pure _ (revoked-closed o (lookup (c .store) o) refl))
   performs (getPrototypeOf o) m = by-method (getPrototypeOf o) _ (λ d. refl) (λ d d′ i i′. reads value (steady-above n d d′ i i′ c closed .getPrototypeOf o m))
   performs (setPrototypeOf o v) m = by-method (setPrototypeOf o v) _ (λ d. refl) (λ d d′ i i′. writes (steady-above n d d′ i i′ c closed .setPrototypeOf o v (m .0) (m .1)))
@@ -243,5 +242,6 @@ module _ (c : Context) (n : ℕ) (closed : Closed (c .store)) where
   performs (set o k v receiver) m = by-method (set o k v receiver) _ (λ d. refl) (λ d d′ i i′. writes (steady-above n d d′ i i′ c closed .set o k v receiver (m .0) (m .1)))
   performs (delete o k) m = by-method (delete o k) _ (λ d. refl) (λ d d′ i i′. writes (steady-above n d d′ i i′ c closed .delete o k m))
   performs (ownPropertyKeys o) m = by-method (ownPropertyKeys o) _ (λ d. refl) (λ d d′ i i′. reads keys (steady-above n d d′ i i′ c closed .ownPropertyKeys o m))
+  performs (makeFunction v) m = making (makeFunction v) _ _ m (λ d. refl)
   performs (setIntegrityLevel o level) m = setting o m level
   performs (testIntegrityLevel o level) m = by-method (testIntegrityLevel o level) _ (λ d. refl) (λ d d′ i i′. reads boolean (test-steady o m level d d′ i i′))

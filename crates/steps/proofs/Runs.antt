@@ -8,8 +8,7 @@ use mathlib.Core.List.{List, _∷_, _++_}
 use lib.ListN.{length}
 use borrow.Author.Tests.{ltb-false, le-ltb, not-true}
 use Rattle.value.specs.declared.Value.{Value}
-use Rattle.value.specs.declared.Value.the-variants as language
-use Rattle.store.specs.Store.{Store, World, maximumObjects, maximumProperties}
+use Rattle.store.specs.Store.{Store, World, named, maximumObjects, maximumProperties}
 use Rattle.internal_methods.specs.declared.Failure.{Failure}
 use Rattle.internal_methods.specs.declared.Failure.the-variants.{Refused, Thrown}
 use Rattle.internal_methods.specs.Monad.{Answer, throw, State, state, Out, failed, done}
@@ -60,7 +59,7 @@ module _ (ω : World) (bytes sheet : List ℕ) where
   crowded-ran m h = of-making (perform-makes (contextOf ω) maximumCalls maximumProperties (asked bytes) m from)
     where
       of-making : {x : Ran Result} → MakesOut (contextOf ω) maximumCalls from x → x .0 ≡ failed (Refused 7) from
-      of-making (MakesOut.made o e) = absurd (false≢true (sym (le-ltb _ _ h) ∙ e))
+      of-making (MakesOut.made x b e) = absurd (false≢true (sym (le-ltb _ _ h) ∙ e))
       of-making (MakesOut.crowded e) = refl
 
   pub full-ran : (τ : Store) (s : State) → maximumProperties ≤ length (ω .store .properties) → runWith ω bytes (suc (length (ω .store .properties))) (sheetOf sheet) maximumCalls ≡ (done (boolean true) s, τ)
@@ -68,11 +67,12 @@ module _ (ω : World) (bytes sheet : List ℕ) where
   unfolding ran
   full-ran τ s l r h = by-operation (makesObject (asked bytes)) refl (writesInTurn (asked bytes)) refl
     where
+      no-boolean : {C : Type 0} (n : ℕ) (b : Bool) → done (value (named b n)) from ≡ done (boolean true) s → C
+      no-boolean n true e = absurd (false≢true cc)
+      no-boolean n false e = absurd (false≢true cc)
+
       of-making : {x : Ran Result} → MakesOut (contextOf ω) maximumCalls from x → x ≡ (done (boolean true) s, τ) → (t : State) × (perform maximumCalls (contextOf ω) (asked bytes) .run from .0 ≡ failed (Refused 7) t)
-      of-making (MakesOut.made o e) q =
-          let i : done (value (language.Object (length (ω .store .objects)))) from ≡ done (boolean true) s = ap (λ (x : Ran Result). x .0) q in
-          let j : value (language.Object (length (ω .store .objects))) ≡ boolean true = cc in
-          absurd (false≢true cc)
+      of-making (MakesOut.made x b e) q = no-boolean _ b (ap (λ (x : Ran Result). x .0) q)
       of-making (MakesOut.crowded e) q = let i : failed (Refused 7) from ≡ done (boolean true) s = ap (λ (x : Ran Result). x .0) q in absurd (false≢true cc)
 
       longer : (υ : Store) → υ ≡ τ → length (υ .properties) ≤ length (ω .store .properties) → ⊥
@@ -114,7 +114,7 @@ module _ (ω : World) (bytes sheet : List ℕ) where
   seven s e = by-operation (makesObject (asked bytes)) refl (writesInTurn (asked bytes)) refl
     where
       of-making : {x : Ran Result} → makesObject (asked bytes) ≡ true → MakesOut (contextOf ω) maximumCalls from x → x .0 ≡ failed (Refused 7) s → Crowded ω bytes sheet
-      of-making m (MakesOut.made o h) q = absurd (false≢true cc)
+      of-making m (MakesOut.made x b h) q = absurd (false≢true cc)
       of-making m (MakesOut.crowded h) q = by-objects m (ltb-false _ _ h)
 
       of-room : {x y : Ran Result} → RoomOut (contextOf ω) x y → x .0 ≡ failed (Refused 7) s → runWith ω bytes (suc (length (ω .store .properties))) (sheetOf sheet) maximumCalls ≡ y → Crowded ω bytes sheet

@@ -13,7 +13,7 @@ use Rattle.internal_methods.specs.declared.Failure.the-variants.{TypeError}
 use Rattle.internal_methods.specs.Monad.{State, Out, M, pure, fails, next, _>>=_}
 use Rattle.internal_methods.specs.Methods.{Context, Methods}
 use Rattle.internal_methods.proofs.Ensures.{Ensures}
-use Rattle.steps.specs.Operation.{Level, sealed, frozen, Operation, makeObject, makeProxy, revoke, getPrototypeOf, setPrototypeOf, isExtensible, preventExtensions, getOwnProperty, defineOwnProperty, hasProperty, get, set, delete, ownPropertyKeys, setIntegrityLevel, testIntegrityLevel}
+use Rattle.steps.specs.Operation.{Level, sealed, frozen, Operation, makeObject, makeProxy, revoke, getPrototypeOf, setPrototypeOf, isExtensible, preventExtensions, getOwnProperty, defineOwnProperty, hasProperty, get, set, delete, ownPropertyKeys, makeFunction, setIntegrityLevel, testIntegrityLevel}
 use Rattle.steps.specs.Sequence.{Ran, Sequence, written, reads, writes, throwIf, forEach}
 use Rattle.steps.specs.Sequence as sequence
 use Rattle.steps.specs.SetIntegrityLevel.{definePropertyOrThrow, freezeProperty, turn}
@@ -231,5 +231,6 @@ performs-once n c (get o k receiver) s = Once.at-once (failure-leaves (c .store)
 performs-once n c (set o k v receiver) s = Once.at-once (failure-leaves (c .store) _ s)
 performs-once n c (delete o k) s = Once.at-once (failure-leaves (c .store) _ s)
 performs-once n c (ownPropertyKeys o) s = Once.at-once (failure-leaves (c .store) _ s)
+performs-once n c (makeFunction v) s = Once.at-once (failure-leaves (c .store) _ s)
 performs-once n c (setIntegrityLevel o level) s = Once.by-turns refl
 performs-once n c (testIntegrityLevel o level) s = Once.at-once (failure-leaves (c .store) _ s)

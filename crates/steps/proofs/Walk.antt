@@ -16,7 +16,7 @@ use Rattle.internal_methods.specs.Ordinary.{reaches}
 use Rattle.internal_methods.proofs.Ensures.{Ensures, ensures-pure, ensures-fails, ensures-bind, ensures-if, ensures-then}
 use Rattle.internal_methods.proofs.StoreClosed.{MadeValue, MadeObject}
 use Rattle.internal_methods.proofs.Chain.{Chain, value, Ends, proxies-alike, walk-enough, ends-put, ends-add, setPrototypeOf-ends, preventExtensions-ends, defineOwnProperty-ends, set-ends, delete-ends}
-use Rattle.steps.specs.Operation.{Level, Operation, makeObject, makeProxy, revoke, getPrototypeOf, setPrototypeOf, isExtensible, preventExtensions, getOwnProperty, defineOwnProperty, hasProperty, get, set, delete, ownPropertyKeys, setIntegrityLevel, testIntegrityLevel, asked}
+use Rattle.steps.specs.Operation.{Level, Operation, makeObject, makeProxy, revoke, getPrototypeOf, setPrototypeOf, isExtensible, preventExtensions, getOwnProperty, defineOwnProperty, hasProperty, get, set, delete, ownPropertyKeys, makeFunction, setIntegrityLevel, testIntegrityLevel, asked}
 use Rattle.steps.specs.Sequence.{written}
 use Rattle.steps.specs.Perform.{Result, keys, ownResult, boolean, once, inTurn, reading, writing, make, revoked, maximumCalls, perform}
 use Rattle.steps.specs.Step.{contextOf, ran}
@@ -47,9 +47,9 @@ module _ (c : Context) (h : Ends (c .store)) where
   writes : (m : M Written) → Ensures m (λ a. Ends (a .1)) → (s : State) → Ends (once (c .store) (writing m) .run s .1)
   writes m e = once-ends (c .store) h _ (ensures-bind e (λ a k. ensures-pure _ k))
 
-  makes : (x : Object) → MadeObject (c .store) x → (s : State) → Ends (once (c .store) (make (c .store) x) .run s .1)
+  makes : (x : Object) (b : Bool) → MadeObject (c .store) x → (s : State) → Ends (once (c .store) (make (c .store) x b) .run s .1)
   unfolding make
-  makes x m = once-ends (c .store) h _ (ensures-if _ (λ _. ensures-pure _ (ends-add (c .store) x m h)) (λ _. ensures-fails _))
+  makes x b m = once-ends (c .store) h _ (ensures-if _ (λ _. ensures-pure _ (ends-add (c .store) x b m h)) (λ _. ensures-fails _))
 
   revokes : (o : ℕ) (x : Option Object) → lookup (c .store) o ≡ x → Ends (revoked (c .store) o x)
   revokes o none e = h
@@ -71,8 +71,8 @@ module _ (c : Context) (h : Ends (c .store)) where
 
   perform-ends : (n : ℕ) (asks : Operation) → MadeOperation (c .store) asks → (s : State) → Ends (perform n c asks .run s .1)
   unfolding perform
-  perform-ends n (makeObject v) m = makes _ m
-  perform-ends n (makeProxy o traps) m = makes _ m
+  perform-ends n (makeObject v) m = makes _ _ m
+  perform-ends n (makeProxy o traps) m = makes _ _ m
   perform-ends n (revoke o) m = once-ends (c .store) h _ (ensures-pure _ (revokes o (lookup (c .store) o) refl))
   perform-ends n (getPrototypeOf o) m = reads _ _
   perform-ends n (setPrototypeOf o v) m = writes _ (setPrototypeOf-ends c h n o v (m .1))
@@ -85,6 +85,7 @@ module _ (c : Context) (h : Ends (c .store)) where
   perform-ends n (set o k v receiver) m = writes _ (set-ends c h n o k v receiver)
   perform-ends n (delete o k) m = writes _ (delete-ends c h n o k)
   perform-ends n (ownPropertyKeys o) m = reads keys _
+  perform-ends n (makeFunction v) m = makes _ _ m
   perform-ends n (setIntegrityLevel o level) m = sets n o level
   perform-ends n (testIntegrityLevel o level) m = reads boolean _
 

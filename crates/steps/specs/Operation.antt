@@ -37,10 +37,11 @@ pub data Operation : Type 0 where
   set : ℕ → PropertyKey → Value → Value → Operation
   delete : ℕ → PropertyKey → Operation
   ownPropertyKeys : ℕ → Operation
+  makeFunction : Value → Operation
   setIntegrityLevel : ℕ → Level → Operation
   testIntegrityLevel : ℕ → Level → Operation
 
--- codes 1 and 2
+-- codes 1, 2 and 16
 abbrev pub makesObject : Operation → Bool
 makesObject (makeObject v) = true
 makesObject (makeProxy o traps) = true
@@ -56,6 +57,7 @@ makesObject (get o k receiver) = false
 makesObject (set o k v receiver) = false
 makesObject (delete o k) = false
 makesObject (ownPropertyKeys o) = false
+makesObject (makeFunction v) = true
 makesObject (setIntegrityLevel o level) = false
 makesObject (testIntegrityLevel o level) = false
 
@@ -75,6 +77,7 @@ writesInTurn (get o k receiver) = false
 writesInTurn (set o k v receiver) = false
 writesInTurn (delete o k) = false
 writesInTurn (ownPropertyKeys o) = false
+writesInTurn (makeFunction v) = false
 writesInTurn (setIntegrityLevel o level) = true
 writesInTurn (testIntegrityLevel o level) = false
 
@@ -119,8 +122,9 @@ byCode code o k v receiver d =
     (pick (eqb code 12) (set o k v receiver)
     (pick (eqb code 13) (delete o k)
     (pick (eqb code 14) (ownPropertyKeys o)
+    (pick (eqb code 16) (makeFunction v)
     (pick (eqb code 18) (setIntegrityLevel o (levelOf v))
-    (testIntegrityLevel o (levelOf v))))))))))))))))
+    (testIntegrityLevel o (levelOf v)))))))))))))))))
 
 unfoldable pub operationOf : Step → Operation
 operationOf s = byCode (s .code) (s .object) (keyOrFirst (keyOf (s .key))) (s .value) (s .receiver) (toPropertyDescriptor (s .descriptor))

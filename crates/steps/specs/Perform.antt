@@ -13,12 +13,12 @@ use Rattle.property.specs.declared.OwnProperty.{OwnProperty}
 use Rattle.property.specs.declared.OwnProperty.the-variants.{Absent, Present}
 use Rattle.store.specs.declared.Object.{Object}
 use Rattle.store.specs.declared.Object.the-variants.{Ordinary, Proxy}
-use Rattle.store.specs.Store.{Store, lookup, put, add, maximumObjects}
+use Rattle.store.specs.Store.{Store, lookup, put, add, named, maximumObjects}
 use Rattle.internal_methods.specs.declared.Failure.the-variants.{Refused}
 use Rattle.internal_methods.specs.Monad.{State, M, pure, fails, _>>=_, _>>_, if_then_else_}
 use Rattle.internal_methods.specs.Methods.{Context, Written}
 use Rattle.internal_methods.specs.Internal.{methods}
-use Rattle.steps.specs.Operation.{Operation, makeObject, makeProxy, revoke, getPrototypeOf, setPrototypeOf, isExtensible, preventExtensions, getOwnProperty, defineOwnProperty, hasProperty, get, set, delete, ownPropertyKeys, setIntegrityLevel, testIntegrityLevel}
+use Rattle.steps.specs.Operation.{Operation, makeObject, makeProxy, revoke, getPrototypeOf, setPrototypeOf, isExtensible, preventExtensions, getOwnProperty, defineOwnProperty, hasProperty, get, set, delete, ownPropertyKeys, makeFunction, setIntegrityLevel, testIntegrityLevel}
 use Rattle.steps.specs.Sequence.{Ran, Sequence, written, giving}
 use Rattle.steps.specs.SetIntegrityLevel
 use Rattle.steps.specs.TestIntegrityLevel
@@ -59,10 +59,10 @@ reading σ result m = m >>= λ a. pure (result a, σ)
 abbrev pub writing : M Written → M (Result × Store)
 writing m = m >>= λ a. pure (boolean (a .0), a .1)
 
--- a new object has the next number
-unfoldable pub make : Store → Object → M (Result × Store)
-make σ x =
-    if ltb (length (σ .objects)) maximumObjects then pure (value (language.Object (length (σ .objects))), add σ x)
+-- a new object has the next number, and is callable or not
+unfoldable pub make : Store → Object → Bool → M (Result × Store)
+make σ x b =
+    if ltb (length (σ .objects)) maximumObjects then pure (value (named b (length (σ .objects))), add σ x b)
     else fails (Refused 7)
 
 abbrev pub revoked : Store → ℕ → Option Object → Store
@@ -76,8 +76,8 @@ over c σ = record { store = σ; strings = c .strings; allowance = c .allowance 
 
 -- `depth` bounds how deep methods call one another
 unfoldable pub perform : ℕ → Context → Operation → Run
-perform depth c (makeObject v) = once (c .store) (make (c .store) (Ordinary (record { prototype = v; extensible = true })))
-perform depth c (makeProxy o traps) = once (c .store) (make (c .store) (Proxy (record { target = o; traps = traps; revoked = false })))
+perform depth c (makeObject v) = once (c .store) (make (c .store) (Ordinary (record { prototype = v; extensible = true })) false)
+perform depth c (makeProxy o traps) = once (c .store) (make (c .store) (Proxy (record { target = o; traps = traps; revoked = false })) false)
 perform depth c (revoke o) = once (c .store) (pure (boolean true, revoked (c .store) o (lookup (c .store) o)))
 perform depth c (getPrototypeOf o) = once (c .store) (reading (c .store) value (methods depth c .getPrototypeOf o))
 perform depth c (setPrototypeOf o v) = once (c .store) (writing (methods depth c .setPrototypeOf o v))
@@ -90,6 +90,7 @@ perform depth c (get o k receiver) = once (c .store) (reading (c .store) value (
 perform depth c (set o k v receiver) = once (c .store) (writing (methods depth c .set o k v receiver))
 perform depth c (delete o k) = once (c .store) (writing (methods depth c .delete o k))
 perform depth c (ownPropertyKeys o) = once (c .store) (reading (c .store) keys (methods depth c .ownPropertyKeys o))
+perform depth c (makeFunction v) = once (c .store) (make (c .store) (Ordinary (record { prototype = v; extensible = true })) true)
 perform depth c (setIntegrityLevel o level) =
     inTurn (c .store) (giving boolean (SetIntegrityLevel.setIntegrityLevel (λ σ. methods depth (over c σ)) o level))
 perform depth c (testIntegrityLevel o level) = once (c .store) (reading (c .store) boolean (TestIntegrityLevel.testIntegrityLevel (methods depth c) o level))

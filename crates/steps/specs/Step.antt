@@ -24,7 +24,7 @@ use Rattle.steps.specs.Perform.{Result, value, descriptor, absent, keys,
 use Rattle.steps.specs.Response.{Ending, refused, result, typeError, thrown, Response, refusal, Effect}
 
 abbrev pub countsOf : World → Counts
-countsOf ω = record { objects = length (ω .store .objects); strings = length (ω .strings) }
+countsOf ω = record { objects = length (ω .store .objects); strings = length (ω .strings); callable = ω .store .callable }
 
 abbrev pub contextOf : World → Context
 contextOf ω = record { store = ω .store; strings = ω .strings; allowance = maximumProperties }

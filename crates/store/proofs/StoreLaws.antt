@@ -1,22 +1,23 @@
 -- What is found in a store after a change of it. Assumes nothing.
-use Prim.Native.Nat.{ℕ, zero, suc}
+use Prim.Native.Nat.{ℕ, zero, suc, _<_, suc-le-suc, zero-le}
 use mathlib.Core.Path.{_≡_, refl, sym, ap, _∙_}
 use mathlib.Core.Bool.{Bool, true, false, _&&_, cond, false≢true, true≢false}
-use mathlib.Core.Option.{some}
+use mathlib.Core.Option.{none, some}
 use mathlib.Core.List.{List, [], _∷_, _++_}
 use lib.Dec.{eqb}
-use lib.ListN.{getElem?, set}
+use lib.ListN.{length, getElem?, set}
 use borrow.Author.Tests.{eqb-true, eqb-false, eq-eqb}
 use Rattle.value.specs.declared.PropertyKey.{PropertyKey}
 use Rattle.value.specs.PropertyKey.{sameKey}
 use Rattle.value.proofs.Bools.{and-true, refuted}
+use Rattle.value.proofs.BitLaws.{bit-before, bit-at}
 use Rattle.value.proofs.SameKey.{key-refl, key-eq}
 use Rattle.property.specs.declared.Property.{Property}
 use Rattle.property.specs.declared.OwnProperty.{OwnProperty}
 use Rattle.property.specs.declared.OwnProperty.the-variants.{Absent, Present}
 use Rattle.store.specs.declared.Object.{Object}
 use Rattle.store.specs.declared.Entry.{Entry}
-use Rattle.store.specs.Store.{Store, lookup, put, add, isAt, find, insert, remove, own, withProperty, withoutProperty}
+use Rattle.store.specs.Store.{Store, lookup, put, marked, add, isFunction, isAt, find, insert, remove, own, withProperty, withoutProperty}
 
 -- are they one object and one key?
 abbrev pub samePlace : ℕ → PropertyKey → ℕ → PropertyKey → Bool
@@ -56,9 +57,9 @@ pub lookup-put-other : (σ : Store) (o b : ℕ) (y : Object) → eqb o b ≡ fal
 unfolding lookup put
 lookup-put-other σ o b y h = get-set-other (σ .objects) o b y (eqb-false o b h)
 
-pub lookup-add : (σ : Store) (y : Object) (o : ℕ) (x : Object) → lookup σ o ≡ some x → lookup (add σ y) o ≡ some x
+pub lookup-add : (σ : Store) (y : Object) (b : Bool) (o : ℕ) (x : Object) → lookup σ o ≡ some x → lookup (add σ y b) o ≡ some x
 unfolding lookup add
-lookup-add σ y o x e = get-append (σ .objects) (y ∷ []) o x e
+lookup-add σ y b o x e = get-append (σ .objects) (y ∷ []) o x e
 
 pub lookup-with : (σ : Store) (o : ℕ) (k : PropertyKey) (p : Property) (b : ℕ) → lookup (withProperty σ o k p) b ≡ lookup σ b
 unfolding lookup withProperty
@@ -74,9 +75,44 @@ pub own-put : (σ : Store) (o : ℕ) (y : Object) (b : ℕ) (l : PropertyKey) �
 unfolding own put
 own-put σ o y b l = refl
 
-pub own-add : (σ : Store) (y : Object) (b : ℕ) (l : PropertyKey) → own (add σ y) b l ≡ own σ b l
+-- what is found is one of the objects
+pub found-below : {A : Type 0} (xs : List A) (i : ℕ) (x : A) → getElem? xs i ≡ some x → i < length xs
+found-below [] i x e = absurd (false≢true cc)
+found-below (y ∷ xs) zero x e = suc-le-suc zero-le
+found-below (y ∷ xs) (suc i) x e = suc-le-suc (found-below xs i x e)
+
+-- the object that was added is there
+pub lookup-next : (σ : Store) (y : Object) (b : Bool) → lookup (add σ y b) (length (σ .objects)) ≡ some y
+unfolding lookup add
+lookup-next σ y b = go (σ .objects)
+  where
+    go : (xs : List Object) → getElem? (xs ++ (y ∷ [])) (length xs) ≡ some y
+    go [] = refl
+    go (x ∷ xs) = go xs
+
+-- an object that was not there is the one that was added
+pub lookup-new : (σ : Store) (y : Object) (b : Bool) (o : ℕ) (z : Object) → lookup σ o ≡ none → lookup (add σ y b) o ≡ some z → (o ≡ length (σ .objects)) × (y ≡ z)
+unfolding lookup add
+lookup-new σ y b o z = go (σ .objects) o
+  where
+    go : (xs : List Object) (i : ℕ) → getElem? xs i ≡ none → getElem? (xs ++ (y ∷ [])) i ≡ some z → (i ≡ length xs) × (y ≡ z)
+    go [] zero e f = (refl, cc)
+    go [] (suc i) e f = absurd (false≢true cc)
+    go (x ∷ xs) zero e f = absurd (false≢true cc)
+    go (x ∷ xs) (suc i) e f = let (p, q) = go xs i e f in (ap suc p, q)
+
+-- an object keeps its mark, and the next one has its own
+pub function-add : (σ : Store) (y : Object) (b : Bool) (o : ℕ) (x : Object) → lookup σ o ≡ some x → isFunction (add σ y b) o ≡ isFunction σ o
+unfolding lookup add marked
+function-add σ y b o x e = bit-before (σ .callable) (length (σ .objects)) o b (found-below (σ .objects) o x e)
+
+pub function-new : (σ : Store) (y : Object) (b : Bool) → isFunction (add σ y b) (length (σ .objects)) ≡ b
+unfolding add marked
+function-new σ y b = bit-at (σ .callable) (length (σ .objects)) b
+
+pub own-add : (σ : Store) (y : Object) (c : Bool) (b : ℕ) (l : PropertyKey) → own (add σ y c) b l ≡ own σ b l
 unfolding own add
-own-add σ y b l = refl
+own-add σ y c b l = refl
 
 -- an entry of one place is of no other
 apart : (e : Entry) (o : ℕ) (k : PropertyKey) (b : ℕ) (l : PropertyKey) → isAt e o k ≡ false → isAt e b l ≡ true → samePlace o k b l ≡ false

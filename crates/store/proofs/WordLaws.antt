@@ -18,7 +18,7 @@ use Rattle.store.specs.Words.{keyAt, wordAt, keyWord, ownerOf, keyOf, en
 
 -- what isStore says, as numbers
 pub record Sized (w : List ℕ) : Type 0 where
-  pub size : length w ≡ 1634
+  pub size : length w ≡ 1635
   pub objects : wordAt w 0 ≤ 32
   pub properties : wordAt w 1 ≤ 256
 

@@ -1,10 +1,13 @@
--- The store: objects numbered from 0 in the order made, and properties in the order of creation. Assumes nothing.
-use Prim.Native.Nat.{ℕ, zero, suc}
+-- The store: objects numbered from 0 in the order made, which of them are callable, and properties in the order of creation. Assumes nothing.
+use Prim.Native.Nat.{ℕ, zero, suc, _+_, _%_, _^_}
 use mathlib.Core.Bool.{Bool, true, false, _&&_, cond}
 use mathlib.Core.Option.{Option, none, some}
 use mathlib.Core.List.{List, [], _∷_, _++_}
 use lib.Dec.{eqb, ltb}
 use lib.ListN.{length, getElem?, set}
+use Rattle.value.specs.Bits.{bit, weight}
+use Rattle.value.specs.declared.Value.{Value}
+use Rattle.value.specs.declared.Value.the-variants as value
 use Rattle.value.specs.declared.PropertyKey.{PropertyKey}
 use Rattle.value.specs.PropertyKey.{sameKey}
 use Rattle.property.specs.declared.Property.{Property}
@@ -16,6 +19,7 @@ use Rattle.store.specs.declared.Entry.{Entry}
 
 pub record Store : Type 0 where
   pub objects : List Object
+  pub callable : ℕ  -- bit o is the mark of the object o
   pub properties : List Entry
 
 -- all that a list of calls changes
@@ -24,7 +28,7 @@ pub record World : Type 0 where
   pub strings : Strings
 
 abbrev pub empty : World
-empty = record { store = record { objects = []; properties = [] }; strings = [] }
+empty = record { store = record { objects = []; callable = 0; properties = [] }; strings = [] }
 
 abbrev pub maximumObjects : ℕ
 maximumObjects = 32
@@ -37,11 +41,27 @@ lookup σ o = getElem? (σ .objects) o
 
 -- the object o is now x
 unfoldable pub put : Store → ℕ → Object → Store
-put σ o x = record { objects = set (σ .objects) o x; properties = σ .properties }
+put σ o x = record { objects = set (σ .objects) o x; callable = σ .callable; properties = σ .properties }
 
--- x is the next object
-unfoldable pub add : Store → Object → Store
-add σ x = record { objects = σ .objects ++ (x ∷ []); properties = σ .properties }
+-- the marks of the objects before n, and b for n
+unfoldable pub marked : ℕ → ℕ → Bool → ℕ
+marked marks n b = marks % 2 ^ n + weight b (2 ^ n)
+
+-- x is the next object, callable or not
+unfoldable pub add : Store → Object → Bool → Store
+add σ x b = record { objects = σ .objects ++ (x ∷ []); callable = marked (σ .callable) (length (σ .objects)) b; properties = σ .properties }
+
+-- is the object o a function?
+abbrev pub isFunction : Store → ℕ → Bool
+isFunction σ o = bit (σ .callable) o
+
+-- the value that names an object: of kind 8 where it is a function, else of kind 7
+abbrev pub named : Bool → ℕ → Value
+named true o = value.Function o
+named false o = value.Object o
+
+abbrev pub nameOf : Store → ℕ → Value
+nameOf σ o = named (isFunction σ o) o
 
 abbrev pub entry : ℕ → PropertyKey → Property → Entry
 entry o k p = record { owner = o; key = k; property = p }
@@ -67,10 +87,10 @@ unfoldable pub own : Store → ℕ → PropertyKey → OwnProperty
 own σ o k = find (σ .properties) o k
 
 unfoldable pub withProperty : Store → ℕ → PropertyKey → Property → Store
-withProperty σ o k p = record { objects = σ .objects; properties = insert (σ .properties) o k p }
+withProperty σ o k p = record { objects = σ .objects; callable = σ .callable; properties = insert (σ .properties) o k p }
 
 unfoldable pub withoutProperty : Store → ℕ → PropertyKey → Store
-withoutProperty σ o k = record { objects = σ .objects; properties = remove (σ .properties) o k }
+withoutProperty σ o k = record { objects = σ .objects; callable = σ .callable; properties = remove (σ .properties) o k }
 
 -- the property of entry i is p
 unfoldable pub replaceAt : List Entry → ℕ → Property → List Entry
@@ -79,4 +99,4 @@ replaceAt (e ∷ es) zero p = entry (e .owner) (e .key) p ∷ es
 replaceAt (e ∷ es) (suc i) p = e ∷ replaceAt es i p
 
 unfoldable pub withChange : Store → ℕ → Property → Store
-withChange σ i p = record { objects = σ .objects; properties = replaceAt (σ .properties) i p }
+withChange σ i p = record { objects = σ .objects; callable = σ .callable; properties = replaceAt (σ .properties) i p }

@@ -1,4 +1,4 @@
--- The store in lent words: two counts, 32 objects of 3 words, 256 key words, then 256 properties of 5 words. Assumes nothing.
+-- The store in lent words: two counts, a word of marks, 32 objects of 3 words, 256 key words, then 256 properties of 5 words. Assumes nothing.
 use Prim.Native.Nat.{ℕ, zero, suc, _+_, _*_, _/_, _%_}
 use mathlib.Core.Bool.{Bool, true, false, not, _&&_, cond}
 use mathlib.Core.List.{List}
@@ -16,20 +16,20 @@ use Rattle.text.specs.Table.{tabulate, stringsOf}
 use Rattle.store.specs.declared.Object.{Object}
 use Rattle.store.specs.declared.Object.the-variants.{Ordinary, Proxy}
 use Rattle.store.specs.declared.Entry.{Entry}
-use Rattle.store.specs.Store.{Store, World, isAt, maximumObjects, maximumProperties}
+use Rattle.store.specs.Store.{Store, World, marked, isAt, maximumObjects, maximumProperties}
 
 abbrev pub storeSize : ℕ
-storeSize = 1634
+storeSize = 1635
 
 -- where object o, key word i and property i stand
 abbrev pub objectAt : ℕ → ℕ
-objectAt o = 2 + 3 * o
+objectAt o = 3 + 3 * o
 
 abbrev pub keyAt : ℕ → ℕ
-keyAt i = 98 + i
+keyAt i = 99 + i
 
 abbrev pub rowAt : ℕ → ℕ
-rowAt i = 354 + 5 * i
+rowAt i = 355 + 5 * i
 
 abbrev pub wordAt : List ℕ → ℕ → ℕ
 wordAt words i = getD words i 0
@@ -107,6 +107,7 @@ entryIn words i = record {
 unfoldable pub storeOf : List ℕ → Store
 storeOf words = record {
   objects = tabulate (objectIn words) 0 (wordAt words 0);
+  callable = wordAt words 2;
   properties = tabulate (entryIn words) 0 (wordAt words 1);
 }
 
@@ -124,9 +125,12 @@ isStore words = eqb (length words) storeSize && (leb (wordAt words 0) maximumObj
 unfoldable pub withObject : List ℕ → ℕ → Object → List ℕ
 withObject words o x = set (set (set words (objectAt o) (headOf x)) (objectAt o + 1) (firstOf x)) (objectAt o + 2) (secondOf x)
 
--- x is the next object
-unfoldable pub withNewObject : List ℕ → Object → List ℕ
-withNewObject words x = set (withObject words (wordAt words 0) x) 0 (suc (wordAt words 0))
+-- x is the next object, callable or not
+unfoldable pub withNewObject : List ℕ → Object → Bool → List ℕ
+withNewObject words x b =
+    set (set (withObject words (wordAt words 0) x)
+    2 (marked (wordAt words 2) (wordAt words 0) b))
+    0 (suc (wordAt words 0))
 
 -- property i is now p
 unfoldable pub withRow : List ℕ → ℕ → Property → List ℕ

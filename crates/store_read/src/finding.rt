@@ -13,7 +13,7 @@ ghost use Rattle.store.specs.Store as store;
 ghost use Rattle.store.specs.Words.{isStore, storeOf, wordAt, propertyIn};
 ghost use Rattle.store_read.specs.Answers.{findPlace, firstPlace, keyWords, placed, numberIn, classWeight};
 
-const ROWS: usize = 354;
+const ROWS: usize = 355;
 
 pub const NUMBERS: u64 = 288230376151711744;
 

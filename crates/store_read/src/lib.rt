@@ -1,5 +1,5 @@
 // Reading the store's words.
-// read: counts and objects. finding: where a property stands, and what it is. own_key_order: 10.1.11.1, by way of sorted_words.
+// read: counts, marks and objects. finding: where a property stands, and what it is. own_key_order: 10.1.11.1, by way of sorted_words.
 use store::Object;
 
 pub mod finding;
@@ -7,6 +7,7 @@ pub mod own_key_order;
 mod read;
 pub mod sorted_words;
 
+pub use read::callable;
 pub use read::is_store;
 pub use read::key_from_word;
 pub use read::object_at;
@@ -32,4 +33,4 @@ pub enum IndexWord {
 }
 
 // Where the key words begin.
-const KEYS: usize = 98;
+const KEYS: usize = 99;

@@ -1,4 +1,4 @@
-// Reading the store's words: its counts and objects, and the key that a word stands for.
+// Reading the store's words: its counts, marks and objects, and the key that a word stands for.
 use crate::ObjectFound;
 use store::Object;
 use store::OrdinaryObject;
@@ -13,9 +13,9 @@ ghost use Rattle.store.specs.Store as store;
 ghost use Rattle.store.specs.Words.{isStore, storeOf, objectOf};
 ghost use Rattle.store_read.specs.Answers.{objectFound, keyFromWord};
 
-const STORE_SIZE: usize = 1634;
+const STORE_SIZE: usize = 1635;
 
-const OBJECTS: usize = 2;
+const OBJECTS: usize = 3;
 
 // Whether the words have the right length, and counts that a store can have.
 pub fn is_store(words: &[u64]) -> bool
@@ -42,6 +42,14 @@ pub fn property_count(words: &[u64]) -> usize
     ensures { λ r. ⌜ (r ≡ length (storeOf (now (words .entry)) .properties)) × (r ≤ store.maximumProperties) ⌝ }
 {
     words[1] as usize
+}
+
+// The marks of the callable objects: bit o for object o.
+pub fn callable(words: &[u64]) -> u64
+    requires { ⌜ isStore (now words) ≡ true ⌝ }
+    ensures { λ r. ⌜ r ≡ storeOf (now (words .entry)) .callable ⌝ }
+{
+    words[2]
 }
 
 fn object_of(head: u64, a: u64, b: u64) -> Object

@@ -17,13 +17,13 @@ use Rattle.property.specs.declared.Property.{Property}
 use Rattle.property.specs.declared.Property.the-variants.{Data, Accessor}
 use Rattle.property.specs.declared.OwnProperty.the-variants.{Absent}
 use Rattle.text.specs.Table.{tabulate}
-use Rattle.text.proofs.TableLaws.{tabulate-ext, tabulate-last}
+use Rattle.text.proofs.TableLaws.{length-tabulate, tabulate-ext, tabulate-last}
 use Rattle.store.specs.declared.Object.{Object}
 use Rattle.store.specs.declared.Object.the-variants.{Ordinary, Proxy}
 use Rattle.store.specs.declared.Entry.{Entry}
 use Rattle.store_write.specs.declared.write.ObjectWords.{ObjectWords}
 use Rattle.store_write.specs.declared.write.PropertyWords.{PropertyWords}
-use Rattle.store.specs.Store.{Store, empty, entry, isAt, remove, put, add, own, withProperty, withoutProperty, replaceAt, withChange}
+use Rattle.store.specs.Store.{Store, empty, entry, isAt, remove, put, marked, add, own, withProperty, withoutProperty, replaceAt, withChange}
 use Rattle.store.specs.Words.{objectAt, keyAt, rowAt, wordAt, objectOf, objectIn, headOf, firstOf, secondOf, keyWord, propertyOf, flagsOf, primary, secondary, propertyIn, entryIn, storeOf, isStore, withObject, withNewObject, withRow, withNewRow, moved, swept, withoutRow}
 use Rattle.store_write.specs.Write.{Fits, FitsObject, FitsProperty, cellsOf, ObjectCells, PropertyCells, New, Becomes}
 use Rattle.store.proofs.WordLaws.{Sized, sized, is-store, word-owner, word-key, at-word}
@@ -143,7 +143,7 @@ objectsOf w = tabulate (objectIn w) 0 (wordAt w 0)
 abbrev propertiesOf : List ℕ → List Entry
 propertiesOf w = tabulate (entryIn w) 0 (wordAt w 1)
 
-objects-same : (u w : List ℕ) → wordAt w 0 ≤ 32 → wordAt u 0 ≡ wordAt w 0 → ((m : ℕ) → 2 ≤ m → m < 98 → wordAt u m ≡ wordAt w m) → objectsOf u ≡ objectsOf w
+objects-same : (u w : List ℕ) → wordAt w 0 ≤ 32 → wordAt u 0 ≡ wordAt w 0 → ((m : ℕ) → 3 ≤ m → m < 99 → wordAt u m ≡ wordAt w m) → objectsOf u ≡ objectsOf w
 objects-same u w l e h =
     rw e (tabulate-ext (objectIn u) (objectIn w) 0 (wordAt w 0) (λ o a b. object-same u w o (λ m t. h _ (omega arith) (omega arith))))
 
@@ -156,13 +156,13 @@ entry-same u w i j k h =
     let d : wordAt u (rowAt i) ≡ wordAt w (rowAt j) = rw (a, b) at (h 0 (omega arith)) in
     rw (k, d, h 1 (omega arith), h 2 (omega arith), h 3 (omega arith), h 4 (omega arith))
 
-properties-same : (u w : List ℕ) → wordAt u 1 ≡ wordAt w 1 → ((m : ℕ) → 98 ≤ m → wordAt u m ≡ wordAt w m) → propertiesOf u ≡ propertiesOf w
+properties-same : (u w : List ℕ) → wordAt u 1 ≡ wordAt w 1 → ((m : ℕ) → 99 ≤ m → wordAt u m ≡ wordAt w m) → propertiesOf u ≡ propertiesOf w
 properties-same u w e h =
     rw e (tabulate-ext (entryIn u) (entryIn w) 0 (wordAt w 1) (λ i a b. entry-same u w i i (h _ (omega arith)) (λ m t. h _ (omega arith))))
 
-store-by : (w : List ℕ) (σ : Store) → objectsOf w ≡ σ .objects → propertiesOf w ≡ σ .properties → storeOf w ≡ σ
+store-by : (w : List ℕ) (σ : Store) → objectsOf w ≡ σ .objects → wordAt w 2 ≡ σ .callable → propertiesOf w ≡ σ .properties → storeOf w ≡ σ
 unfolding storeOf
-store-by w σ a b = rw (a, b)
+store-by w σ a m b = rw (a, m, b)
 
 module _ (w : List ℕ) (s : Sized w) (o : ℕ) (x : Object) where
   module _ (h : o < wordAt w 0) where
@@ -185,41 +185,55 @@ module _ (w : List ℕ) (s : Sized w) (o : ℕ) (x : Object) where
         ∙ ap (set (objectsOf w) o) made) in
         let b : propertiesOf u ≡ propertiesOf w =
         properties-same u w (object-out w o x 1 (λ m t e. omega arith)) (λ m l. object-out w o x m (λ n t e. omega (arith, s .objects))) in
-        store-by u _ a b
+        store-by u _ a (object-out w o x 2 (λ m t e. omega arith)) b
 
-module _ (w : List ℕ) (s : Sized w) (x : Object) (h : wordAt w 0 < 32) where
-  made-out : (j : ℕ) → (j ≡ 0 → ⊥) → wordAt (withNewObject w x) j ≡ wordAt (withObject w (wordAt w 0) x) j
+-- the words with the next object and its mark
+abbrev markedBy : List ℕ → Object → Bool → List ℕ
+markedBy w x b = set (withObject w (wordAt w 0) x) 2 (marked (wordAt w 2) (wordAt w 0) b)
+
+pub length-marked : (w : List ℕ) (x : Object) (b : Bool) → length (markedBy w x b) ≡ length w
+length-marked w x b = length-set (withObject w (wordAt w 0) x) 2 (marked (wordAt w 2) (wordAt w 0) b) ∙ length-object w (wordAt w 0) x
+
+module _ (w : List ℕ) (s : Sized w) (x : Object) (b : Bool) (h : wordAt w 0 < 32) where
+  made-out : (j : ℕ) → (j ≡ 0 → ⊥) → (j ≡ 2 → ⊥) → wordAt (withNewObject w x b) j ≡ wordAt (withObject w (wordAt w 0) x) j
   unfolding withNewObject
-  made-out j z = other (withObject w (wordAt w 0) x) 0 j (suc (wordAt w 0)) z
+  made-out j z y = other (markedBy w x b) 0 j (suc (wordAt w 0)) z ∙ other (withObject w (wordAt w 0) x) 2 j (marked (wordAt w 2) (wordAt w 0) b) y
 
-  out : (j : ℕ) → (j ≡ 0 → ⊥) → ((m : ℕ) → m < 3 → j ≡ objectAt (wordAt w 0) + m → ⊥) → wordAt (withNewObject w x) j ≡ wordAt w j
-  out j z r = made-out j z ∙ object-out w (wordAt w 0) x j r
+  out : (j : ℕ) → (j ≡ 0 → ⊥) → (j ≡ 2 → ⊥) → ((m : ℕ) → m < 3 → j ≡ objectAt (wordAt w 0) + m → ⊥) → wordAt (withNewObject w x b) j ≡ wordAt w j
+  out j z y r = made-out j z y ∙ object-out w (wordAt w 0) x j r
 
-  count : wordAt (withNewObject w x) 0 ≡ suc (wordAt w 0)
+  count : wordAt (withNewObject w x b) 0 ≡ suc (wordAt w 0)
   unfolding withNewObject
-  count = same (withObject w (wordAt w 0) x) 0 (suc (wordAt w 0)) (omega (arith, length-object w (wordAt w 0) x, s .size))
+  count = same (markedBy w x b) 0 (suc (wordAt w 0)) (omega (arith, length-marked w x b, s .size))
 
-  pub sized-new-object : Sized (withNewObject w x)
+  marks : wordAt (withNewObject w x b) 2 ≡ marked (wordAt w 2) (wordAt w 0) b
+  unfolding withNewObject
+  marks =
+      other (markedBy w x b) 0 2 (suc (wordAt w 0)) (λ e. omega arith)
+      ∙ same (withObject w (wordAt w 0) x) 2 (marked (wordAt w 2) (wordAt w 0) b) (omega (arith, length-object w (wordAt w 0) x, s .size))
+
+  pub sized-new-object : Sized (withNewObject w x b)
   unfolding withNewObject
   sized-new-object = record {
-    size = length-set (withObject w (wordAt w 0) x) 0 (suc (wordAt w 0)) ∙ length-object w (wordAt w 0) x ∙ s .size;
+    size = length-set (markedBy w x b) 0 (suc (wordAt w 0)) ∙ length-marked w x b ∙ s .size;
     objects = rw count (omega arith);
-    properties = rw (out 1 (λ e. omega arith) (λ m t e. omega arith)) (s .properties);
+    properties = rw (out 1 (λ e. omega arith) (λ e. omega arith) (λ m t e. omega arith)) (s .properties);
   }
 
-  pub store-new-object : FitsObject x → storeOf (withNewObject w x) ≡ add (storeOf w) x
+  pub store-new-object : FitsObject x → storeOf (withNewObject w x b) ≡ add (storeOf w) x b
   unfolding add storeOf
   store-new-object f =
       let n = wordAt w 0 in
-      let u = withNewObject w x in
+      let u = withNewObject w x b in
       let made : objectIn u n ≡ x =
-      object-same u (withObject w n x) n (λ m t. made-out _ (λ e. omega arith)) ∙ object-made w n x (omega (arith, s .size)) f in
+      object-same u (withObject w n x) n (λ m t. made-out _ (λ e. omega arith) (λ e. omega arith)) ∙ object-made w n x (omega (arith, s .size)) f in
       let before : tabulate (objectIn u) 0 n ≡ tabulate (objectIn w) 0 n =
-      tabulate-ext (objectIn u) (objectIn w) 0 n (λ j p q. object-same u w j (λ m t. out _ (λ e. omega arith) (λ k l e. omega arith))) in
+      tabulate-ext (objectIn u) (objectIn w) 0 n (λ j p q. object-same u w j (λ m t. out _ (λ e. omega arith) (λ e. omega arith) (λ k l e. omega arith))) in
       let a : objectsOf u ≡ objectsOf w ++ (x ∷ []) = rw (count, one-more (objectIn u) n, before, made) in
-      let b : propertiesOf u ≡ propertiesOf w =
-      properties-same u w (out 1 (λ e. omega arith) (λ m t e. omega arith)) (λ m l. out m (λ e. omega arith) (λ k t e. omega arith)) in
-      store-by u _ a b
+      let m : wordAt u 2 ≡ marked (wordAt w 2) (length (objectsOf w)) b = rw (length-tabulate (objectIn w) 0 n) marks in
+      let c : propertiesOf u ≡ propertiesOf w =
+      properties-same u w (out 1 (λ e. omega arith) (λ e. omega arith) (λ m t e. omega arith)) (λ m l. out m (λ e. omega arith) (λ e. omega arith) (λ k t e. omega arith)) in
+      store-by u _ a m c
 
 -- Properties ----------------------------------------------------------------------------
 
@@ -291,7 +305,7 @@ pub replaced : (f : ℕ → Entry) (n i : ℕ) (p : Property) → i < n → repl
 replaced f n i p h = let e : 0 + i ≡ i = omega arith in rw e at (replace-from f 0 n i p h)
 
 module _ (w : List ℕ) (s : Sized w) (i : ℕ) (p : Property) (h : i < wordAt w 1) where
-  low : (j : ℕ) → j < 354 → wordAt (withRow w i p) j ≡ wordAt w j
+  low : (j : ℕ) → j < 355 → wordAt (withRow w i p) j ≡ wordAt w j
   low j l = row-out w i p j (λ m t e. omega arith)
 
   pub sized-row : Sized (withRow w i p)
@@ -314,7 +328,7 @@ module _ (w : List ℕ) (s : Sized w) (i : ℕ) (p : Property) (h : i < wordAt w
       let u = withRow w i p in
       let a : objectsOf u ≡ objectsOf w = objects-same u w (s .objects) (low 0 (omega arith)) (λ m t l. low m (omega arith)) in
       let b : propertiesOf u ≡ replaceAt (propertiesOf w) i p = properties-row f ∙ sym (replaced (entryIn w) (wordAt w 1) i p h) in
-      store-by u _ a b
+      store-by u _ a (low 2 (omega arith)) b
 
 -- the words with the next key word
 abbrev keyedBy : List ℕ → ℕ → PropertyKey → List ℕ
@@ -367,7 +381,7 @@ module _ (w : List ℕ) (s : Sized w) (o : ℕ) (k : PropertyKey) (p : Property)
       (new-out _ (λ e. omega arith) (λ e. omega arith) (λ q r e. omega arith))
       (λ m r. new-out _ (λ e. omega arith) (λ e. omega arith) (λ q z e. omega arith))) in
       let y : propertiesOf u ≡ propertiesOf w ++ (entry o k p ∷ []) = rw (new-count, one-more (entryIn u) n, before, entry-new b f) in
-      store-by u _ x (y ∙ sym (absent-appended (propertiesOf w) o k p a))
+      store-by u _ x (new-out 2 (λ e. omega arith) (λ e. omega arith) (λ m t e. omega arith)) (y ∙ sym (absent-appended (propertiesOf w) o k p a))
 
 -- Removal -------------------------------------------------------------------------------
 
@@ -389,7 +403,7 @@ module _ (w : List ℕ) (i j : ℕ) where
   moved-out : (n : ℕ) → (n ≡ keyAt j → ⊥) → ((m : ℕ) → m < 5 → n ≡ rowAt j + m → ⊥) → wordAt (moved w i j) n ≡ wordAt w n
   moved-out n y r = rw moved-sets (sets-out (rowOf w i) (movedKey w i j) (rowAt j) n r ∙ other w (keyAt j) n (wordAt w (keyAt i)) y)
 
-  moved-entry : length w ≡ 1634 → j < 256 → entryIn (moved w i j) j ≡ entryIn w i
+  moved-entry : length w ≡ 1635 → j < 256 → entryIn (moved w i j) j ≡ entryIn w i
   moved-entry l h = entry-same (moved w i j) w j i
       (rw moved-sets (sets-out (rowOf w i) (movedKey w i j) (rowAt j) (keyAt j) (λ m t e. omega arith) ∙ same w (keyAt j) (wordAt w (keyAt i)) (omega arith)))
       at-row
@@ -419,12 +433,12 @@ swept-miss n w o k i j h = rw h
 
 -- u is w with the n properties from i on moved to j, but for the property k of o
 record Swept (n : ℕ) (w : List ℕ) (o : ℕ) (k : PropertyKey) (i j : ℕ) (u : List ℕ) : Type 0 where
-  size : length u ≡ 1634
-  low : (m : ℕ) → m < 98 → (m ≡ 1 → ⊥) → wordAt u m ≡ wordAt w m
+  size : length u ≡ 1635
+  low : (m : ℕ) → m < 99 → (m ≡ 1 → ⊥) → wordAt u m ≡ wordAt w m
   count : wordAt u 1 ≤ j + n
   properties : propertiesOf u ≡ tabulate (entryIn w) 0 j ++ remove (tabulate (entryIn w) i n) o k
 
-swept-none : (w : List ℕ) (o : ℕ) (k : PropertyKey) (i j : ℕ) → length w ≡ 1634 → Swept 0 w o k i j (set w 1 j)
+swept-none : (w : List ℕ) (o : ℕ) (k : PropertyKey) (i j : ℕ) → length w ≡ 1635 → Swept 0 w o k i j (set w 1 j)
 unfolding tabulate remove
 swept-none w o k i j l =
     let u = set w 1 j in
@@ -448,7 +462,7 @@ removed-miss : (w : List ℕ) (i n o : ℕ) (k : PropertyKey) → isAt (entryIn 
 unfolding tabulate remove
 removed-miss w i n o k t = rw t
 
-swept-all : (n : ℕ) (w : List ℕ) (o : ℕ) (k : PropertyKey) (i j : ℕ) → length w ≡ 1634 → j ≤ i → i + n ≤ 256 → Swept n w o k i j (swept n w o k i j)
+swept-all : (n : ℕ) (w : List ℕ) (o : ℕ) (k : PropertyKey) (i j : ℕ) → length w ≡ 1635 → j ≤ i → i + n ≤ 256 → Swept n w o k i j (swept n w o k i j)
 unfolding swept
 swept-all zero w o k i j l h b = swept-none w o k i j l
 swept-all (suc n) w o k i j l h b =
@@ -495,23 +509,34 @@ module _ (w : List ℕ) (s : Sized w) (o : ℕ) (k : PropertyKey) where
       let a = swept-store in
       let u = withoutRow w o k in
       store-by u _ (objects-same u w (s .objects) (a .low 0 (omega arith) (λ e. omega arith)) (λ m t l. a .low m l (λ e. omega arith)))
+      (a .low 2 (omega arith) (λ e. omega arith))
       (a .properties)
 
 -- An empty store ------------------------------------------------------------------------
 
-pub sized-empty : (w : List ℕ) → length w ≡ 1634 → Sized (set (set w 0 0) 1 0)
-sized-empty w l = record {
-  size = length-set (set w 0 0) 1 0 ∙ length-set w 0 0 ∙ l;
-  objects = rw (other (set w 0 0) 1 0 0 (λ e. omega arith), same w 0 0 (omega arith)) (omega arith);
-  properties = rw (same (set w 0 0) 1 0 (omega (arith, length-set w 0 0))) (omega arith);
-}
+module _ (w : List ℕ) (l : length w ≡ 1635) where
+  abbrev cleared : List ℕ
+  cleared = set (set (set w 0 0) 1 0) 2 0
 
-pub store-empty : (w : List ℕ) → length w ≡ 1634 → storeOf (set (set w 0 0) 1 0) ≡ empty .store
-unfolding storeOf tabulate
-store-empty w l =
-    let a : wordAt (set (set w 0 0) 1 0) 0 ≡ 0 = other (set w 0 0) 1 0 0 (λ e. omega arith) ∙ same w 0 0 (omega arith) in
-    let b : wordAt (set (set w 0 0) 1 0) 1 ≡ 0 = same (set w 0 0) 1 0 (omega (arith, length-set w 0 0)) in
-    rw (a, b)
+  no-objects : wordAt cleared 0 ≡ 0
+  no-objects = other (set (set w 0 0) 1 0) 2 0 0 (λ e. omega arith) ∙ other (set w 0 0) 1 0 0 (λ e. omega arith) ∙ same w 0 0 (omega arith)
+
+  no-properties : wordAt cleared 1 ≡ 0
+  no-properties = other (set (set w 0 0) 1 0) 2 1 0 (λ e. omega arith) ∙ same (set w 0 0) 1 0 (omega (arith, length-set w 0 0))
+
+  no-marks : wordAt cleared 2 ≡ 0
+  no-marks = same (set (set w 0 0) 1 0) 2 0 (omega (arith, length-set (set w 0 0) 1 0, length-set w 0 0))
+
+  pub sized-empty : Sized cleared
+  sized-empty = record {
+    size = length-set (set (set w 0 0) 1 0) 2 0 ∙ length-set (set w 0 0) 1 0 ∙ length-set w 0 0 ∙ l;
+    objects = rw no-objects (omega arith);
+    properties = rw no-properties (omega arith);
+  }
+
+  pub store-empty : storeOf cleared ≡ empty .store
+  unfolding storeOf tabulate
+  store-empty = rw (no-objects, no-properties, no-marks)
 
 -- Each write, whole ---------------------------------------------------------------------
 
@@ -522,8 +547,8 @@ module _ (w : List ℕ) (s : isStore w ≡ true) where
   pub becomes-object : (o : ℕ) (x : Object) → o < wordAt w 0 → FitsObject x → Becomes (withObject w o x) (withObject w o x) (put (storeOf w) o x)
   becomes-object o x h f = becomes _ _ (sized-object w (sized w s) o x h) (store-object w (sized w s) o x h f)
 
-  pub becomes-new-object : (x : Object) → wordAt w 0 < 32 → FitsObject x → Becomes (withNewObject w x) (withNewObject w x) (add (storeOf w) x)
-  becomes-new-object x h f = becomes _ _ (sized-new-object w (sized w s) x h) (store-new-object w (sized w s) x h f)
+  pub becomes-new-object : (x : Object) (b : Bool) → wordAt w 0 < 32 → FitsObject x → Becomes (withNewObject w x b) (withNewObject w x b) (add (storeOf w) x b)
+  becomes-new-object x b h f = becomes _ _ (sized-new-object w (sized w s) x b h) (store-new-object w (sized w s) x b h f)
 
   pub becomes-row : (i : ℕ) (p : Property) → i < wordAt w 1 → FitsProperty p → Becomes (withRow w i p) (withRow w i p) (withChange (storeOf w) i p)
   becomes-row i p h f = becomes _ _ (sized-row w (sized w s) i p h) (store-row w (sized w s) i p h f)
@@ -566,9 +591,11 @@ object-stored w u o x r h e = e ∙ rw (h .head, h .first, h .second) (sym (obje
 pub row-stored : (w u : List ℕ) (i : ℕ) (p : Property) (r : PropertyWords) → PropertyCells p r → u ≡ sets w (rowAt i) (cellsOf r) → u ≡ withRow w i p
 row-stored w u i p r h e = e ∙ rw (h .flags, h .kind, h .payload, h .second-kind, h .second-payload) (sym (row-sets w i p))
 
-pub new-object-stored : (w u : List ℕ) (x : Object) → u ≡ withObject w (wordAt w 0) x → set u 0 (wordAt w 0 + 1) ≡ withNewObject w x
+pub new-object-stored : (w u : List ℕ) (x : Object) (b : Bool) (m : ℕ) → wordAt w 0 < 32 → u ≡ withObject w (wordAt w 0) x
+    → m ≡ marked (wordAt u 2) (wordAt w 0) b → set (set u 2 m) 0 (wordAt w 0 + 1) ≡ withNewObject w x b
 unfolding withNewObject
-new-object-stored w u x e = rw (e, add-one)
+new-object-stored w u x b m h e d =
+    rw (d, e, object-out w (wordAt w 0) x 2 (λ m t e. omega arith), add-one)
 
 pub new-row-stored : (w u : List ℕ) (o : ℕ) (k : PropertyKey) (p : Property) (key : ℕ) → key ≡ keyWord o k
     → u ≡ withRow (set w (keyAt (wordAt w 1)) key) (wordAt w 1) p → set u 1 (wordAt w 1 + 1) ≡ withNewRow w o k p

@@ -63,7 +63,7 @@ numberIn (Symbol s) = s
 abbrev pub applied : Write → Store → Store
 applied write.Nothing σ = σ
 applied (write.Object o x) σ = put σ o x
-applied (write.NewObject x) σ = add σ x
+applied (write.NewObject x b) σ = add σ x b
 applied (write.Change i p) σ = withChange σ i p
 applied (write.Add o k p) σ = withProperty σ o k p
 applied (write.Remove o k) σ = withoutProperty σ o k
@@ -72,7 +72,7 @@ applied (write.Remove o k) σ = withoutProperty σ o k
 abbrev pub writtenTo : Write → List ℕ → List ℕ
 writtenTo write.Nothing words = words
 writtenTo (write.Object o x) words = withObject words o x
-writtenTo (write.NewObject x) words = withNewObject words x
+writtenTo (write.NewObject x b) words = withNewObject words x b
 writtenTo (write.Change i p) words = withRow words i p
 writtenTo (write.Add o k p) words = withNewRow words o k p
 writtenTo (write.Remove o k) words = withoutRow words o k
@@ -91,7 +91,7 @@ pub record New (words : List ℕ) (o : ℕ) (k : PropertyKey) : Type 0 where
 abbrev pub within : Write → List ℕ → Type 0
 within write.Nothing words = Unit
 within (write.Object o x) words = o < wordAt words 0
-within (write.NewObject x) words = wordAt words 0 < maximumObjects
+within (write.NewObject x b) words = wordAt words 0 < maximumObjects
 within (write.Change i p) words = i < wordAt words 1
 within (write.Add o k p) words = New words o k
 within (write.Remove o k) words = Joins o k
@@ -118,6 +118,6 @@ pub record Committed (before after : List ℕ) : Type 0 where
   pub words : after ≡ writtenAll writes before
   pub kept : isStore after ≡ true
 
--- the words of an empty store: only the two counts change
+-- the words of an empty store: only the two counts and the marks change
 abbrev pub emptied : List ℕ → List ℕ
-emptied words = cond (eqb (length words) storeSize) (set (set words 0 0) 1 0) words
+emptied words = cond (eqb (length words) storeSize) (set (set (set words 0 0) 1 0) 2 0) words

@@ -24,7 +24,7 @@ pub fn commit(words: &mut [u64], w: Write)
     match w {
         Write::Nothing => {}
         Write::Object(o, x) => set_object(words, o as usize, x),
-        Write::NewObject(x) => add_object(words, x),
+        Write::NewObject(x, callable) => add_object(words, x, callable),
         Write::Change(i, p) => properties::set_property(words, i, p),
         Write::Add(o, k, p) => properties::add_property(words, o, k, p),
         Write::Remove(o, k) => removal::remove_property(words, o, k),

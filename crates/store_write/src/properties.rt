@@ -57,7 +57,7 @@ pub fn put_row(words: &mut [u64], i: usize, w: PropertyWords)
     requires { ⌜ (length (now words) ≡ storeSize) × (i < 256) ⌝ }
     ensures { λ _. ⌜ now (words .exit) ≡ sets (now (words .entry)) (rowAt i) (cellsOf w) ⌝ }
 {
-    let at = 354 + 5 * i;
+    let at = 355 + 5 * i;
     write::put_three(words, at, w.flags, w.kind, w.payload);
     words[at + 3] = w.second_kind;
     words[at + 4] = w.second_payload;
@@ -85,7 +85,7 @@ pub fn add_property(words: &mut [u64], o: u64, k: PropertyKey, p: Property)
 {
     let n = words[1];
     let last = n as usize;
-    words[98 + last] = key_word(o, k);
+    words[99 + last] = key_word(o, k);
     write_row(words, last, p);
     words[1] = n + 1;
 }

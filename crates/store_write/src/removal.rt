@@ -15,8 +15,8 @@ fn move_entry(words: &mut [u64], i: usize, j: usize)
     requires { ⌜ (length (now words) ≡ storeSize) × ((i < 256) × (j < 256)) ⌝ }
     ensures { λ _. ⌜ now (words .exit) ≡ moved (now (words .entry)) i j ⌝ }
 {
-    let a = 354 + 5 * i;
-    let key = words[98 + i];
+    let a = 355 + 5 * i;
+    let key = words[99 + i];
     let row = PropertyWords {
         flags: words[a],
         kind: words[a + 1],
@@ -24,7 +24,7 @@ fn move_entry(words: &mut [u64], i: usize, j: usize)
         second_kind: words[a + 3],
         second_payload: words[a + 4],
     };
-    words[98 + j] = key;
+    words[99 + j] = key;
     properties::put_row(words, j, row);
 }
 
@@ -38,7 +38,7 @@ pub fn remove_property(words: &mut [u64], o: u64, k: PropertyKey)
     let mut i: usize = 0;
     let mut j: usize = 0;
     while i < n {
-        if words[98 + i] == key {
+        if words[99 + i] == key {
             i += 1;
         } else {
             move_entry(words, i, j);

@@ -11,15 +11,15 @@ ghost use Prim.Native.Nat.{_+_, _<_, _≤_};
 ghost use lib.Dec.{eqb, ltb};
 ghost use lib.ListN.{length};
 ghost use lib.Seq.{sets};
-ghost use Rattle.store.specs.Store.{empty, put, add};
+ghost use Rattle.store.specs.Store.{empty, put, marked, add};
 ghost use Rattle.store.specs.Words.{storeSize, wordAt, storeOf, isStore, withObject, withNewObject};
 ghost use Rattle.store_write.specs.Write.{ObjectCells, FitsObject, Becomes, emptied};
 
-// One change of the store. An object and an entry are given by their numbers.
+// One change of the store. An object and an entry are given by their numbers; a new object is callable or not.
 pub enum Write {
     Nothing,
     Object(u64, Object),
-    NewObject(Object),
+    NewObject(Object, bool),
     Change(usize, Property),
     Add(u64, PropertyKey, Property),
     Remove(u64, PropertyKey),
@@ -77,7 +77,7 @@ fn write_object(words: &mut [u64], o: usize, x: Object)
     ensures { λ _. ⌜ (now (words .exit) ≡ withObject (now (words .entry)) o x) × FitsObject x ⌝ }
 {
     let w = object_words(x);
-    put_three(words, 2 + 3 * o, w.head, w.first, w.second);
+    put_three(words, 3 + 3 * o, w.head, w.first, w.second);
 }
 
 // Words of the right length become an empty store; others are left.
@@ -86,9 +86,10 @@ pub fn make_empty(words: &mut [u64]) -> bool
     ensures { λ _. ⌜ now (words .exit) ≡ emptied (now (words .entry)) ⌝ }
     ensures { λ r. ⌜ (r ≡ true → (storeOf (now (words .exit)) ≡ empty .store) × (isStore (now (words .exit)) ≡ true)) ⌝ }
 {
-    if words.len() == 1634 {
+    if words.len() == 1635 {
         words[0] = 0;
         words[1] = 0;
+        words[2] = 0;
         true
     } else {
         false
@@ -110,11 +111,21 @@ pub fn set_object(words: &mut [u64], o: usize, x: Object)
     write_object(words, o, x);
 }
 
-pub fn add_object(words: &mut [u64], x: Object)
+// The marks of the objects before n, and one for n.
+fn mark(marks: u64, n: u64, callable: bool) -> u64
+    requires { ⌜ n < 32 ⌝ }
+    ensures { λ r. ⌜ r ≡ marked marks n callable ⌝ }
+{
+    let place = 1 << n;
+    marks % place + bits::weight(callable, place)
+}
+
+pub fn add_object(words: &mut [u64], x: Object, callable: bool)
     requires { ⌜ (isStore (now words) ≡ true) × (wordAt (now words) 0 < 32) ⌝ }
-    ensures { λ _. ⌜ Becomes (now (words .exit)) (withNewObject (now (words .entry)) x) (add (storeOf (now (words .entry))) x) ⌝ }
+    ensures { λ _. ⌜ Becomes (now (words .exit)) (withNewObject (now (words .entry)) x callable) (add (storeOf (now (words .entry))) x callable) ⌝ }
 {
     let n = words[0];
     write_object(words, n as usize, x);
+    words[2] = mark(words[2], n, callable);
     words[0] = n + 1;
 }

@@ -5,3 +5,4 @@ pub mod Numbers
 pub mod Truth
 pub mod Missing
 pub mod Objects
+pub mod BitLaws

@@ -23,7 +23,7 @@ no-key (Symbol s) h = absurd (miss (0 ∷ 1 ∷ 2 ∷ 3 ∷ 4 ∷ 7 ∷ 8 ∷ []
 no-key (Object o) h = refl
 no-key (Function f) h = refl
 
-pub no-object : (v : Value) → OneOf (0 ∷ 1 ∷ 2 ∷ 3 ∷ 4 ∷ 5 ∷ 6 ∷ 8 ∷ []) (tagOf the-type v) → NotObject ≡ objectResult (objectOf v)
+pub no-object : (v : Value) → OneOf (0 ∷ 1 ∷ 2 ∷ 3 ∷ 4 ∷ 5 ∷ 6 ∷ []) (tagOf the-type v) → NotObject ≡ objectResult (objectOf v)
 no-object Undefined h = refl
 no-object Null h = refl
 no-object (Boolean b) h = refl
@@ -31,5 +31,5 @@ no-object (Integer32 n) h = refl
 no-object (Float64 x) h = refl
 no-object (String s) h = refl
 no-object (Symbol s) h = refl
-no-object (Object o) h = absurd (miss (0 ∷ 1 ∷ 2 ∷ 3 ∷ 4 ∷ 5 ∷ 6 ∷ 8 ∷ []) 7 tt h)
-no-object (Function f) h = refl
+no-object (Object o) h = absurd (miss (0 ∷ 1 ∷ 2 ∷ 3 ∷ 4 ∷ 5 ∷ 6 ∷ []) 7 tt h)
+no-object (Function f) h = absurd (miss (0 ∷ 1 ∷ 2 ∷ 3 ∷ 4 ∷ 5 ∷ 6 ∷ []) 8 tt h)

@@ -26,7 +26,7 @@ sameNumber (fin s m e) nan = false
 sameNumber (fin s m e) (inf t) = false
 sameNumber (fin s m e) (fin t n d) = Bool·beq s t && (eqb m n && sameInt e d)
 
--- 6.1: which language type a value has; Integer32 and Float64 are both Numbers
+-- 6.1: which language type a value has; Integer32 and Float64 are both Numbers, and functions are told from other objects
 abbrev pub typeOf : Value → ℕ
 typeOf Undefined = 0
 typeOf Null = 1
@@ -99,7 +99,7 @@ isUndefined v = eqb (typeOf v) 0
 abbrev pub isCallable : Value → Bool
 isCallable v = eqb (typeOf v) 7
 
--- the object of the store that a value is; a function is none of them
+-- the object of the store that a value names, as 6.1.7 counts functions among the objects
 abbrev pub objectOf : Value → Option ℕ
 objectOf Undefined = none
 objectOf Null = none
@@ -109,4 +109,4 @@ objectOf (Float64 x) = none
 objectOf (String s) = none
 objectOf (Symbol s) = none
 objectOf (Object o) = some o
-objectOf (Function f) = none
+objectOf (Function f) = some f

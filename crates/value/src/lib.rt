@@ -23,7 +23,7 @@ pub enum KeyResult {
     NotKey,
 }
 
-// The object of the store that a value is, if it is one.
+// The object of the store that a value names, if it names one.
 pub enum ObjectResult {
     Object(u64),
     NotObject,

@@ -74,6 +74,7 @@ pub fn object_of(v: Value) -> ObjectResult
 {
     match v {
         Value::Object(o) => ObjectResult::Object(o),
+        Value::Function(f) => ObjectResult::Object(f),
         _ => ObjectResult::NotObject,
     }
 }

@@ -221,6 +221,7 @@ fn step_tests(r: &[u8]) -> bool
     let n = Counts {
         objects: bits::wide(r[1]),
         strings: bits::wide(r[2]),
+        callable: bits::wide(r[181]),
     };
     let end = 5 + bits::wide(r[4]) as usize;
     if end <= 80 {
@@ -237,6 +238,7 @@ fn sheet_tests(r: &[u8]) -> bool
     let n = Counts {
         objects: bits::wide(r[1]),
         strings: bits::wide(r[2]),
+        callable: bits::wide(r[181]),
     };
     let end = 4 + bits::wide(r[3]) as usize;
     if end <= 180 {

@@ -42,7 +42,9 @@ pub struct Habits {
     pub wild: usize,
     /// Keys are taken from this many strings and symbols.
     pub keys: usize,
-    /// One object in so many is a proxy (1: all that can be).
+    /// One object in so many is a function.
+    pub functions: usize,
+    /// Of the others one in so many is a proxy (1: all that can be).
     pub proxies: usize,
     /// Of so many flags of a descriptor one is left out, one is true and the others are false.
     pub flags: usize,
@@ -62,6 +64,7 @@ impl Generator {
             damage: random.pick(&[3, 8, 30, 1000]),
             wild: random.pick(&[3, 6, 12]),
             keys: random.pick(&[2, 4, 12, 200]),
+            functions: random.pick(&[3, 4, 8]),
             proxies: random.pick(&[1, 2, 3]),
             flags: random.pick(&[3, 4, 6]),
             making: random.pick(&[12, 12, 3]),
@@ -115,6 +118,40 @@ impl Generator {
         }
     }
 
+    /// The value that names an object; seldom one of the other kind, or a number that was not made.
+    fn name_of(&mut self, world: &World, o: u64) -> Value {
+        let made = world.objects.len() as u64;
+        match (o < made, self.random.below(80)) {
+            (true, 0 | 1) if world.is_callable(o as usize) => Value::Object(o),
+            (true, 0 | 1) => Value::Function(o),
+            (false, _) | (_, 2) => {
+                let number = self.random.pick(&[made, made + 1, 31, 32, 255, 256, u64::MAX]).max(made);
+                self.random.pick(&[Value::Object(number), Value::Function(number)])
+            }
+            _ => world.value(o as usize),
+        }
+    }
+
+    /// An object or a function.
+    fn named(&mut self, world: &World) -> Value {
+        let o = self.object(world);
+        self.name_of(world, o)
+    }
+
+    /// One of the functions, if there are any, or one of the others.
+    fn among(&mut self, world: &World, callable: bool) -> Option<u64> {
+        let among: Vec<usize> = (0..world.objects.len()).filter(|o| world.is_callable(*o) == callable).collect();
+        (!among.is_empty()).then(|| self.random.pick(&among) as u64)
+    }
+
+    /// An object that a proxy can stand before; seldom a function.
+    fn target(&mut self, world: &World) -> u64 {
+        match self.among(world, false) {
+            Some(o) if !self.random.once_in(12) => o,
+            _ => self.object(world),
+        }
+    }
+
     /// An object to seal or freeze: often a proxy over one that has properties.
     fn closing(&mut self, world: &World) -> usize {
         let likely = |o: &usize| matches!(world.objects[*o], Object::Proxy { .. }) && world.ordinary(world.base(*o)).properties.len() > 1;
@@ -145,18 +182,21 @@ impl Generator {
             0 => Value::Undefined,
             1 => Value::Null,
             2 | 3 => Value::Boolean(self.random.once_in(2)),
-            4 => Value::Function(self.random.below(4) as u64),
-            5 if !world.objects.is_empty() => Value::Object(self.object(world)),
+            4 if !world.objects.is_empty() => match self.among(world, true) {
+                Some(f) => self.name_of(world, f),
+                None => self.named(world),
+            },
+            5 if !world.objects.is_empty() => self.named(world),
             6 => self.key(world).value(),
             _ => self.number(),
         }
     }
 
-    fn callable(&mut self) -> Value {
-        if self.random.once_in(3) {
-            Value::Undefined
-        } else {
-            Value::Function(self.random.below(4) as u64)
+    fn callable(&mut self, world: &World) -> Value {
+        match self.among(world, true) {
+            Some(f) if !self.random.once_in(3) => self.name_of(world, f),
+            None if self.random.once_in(20) => Value::Function(self.object(world)),
+            _ => Value::Undefined,
         }
     }
 
@@ -176,8 +216,8 @@ impl Generator {
             d.value = (!self.random.once_in(4)).then(|| self.value(world));
         }
         if (4..6).contains(&kind) || kind == 7 && self.random.once_in(6) {
-            d.get = (!self.random.once_in(4)).then(|| self.callable());
-            d.set = (!self.random.once_in(4)).then(|| self.callable());
+            d.get = (!self.random.once_in(4)).then(|| self.callable(world));
+            d.set = (!self.random.once_in(4)).then(|| self.callable(world));
             if self.random.once_in(30) {
                 d.get = Some(self.value(world));
             }
@@ -198,8 +238,8 @@ impl Generator {
                 2 if !d.is_accessor() => d.writable = self.flag(),
                 3 => d.enumerable = Some(true),
                 4 => d.configurable = Some(false),
-                5 if d.is_accessor() => d.get = Some(self.callable()),
-                6 if d.is_accessor() => d.set = Some(self.callable()),
+                5 if d.is_accessor() => d.get = Some(self.callable(world)),
+                6 if d.is_accessor() => d.set = Some(self.callable(world)),
                 5 | 6 => d.writable = Some(false),
                 7 if d.is_data() && self.random.once_in(2) => d.value = Some(self.value(world)),
                 7 => d.value = d.value.map(|v| self.near_value(v)),
@@ -231,10 +271,8 @@ impl Generator {
         match asked {
             Asked::Yes => Answer::Value(if self.random.once_in(5) { self.value(world) } else { Value::Boolean(!self.random.once_in(4)) }),
             Asked::Extensible(o) => Answer::Value(Value::Boolean(world.ordinary(world.base(o)).extensible)),
-            Asked::Prototype(o) => Answer::Value(match world.ordinary(world.base(o)).prototype {
-                Some(p) => Value::Object(p as u64),
-                None => Value::Null,
-            }),
+            Asked::Prototype(_) if self.random.once_in(4) && !world.objects.is_empty() => Answer::Value(self.named(world)),
+            Asked::Prototype(o) => Answer::Value(world.prototype_value(world.ordinary(world.base(o)).prototype)),
             Asked::Accessor => Answer::Value(self.value(world)),
             Asked::Value(o, key) => Answer::Value(match self.held(world, o, key) {
                 Some(Descriptor { value: Some(v), .. }) => self.near_value(v),
@@ -269,7 +307,11 @@ impl Generator {
     fn code(&mut self, world: &World) -> u8 {
         let made = world.objects.len();
         if made < 2 || made < 32 && self.random.once_in(self.habits.making) || self.random.once_in(100) {
-            return if made > 0 && self.random.once_in(self.habits.proxies) { 2 } else { 1 };
+            if self.random.once_in(self.habits.functions) {
+                return 16;
+            }
+            let targets = (0..made).any(|o| !world.is_callable(o)) || self.random.once_in(12) && made > 0;
+            return if targets && self.random.once_in(self.habits.proxies) { 2 } else { 1 };
         }
         if self.random.once_in(150) {
             return 3;
@@ -281,7 +323,8 @@ impl Generator {
     pub fn step(&mut self, world: &World) -> Step {
         let code = self.code(world);
         let object = match code {
-            1 => 0,
+            1 | 16 => 0,
+            2 => self.target(world) as usize,
             18 | 19 => self.closing(world),
             _ => self.object(world) as usize,
         };
@@ -291,11 +334,11 @@ impl Generator {
             step.key = self.key_at(world, object).value();
         }
         match code {
-            1 | 5 => {
-                step.value = if world.objects.is_empty() || self.random.once_in(3) { Value::Null } else { Value::Object(self.object(world)) };
+            1 | 5 | 16 => {
+                step.value = if world.objects.is_empty() || self.random.once_in(3) { Value::Null } else { self.named(world) };
                 if code == 5 && self.random.once_in(3) {
                     let base = world.base(object);
-                    step.value = world.ordinary(base).prototype.map_or(Value::Null, |p| Value::Object(p as u64));
+                    step.value = world.prototype_value(world.ordinary(base).prototype);
                 }
             }
             2 => {
@@ -318,9 +361,9 @@ impl Generator {
             }
             11 | 12 => {
                 step.receiver = match self.random.below(6) {
-                    0 | 1 => Value::Object(self.object(world)),
+                    0 | 1 => self.named(world),
                     2 => self.value(world),
-                    _ => Value::Object(object as u64),
+                    _ => self.name_of(world, object as u64),
                 };
                 if code == 12 {
                     step.value = match self.held(world, object, Key::of(step.key).unwrap()) {
@@ -402,8 +445,8 @@ impl Generator {
         let kind = self.random.pick(&[0, 1, 3, 5, 6, 7, 8]);
         let limit = match kind {
             5 => world.strings.len(),
-            7 => world.objects.len(),
-            6 | 8 => 256,
+            7 | 8 => world.objects.len(),
+            6 => 256,
             _ => 0,
         };
         let number = match self.random.below(3) {

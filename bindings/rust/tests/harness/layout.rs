@@ -51,24 +51,31 @@ fn value(kind: u64, payload: u64) -> Value {
     }
 }
 
-/// Two counts, 32 objects of 3 words, 256 key words, 256 properties of 5 words; a count, 256 rows of a length and 32 code units.
+/// Two counts, the marks of functions, 32 objects of 3 words, 256 key words, 256 properties of 5 words; a count, 256 rows of a length and 32 code
+/// units.
 pub fn world(words: &[u64], strings: &[u16]) -> World {
     let mut world = World::default();
-    for object in words[2..98].chunks_exact(3).take(words[0] as usize) {
+    let is_marked = |o: u64| words[2] >> o & 1 == 1;
+    assert_eq!(words[2] >> words[0], 0, "marks of what was not made");
+    for (o, object) in (0..words[0]).zip(words[3..99].chunks_exact(3)) {
         world.objects.push(match object[0] {
             head @ (0 | 1) => {
                 let prototype = match value(object[1], object[2]) {
                     Value::Null => None,
-                    Value::Object(o) => Some(o as usize),
+                    Value::Object(o) if !is_marked(o) => Some(o as usize),
+                    Value::Function(o) if is_marked(o) => Some(o as usize),
                     other => panic!("prototype {other:?}"),
                 };
-                Object::Ordinary(Ordinary { prototype, extensible: head == 1, properties: Vec::new() })
+                Object::Ordinary(Ordinary { prototype, callable: is_marked(o), extensible: head == 1, properties: Vec::new() })
             }
-            head @ (2 | 3) => Object::Proxy { target: object[1] as usize, traps: object[2] as u32, revoked: head == 3 },
+            head @ (2 | 3) => {
+                assert!(!is_marked(o) && !is_marked(object[1]), "a mark of a proxy or of its target");
+                Object::Proxy { target: object[1] as usize, traps: object[2] as u32, revoked: head == 3 }
+            }
             head => panic!("head {head}"),
         });
     }
-    for (key, property) in words[98..354].iter().zip(words[354..].chunks_exact(5)).take(words[1] as usize) {
+    for (key, property) in words[99..355].iter().zip(words[355..].chunks_exact(5)).take(words[1] as usize) {
         let owner = (key % 32) as usize;
         let number = key / 64;
         let key = if key / 32 % 2 == 0 { Key::String(number) } else { Key::Symbol(number) };
@@ -99,7 +106,7 @@ pub fn image(world: &World) -> Vec<u8> {
         match object {
             Object::Proxy { target, traps, revoked } => bytes.extend(format!("proxy {target} {traps} {revoked};").bytes()),
             Object::Ordinary(o) => {
-                bytes.extend(format!("ordinary {:?} {} {};", o.prototype, o.extensible, o.properties.len()).bytes());
+                bytes.extend(format!("ordinary {} {:?} {} {};", o.callable, o.prototype, o.extensible, o.properties.len()).bytes());
                 for (key, d) in &o.properties {
                     bytes.extend(key.value().bytes());
                     bytes.extend(crate::plain::record::descriptor_bytes(d));

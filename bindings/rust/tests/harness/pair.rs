@@ -1,8 +1,77 @@
 //! One store in the library's memory and one plain world, that must agree after every call.
 use super::{entries, layout};
-use crate::plain::step::{self, Outcome, Report, Stepped};
+use crate::plain::record;
+use crate::plain::step::{self, Completion, Outcome, Report, Stepped};
+use crate::plain::value::Value;
 use crate::plain::world::World;
 use demnyaluz::lent;
+
+/// How often functions came in each place, and how often they were refused.
+#[derive(Clone, Copy, Debug, Default, PartialEq, Eq)]
+pub struct Functions {
+    /// Results on a function.
+    pub objects: u64,
+    /// Results of codes 1, 5 and 16 with a function as prototype.
+    pub prototypes: u64,
+    /// Results of codes 11 and 12 with a function as receiver.
+    pub receivers: u64,
+    /// Properties defined with a function as getter or setter.
+    pub accessors: u64,
+    /// Results of code 4 that are a function.
+    pub answered: u64,
+    /// Refused as 2: a value of kind 8 whose number was never made.
+    pub never_made: u64,
+    /// Refused as 3: kind 8 for what is no function.
+    pub no_functions: u64,
+    /// Refused as 3: kind 7 for a function.
+    pub as_objects: u64,
+    /// Refused as 3: a proxy over a function.
+    pub targets: u64,
+    /// Refused as 3: a function revoked.
+    pub revoked: u64,
+}
+
+impl Functions {
+    fn counts(&mut self) -> [&mut u64; 10] {
+        let Functions { objects, prototypes, receivers, accessors, answered, never_made, no_functions, as_objects, targets, revoked } = self;
+        [objects, prototypes, receivers, accessors, answered, never_made, no_functions, as_objects, targets, revoked]
+    }
+
+    /// Whether each came.
+    pub fn all(mut self) -> bool {
+        self.counts().iter().all(|n| **n > 0)
+    }
+
+    fn add(&mut self, mut other: Functions) {
+        self.counts().into_iter().zip(other.counts()).for_each(|(a, b)| *a += *b);
+    }
+
+    /// One step over the world from before it.
+    fn count(&mut self, world: &World, bytes: &[u8], sheet: &[u8], outcome: &Outcome) {
+        let Some(step) = record::step(bytes) else { return };
+        let made = world.objects.len() as u64;
+        let on_function = !matches!(step.code, 1 | 16) && (step.object as u64) < made && world.is_callable(step.object);
+        let answers = record::sheet(sheet).unwrap_or_default();
+        let some = |is: &dyn Fn(Value) -> bool| step.values().any(is) || answers.iter().flat_map(|a| a.values()).any(is);
+        match outcome {
+            Outcome::Result(completion) => {
+                self.objects += u64::from(on_function);
+                self.prototypes += u64::from(matches!(step.code, 1 | 5 | 16) && step.value.is_function());
+                self.receivers += u64::from(step.receiver.is_function());
+                self.accessors += u64::from([step.descriptor.get, step.descriptor.set].into_iter().flatten().any(Value::is_function));
+                self.answered += u64::from(step.code == 4 && matches!(completion, Completion::Value(Value::Function(_))));
+            }
+            Outcome::Refused(2) => self.never_made += u64::from(some(&|v| matches!(v, Value::Function(n) if n >= made))),
+            Outcome::Refused(3) => {
+                self.no_functions += u64::from(some(&|v| matches!(v, Value::Function(n) if n < made && !world.is_callable(n as usize))));
+                self.as_objects += u64::from(some(&|v| matches!(v, Value::Object(n) if n < made && world.is_callable(n as usize))));
+                self.targets += u64::from(step.code == 2 && on_function);
+                self.revoked += u64::from(step.code == 3 && on_function);
+            }
+            _ => {}
+        }
+    }
+}
 
 /// How often each outcome came, over all entries.
 #[derive(Clone, Debug)]
@@ -15,11 +84,12 @@ pub struct Tally {
     pub codes: [u64; 20],
     /// Steps of code 18 without a result that changed the store.
     pub midway: u64,
+    pub functions: Functions,
 }
 
 impl Default for Tally {
     fn default() -> Self {
-        Tally { calls: 0, results: 0, thrown: 0, refusals: [0; 12], messages: [0; 33], codes: [0; 20], midway: 0 }
+        Tally { calls: 0, results: 0, thrown: 0, refusals: [0; 12], messages: [0; 33], codes: [0; 20], midway: 0, functions: Functions::default() }
     }
 }
 
@@ -39,6 +109,7 @@ impl Tally {
         self.results += other.results;
         self.thrown += other.thrown;
         self.midway += other.midway;
+        self.functions.add(other.functions);
         let all = |mine: &mut [u64], theirs: &[u64]| mine.iter_mut().zip(theirs).for_each(|(a, b)| *a += b);
         all(&mut self.refusals, &other.refusals);
         all(&mut self.messages, &other.messages);
@@ -47,7 +118,7 @@ impl Tally {
 
     /// How many steps there were of each code.
     pub fn steps(&self) -> impl Iterator<Item = (usize, u64)> + '_ {
-        (1..=14).chain([18, 19]).map(|code| (code, self.codes[code]))
+        (1..=14).chain([16, 18, 19]).map(|code| (code, self.codes[code]))
     }
 
     /// The refusals and messages that never came.
@@ -73,7 +144,7 @@ pub struct Pair {
 
 impl Pair {
     pub fn new() -> Self {
-        let mut pair = Pair { world: World::default(), words: vec![0; 1634].into(), strings: vec![0; 8449].into(), tally: Tally::default() };
+        let mut pair = Pair { world: World::default(), words: vec![0; 1635].into(), strings: vec![0; 8449].into(), tally: Tally::default() };
         // the memory need not be zero before it is emptied
         pair.words.fill(0xdead_beef_dead_beef);
         pair.strings.fill(0xbeef);
@@ -90,6 +161,7 @@ impl Pair {
     /// One step on both, with room bytes of output.
     pub fn step(&mut self, bytes: &[u8], sheet: &[u8], room: usize) -> Stepped {
         let before = (self.words.clone(), self.strings.clone());
+        let world_before = self.world.clone();
         let mut output: Box<[u8]> = vec![FILL; room].into();
         let mut expected_output = output.clone();
         let stepped = step::step(&mut self.world, bytes, sheet, &mut expected_output);
@@ -111,6 +183,7 @@ impl Pair {
             assert_eq!(self.words, before.0, "words of a step that changes nothing\n{}", input());
         }
         self.tally.count(&stepped.report);
+        self.tally.functions.count(&world_before, bytes, sheet, &stepped.report.outcome);
         if changes && !matches!(stepped.report.outcome, Outcome::Result(_)) && self.words != before.0 {
             self.tally.midway += 1;
         }

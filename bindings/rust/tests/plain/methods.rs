@@ -48,10 +48,6 @@ fn type_error<T>(message: u64) -> Ends<T> {
     Err(Stop::TypeError(message))
 }
 
-fn prototype_value(p: Option<usize>) -> Value {
-    p.map_or(Value::Null, |o| Value::Object(o as u64))
-}
-
 impl Run {
     /// A call begins: it is counted, and a revoked proxy throws (10.5.14). Bit `code - 4` of the traps decides between trap and target.
     fn call(&mut self, o: usize, code: u32) -> Ends<Kind> {
@@ -107,8 +103,7 @@ impl Run {
         };
         let told = match self.next_value(Asked::Prototype(target))? {
             Value::Null => None,
-            Value::Object(n) => Some(n as usize),
-            Value::Function(_) => return Err(Stop::Refused(9)),
+            Value::Object(n) | Value::Function(n) => Some(n as usize),
             _ => return type_error(2),
         };
         if !self.is_extensible(target)? && told != self.get_prototype_of(target)? {
@@ -135,7 +130,7 @@ impl Run {
 
     fn ordinary_set_prototype_of(&mut self, o: usize, v: Option<usize>) -> bool {
         let object = self.world.ordinary(o);
-        if same_value(prototype_value(v), prototype_value(object.prototype)) {
+        if same_value(self.world.prototype_value(v), self.world.prototype_value(object.prototype)) {
             return true;
         }
         if !object.extensible {
@@ -391,10 +386,9 @@ impl Run {
         if own.writable == Some(false) {
             return Ok(false);
         }
-        let Value::Object(receiver) = receiver else {
+        let Some(receiver) = receiver.object() else {
             return Ok(false);
         };
-        let receiver = receiver as usize;
         match self.get_own_property(receiver, key)? {
             Some(existing) => {
                 if existing.is_accessor() || existing.writable == Some(false) {

@@ -116,7 +116,7 @@ fn uses(code: u8) -> Option<[bool; 5]> {
     const Y: bool = true;
     const N: bool = false;
     Some(match code {
-        1 => [N, N, Y, N, N],
+        1 | 16 => [N, N, Y, N, N],
         2 => [Y, N, Y, N, N],
         3 | 4 | 6 | 7 | 14 => [Y, N, N, N, N],
         5 | 18 | 19 => [Y, N, Y, N, N],
@@ -158,39 +158,45 @@ pub fn step(bytes: &[u8]) -> Option<Step> {
 /// Refusal 2: every object that is named was made.
 pub fn all_made(world: &World, mut values: impl Iterator<Item = Value>) -> bool {
     values.all(|v| match v {
-        Value::Object(n) => n < world.objects.len() as u64,
+        Value::Object(n) | Value::Function(n) => n < world.objects.len() as u64,
         _ => true,
     })
 }
 
-/// Refusal 3 as far as numbers go.
+/// Refusal 3 as far as numbers go, where every object was made: functions are named as functions, and nothing else is.
 pub fn all_known(world: &World, mut values: impl Iterator<Item = Value>) -> bool {
     values.all(|v| match v {
         Value::String(n) => n < world.strings.len() as u64,
-        Value::Symbol(n) | Value::Function(n) => n <= 255,
+        Value::Symbol(n) => n <= 255,
+        Value::Object(n) => !world.is_callable(n as usize),
+        Value::Function(n) => world.is_callable(n as usize),
         _ => true,
     })
 }
 
 impl Step {
-    fn values(&self) -> impl Iterator<Item = Value> {
+    pub fn values(&self) -> impl Iterator<Item = Value> {
         [self.key, self.value, self.receiver].into_iter().chain(self.descriptor.values())
     }
 
     fn kinds_fit(&self, world: &World) -> bool {
         let key = !(8..=13).contains(&self.code) || Key::of(self.key).is_some();
         let value = match self.code {
-            1 | 5 => matches!(self.value, Value::Null | Value::Object(_)),
+            1 | 5 | 16 => matches!(self.value, Value::Null | Value::Object(_) | Value::Function(_)),
             2 | 18 | 19 => matches!(self.value, Value::Integer32(_)),
+            _ => true,
+        };
+        let object = match self.code {
+            2 => !world.is_callable(self.object),
             3 => matches!(world.objects[self.object], Object::Proxy { .. }),
             _ => true,
         };
-        key && value && !self.receiver.is_function()
+        key && value && object
     }
 }
 
 impl Answer {
-    fn values(&self) -> Vec<Value> {
+    pub fn values(&self) -> Vec<Value> {
         match self {
             Answer::Value(v) | Answer::Throw(v) => vec![*v],
             Answer::Descriptor(d) => d.values().collect(),
@@ -202,7 +208,8 @@ impl Answer {
 /// Refusals 1 to 4 over the step, then 1 to 3 over the sheet, else both.
 pub fn read(world: &World, step_bytes: &[u8], sheet_bytes: &[u8]) -> Result<(Step, Vec<Answer>), u64> {
     let step = step(step_bytes).ok_or(1u64)?;
-    if step.code != 1 && step.object >= world.objects.len() || !all_made(world, step.values()) {
+    let makes = matches!(step.code, 1 | 16);
+    if !makes && step.object >= world.objects.len() || !all_made(world, step.values()) {
         return Err(2);
     }
     if !all_known(world, step.values()) || !step.kinds_fit(world) {

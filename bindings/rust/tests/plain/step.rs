@@ -90,19 +90,12 @@ pub fn step(world: &mut World, bytes: &[u8], sheet: &[u8], output: &mut [u8]) ->
     Stepped { report: Report { outcome, answers: run.used as u64, calls: run.calls }, wanted: None }
 }
 
-fn prototype(v: Value) -> Option<usize> {
-    match v {
-        Value::Object(n) => Some(n as usize),
-        _ => None,
-    }
-}
-
 fn make(run: &mut Run, object: Object) -> Result<Completion, Stop> {
     if run.world.objects.len() == MAXIMUM_OBJECTS {
         return Err(Stop::Refused(7));
     }
     run.world.objects.push(object);
-    Ok(Completion::Value(Value::Object(run.world.objects.len() as u64 - 1)))
+    Ok(Completion::Value(run.world.value(run.world.objects.len() - 1)))
 }
 
 fn perform(run: &mut Run, step: &Step) -> Result<Completion, Stop> {
@@ -110,7 +103,10 @@ fn perform(run: &mut Run, step: &Step) -> Result<Completion, Stop> {
     let key = Key::of(step.key).unwrap_or(Key::Symbol(0));
     let boolean = |b: bool| Completion::Value(Value::Boolean(b));
     match step.code {
-        1 => make(run, Object::Ordinary(Ordinary { prototype: prototype(step.value), extensible: true, properties: Vec::new() })),
+        1 | 16 => {
+            let callable = step.code == 16;
+            make(run, Object::Ordinary(Ordinary { prototype: step.value.object(), callable, extensible: true, properties: Vec::new() }))
+        }
         2 => {
             let Value::Integer32(mask) = step.value else { unreachable!() };
             make(run, Object::Proxy { target: o, traps: mask as u32, revoked: false })
@@ -121,8 +117,11 @@ fn perform(run: &mut Run, step: &Step) -> Result<Completion, Stop> {
             }
             Ok(boolean(true))
         }
-        4 => Ok(Completion::Value(run.get_prototype_of(o)?.map_or(Value::Null, |p| Value::Object(p as u64)))),
-        5 => run.set_prototype_of(o, prototype(step.value)).map(boolean),
+        4 => {
+            let prototype = run.get_prototype_of(o)?;
+            Ok(Completion::Value(run.world.prototype_value(prototype)))
+        }
+        5 => run.set_prototype_of(o, step.value.object()).map(boolean),
         6 => run.is_extensible(o).map(boolean),
         7 => run.prevent_extensions(o).map(boolean),
         8 => Ok(run.get_own_property(o, key)?.map_or(Completion::Absent, Completion::Descriptor)),

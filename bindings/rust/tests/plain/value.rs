@@ -45,6 +45,14 @@ impl Value {
         }
     }
 
+    /// The number of the object or function that it names.
+    pub fn object(self) -> Option<usize> {
+        match self {
+            Value::Object(n) | Value::Function(n) => Some(n as usize),
+            _ => None,
+        }
+    }
+
     pub fn is_undefined(self) -> bool {
         matches!(self, Value::Undefined)
     }

@@ -1,6 +1,6 @@
 //! All that steps change: objects with their properties, and the strings.
 use super::descriptor::Descriptor;
-use super::value::Key;
+use super::value::{Key, Value};
 
 #[derive(Clone, Debug)]
 pub enum Object {
@@ -11,6 +11,8 @@ pub enum Object {
 #[derive(Clone, Debug)]
 pub struct Ordinary {
     pub prototype: Option<usize>,
+    /// A function. The number of its object is that of the value which names it.
+    pub callable: bool,
     pub extensible: bool,
     /// By creation.
     pub properties: Vec<(Key, Descriptor)>,
@@ -31,6 +33,24 @@ impl Ordinary {
 impl World {
     pub fn live_properties(&self) -> usize {
         self.objects.iter().map(|o| if let Object::Ordinary(o) = o { o.properties.len() } else { 0 }).sum()
+    }
+
+    pub fn is_callable(&self, o: usize) -> bool {
+        matches!(self.objects[o], Object::Ordinary(Ordinary { callable: true, .. }))
+    }
+
+    /// The value that names an object.
+    pub fn value(&self, o: usize) -> Value {
+        if self.is_callable(o) {
+            Value::Function(o as u64)
+        } else {
+            Value::Object(o as u64)
+        }
+    }
+
+    /// The value of a prototype: none is null.
+    pub fn prototype_value(&self, prototype: Option<usize>) -> Value {
+        prototype.map_or(Value::Null, |o| self.value(o))
     }
 
     pub fn ordinary(&self, o: usize) -> &Ordinary {

@@ -1,12 +1,10 @@
 use denote.Ref.{now}
-use native.Mathlib.Omega.{arith}
-use mathlib.Core.Path.{_≡_, sym, _∙_}
-use Rattle.record.specs.Bytes.{byteAt}
+use mathlib.Core.Path.{sym, _∙_}
 use Rattle.record.specs.Step.{stepOf}
 use Rattle.calls.specs.Outs.{context}
 use Rattle.steps.specs.Operation.{operationOf}
 use Rattle.steps.specs.Perform.{maximumCalls}
-use Rattle.performing.proofs.CreationLaws.{object-made, proxy-made, proxy-revoked}
+use Rattle.performing.proofs.CreationLaws.{object-made, function-made, proxy-made, proxy-revoked, last-creation}
 use borrow.Author.Needs.{needs}
 use Rattle.performing.proofs.perform_creation.Statement.{statement}
 use Rattle.performing.proofs.perform_creation.Tie as tie
@@ -21,7 +19,14 @@ returns-2 c = (rw (c .make-proxy .ensures .0, sym (c .before .before .before .be
 
 returns-3 : tie.Need-returns-3
 unfolding stepOf operationOf
-returns-3 c = let e : byteAt (now (c .before .before .before .before .before .before .before .before .before .before .before .args .bytes)) 0 ≡ 3 = omega (arith, c .before .before .before .before .before .before .before .before .before .before .before .pre .1 .0, c .before .before .before .before .before .before .before .before .before .before .before .pre .1 .1, c .before .before .before .before .before .wide .ensures .0, c .before .match .rest .0 .1, c .before .match .rest .1) in (rw (c .revoke .ensures .0, e, sym (c .before .before .before .wide2 .ensures .0)) (proxy-revoked (now (c .before .before .before .before .before .before .before .before .before .before .before .args .sheet)) (c .before .before .before .before .before .before .before .before .before .before .before .args .s) maximumCalls (context (now (c .before .before .before .before .before .before .before .before .before .before .before .args .words)) (now (c .before .before .before .before .before .before .before .before .before .before .before .args .strings)) (c .before .before .before .before .before .before .before .before .before .before .before .args .allowance)) _), c .revoke .ensures .1)
+returns-3 c = (rw (c .revoke .ensures .0, sym (c .before .before .before .before .before .wide .ensures .0) ∙ c .before .match .keys3, sym (c .before .before .before .wide2 .ensures .0)) (proxy-revoked (now (c .before .before .before .before .before .before .before .before .before .before .before .args .sheet)) (c .before .before .before .before .before .before .before .before .before .before .before .args .s) maximumCalls (context (now (c .before .before .before .before .before .before .before .before .before .before .before .args .words)) (now (c .before .before .before .before .before .before .before .before .before .before .before .args .strings)) (c .before .before .before .before .before .before .before .before .before .before .before .args .allowance)) _), c .revoke .ensures .1)
+
+returns-4 : tie.Need-returns-4
+unfolding stepOf operationOf
+returns-4 c =
+    let code = c .before .before .before .before .before .wide .ensures .0 in
+    let last = last-creation _ (rw code (c .before .before .before .before .before .before .before .before .before .before .before .pre .1 .1)) (rw code (c .before .before .before .before .before .before .before .before .before .before .before .pre .1 .0)) (c .before .match .rest .0 .0 .1) (c .before .match .rest .0 .1) (c .before .match .rest .1) in
+    (rw (c .make-object2 .ensures .0, sym (c .before .before .before .before .before .wide .ensures .0) ∙ last, sym (c .before .before .value-at .ensures)) (function-made (now (c .before .before .before .before .before .before .before .before .before .before .before .args .sheet)) (c .before .before .before .before .before .before .before .before .before .before .before .args .s) maximumCalls (context (now (c .before .before .before .before .before .before .before .before .before .before .before .args .words)) (now (c .before .before .before .before .before .before .before .before .before .before .before .args .strings)) (c .before .before .before .before .before .before .before .before .before .before .before .args .allowance)) _), c .make-object2 .ensures .1)
 
 pub perform-creation-spec : {M : Type 1} → statement M
 perform-creation-spec =
@@ -35,6 +40,8 @@ perform-creation-spec =
     (λ c κs. search needs)
     (λ c κs. search needs)
     (λ c κs. search needs)
+    (λ c κs. search needs)
     returns
     returns-2
-    returns-3)
+    returns-3
+    returns-4)

@@ -3,7 +3,7 @@ use Rattle.step_records.proofs.step_refusals.proxy_step.Statement.{stat
 use Rattle.step_records.proofs.step_refusals.proxy_step.Tie as tie
 
 returns : tie.Need-returns
-returns c = rw (c .earlier .ensures, c .before .before .object-refusal .ensures, c .before .bounded-refusal .ensures, ← c .before .before .before .before .has-value-alone .ensures, c .before .before .before .if1 .taken)
+returns c = rw (c .earlier .ensures, c .before .before .named-refusal .ensures, c .before .bounded-refusal .ensures, ← c .before .before .before .before .has-value-alone .ensures, c .before .before .before .if1 .taken)
 
 returns-2 : tie.Need-returns-2
 returns-2 c = rw (← c .before .has-value-alone .ensures, c .if1 .left)

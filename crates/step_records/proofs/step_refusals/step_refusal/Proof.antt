@@ -39,7 +39,7 @@ returns-11 : tie.Need-returns-11
 returns-11 c = no-code _ _ _ (c .before .before .before .before .before .before .if1 .left) _ (c .before .before .before .before .wide .ensures .0) (code-low _ (c .if2 .taken))
 
 returns-12 : tie.Need-returns-12
-returns-12 c = no-code _ _ _ (c .before .before .before .before .before .before .before .before .if1 .left) _ (c .before .before .before .before .before .before .wide .ensures .0) (code-middle _ (c .before .before .before .match .rest .0 .0 .0 .0 .1) (c .before .before .before .match .rest .0 .0 .0 .1) (c .before .before .before .match .rest .0 .0 .1) (c .before .before .before .match .rest .0 .1) (c .before .before .before .match .rest .1) (c .before .if3 .left) (c .if4 .taken))
+returns-12 c = no-code _ _ _ (c .before .before .before .before .before .before .before .before .if1 .left) _ (c .before .before .before .before .before .before .wide .ensures .0) (code-middle _ (c .before .before .before .match .rest .0 .0 .0 .0 .0 .0 .0 .0 .1) (c .before .before .before .match .rest .0 .0 .0 .0 .1) (c .before .before .before .match .rest .0 .0 .0 .1) (c .before .before .before .match .rest .0 .0 .1) (c .before .before .before .match .rest .0 .1) (c .before .before .before .match .rest .1) (c .before .if3 .left) (c .if4 .taken))
 
 returns-13 : tie.Need-returns-13
 returns-13 c = no-code _ _ _ (c .before .before .before .before .before .before .before .before .before .if1 .left) _ (c .before .before .before .before .before .before .before .wide .ensures .0) (code-high _ (c .if5 .left))

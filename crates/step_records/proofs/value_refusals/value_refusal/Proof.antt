@@ -1,5 +1,6 @@
 use mathlib.Core.Path.{_∙_}
-use Rattle.step_records.proofs.ValueLaws.{refusal-0, refusal-1, refusal-2, refusal-3, refusal-4, refusal-5, refusal-6, refusal-7, refusal-8, refusal-other}
+use mathlib.Core.Bool.{true, false}
+use Rattle.step_records.proofs.ValueLaws.{refusal-0, refusal-1, refusal-2, refusal-3, refusal-4, refusal-5, refusal-6, refusal-named, refusal-other}
 use borrow.Author.Needs.{needs}
 use Rattle.step_records.proofs.value_refusals.value_refusal.Statement.{statement}
 use Rattle.step_records.proofs.value_refusals.value_refusal.Tie as tie
@@ -26,10 +27,10 @@ returns-7 : tie.Need-returns-7
 returns-7 c = rw (c .before .match .keys7) (c .number-refusal6 .ensures ∙ refusal-6 _ _)
 
 returns-8 : tie.Need-returns-8
-returns-8 c = rw (c .before .match .keys8) (c .number-refusal7 .ensures ∙ refusal-7 _ _)
+returns-8 c = rw (c .before .match .keys8) (c .named-refusal .ensures ∙ refusal-named _ _ false)
 
 returns-9 : tie.Need-returns-9
-returns-9 c = rw (c .before .match .keys9) (c .number-refusal8 .ensures ∙ refusal-8 _ _)
+returns-9 c = rw (c .before .match .keys9) (c .named-refusal2 .ensures ∙ refusal-named _ _ true)
 
 returns-10 : tie.Need-returns-10
 returns-10 c = refusal-other _ _ _ (c .match .rest .0 .0 .0 .0 .0 .0 .0 .0 .1) (c .match .rest .0 .0 .0 .0 .0 .0 .0 .1) (c .match .rest .0 .0 .0 .0 .0 .0 .1) (c .match .rest .0 .0 .0 .0 .0 .1) (c .match .rest .0 .0 .0 .0 .1) (c .match .rest .0 .0 .0 .1) (c .match .rest .0 .0 .1) (c .match .rest .0 .1) (c .match .rest .1)

@@ -13,7 +13,7 @@ use Rattle.store_write.proofs.removal.remove_property.Tie as tie
 
 abbrev Inv-loop : tie.InvT-loop
 Inv-loop words₀ o n key i₀ j₀ words i j =
-    (i ≤ n) × ((j ≤ i) × ((length words ≡ 1634) × ((k : PropertyKey) → key ≡ keyWord o k → withoutRow words₀ o k ≡ swept (n - i) words o k i j)))
+    (i ≤ n) × ((j ≤ i) × ((length words ≡ 1635) × ((k : PropertyKey) → key ≡ keyWord o k → withoutRow words₀ o k ≡ swept (n - i) words o k i j)))
 
 abbrev μ-loop : tie.MeasureT-loop
 μ-loop words₀ o n key i₀ j₀ words i j = n - i

@@ -22,4 +22,11 @@ returns-2 c =
 
 pub make-empty-spec : {M : Type 1} → statement M
 make-empty-spec =
-    tie.close (tie.spec (λ c. search needs) (λ c. search needs) (λ c. search needs) returns returns-2)
+    tie.close
+    (tie.spec
+    (λ c. search needs)
+    (λ c. search needs)
+    (λ c. search needs)
+    (λ c. search needs)
+    returns
+    returns-2)
