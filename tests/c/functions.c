@@ -2,33 +2,10 @@
  * Functions through include/demnyaluz.h: made by code 16, as prototype, receiver and operand, as getter and setter, as a handler's answer; then all that
  * is refused of them, and a full store.
  */
-#include "demnyaluz.h"
-#include <stdio.h>
-#include <stdlib.h>
+#include "checked.h"
 #include <string.h>
 
-static uint64_t words[DEMNYALUZ_STORE_WORDS], before[DEMNYALUZ_STORE_WORDS];
-static uint16_t strings[DEMNYALUZ_STRING_CELLS];
-static uint8_t output[DEMNYALUZ_OUTPUT_BYTES];
-static uint64_t report_words[DEMNYALUZ_REPORT_WORDS];
-static int checks;
-
-#define MEMORY words, DEMNYALUZ_STORE_WORDS, strings, DEMNYALUZ_STRING_CELLS
-
-static struct demnyaluz_report report(void)
-{
-    return demnyaluz_read_report(report_words);
-}
-
-static void check(bool holds, const char *what)
-{
-    checks++;
-    if (!holds) {
-        const struct demnyaluz_report r = report();
-        printf("not so: %s (outcome %d, number %d, answers %d, calls %d)\n", what, (int)r.outcome, (int)r.number, (int)r.answers, (int)r.calls);
-        exit(1);
-    }
-}
+static uint64_t before[DEMNYALUZ_STORE_WORDS];
 
 /* A step with one answer, or with none where its tag is 0. */
 static void run_answered(struct demnyaluz_step_parts parts, uint8_t tag, struct demnyaluz_value answer)

@@ -47,6 +47,15 @@ fn rows_of(lines: &[&str]) -> Vec<String> {
     rows
 }
 
+/// Each line has the row that stands beside it.
+#[track_caller]
+fn assert_rows(cases: &[(String, String)]) {
+    let rows = rows_of(&cases.iter().map(|(line, _)| line.as_str()).collect::<Vec<_>>());
+    for ((line, expected), row) in cases.iter().zip(rows) {
+        assert_eq!(row, *expected, "{line}");
+    }
+}
+
 /// The row of one line; an object is made before it and one after it, so that reading goes on.
 #[track_caller]
 fn row_of(line: &str) -> String {
@@ -447,7 +456,7 @@ fn lines_seal_and_freeze() {
     let (zero, sealed, frozen) = ("000000000000000000", "030000000000000000", "030100000000000000");
     let whole = format!("0f07{data}{zero}{zero}");
     let (yes, no) = ("020100000000000000", "020000000000000000");
-    let (lines, expected): (Vec<String>, Vec<String>) = [
+    assert_rows(&[
         ("0f - - - - - 006e".to_string(), "1 0 0 0 050000000000000000".to_string()),
         (MAKE.to_string(), "1 0 0 0 070000000000000000".to_string()),
         (format!("09 00 {name} - - {whole} -"), format!("1 0 0 3 {yes}")),
@@ -481,13 +490,7 @@ fn lines_seal_and_freeze() {
         (format!("10 00 - {sealed} - - -"), "0 3 0 0 -".to_string()),
         (format!("11 00 - {sealed} - - -"), "0 1 0 0 -".to_string()),
         (format!("14 00 - {sealed} - - -"), "0 1 0 0 -".to_string()),
-    ]
-    .into_iter()
-    .unzip();
-    let rows = rows_of(&lines.iter().map(String::as_str).collect::<Vec<_>>());
-    for ((line, row), expected) in lines.iter().zip(rows).zip(expected) {
-        assert_eq!(row, expected, "{line}");
-    }
+    ]);
 }
 
 /// Step 10 by hand: functions as prototype, receiver, operand, getter and answer, and by a wrong kind or number.
@@ -499,7 +502,7 @@ fn lines_make_functions() {
     let function = |n: u8| format!("08{n:02x}00000000000000");
     let whole = format!("0f07{data}{zero}{zero}");
     let (f0, o1, f2) = (function(0), object(1), function(2));
-    let (lines, expected): (Vec<String>, Vec<String>) = [
+    assert_rows(&[
         (format!("10 00 - {null} - - -"), format!("1 0 0 0 {f0}")),
         (format!("01 00 - {f0} - - -"), format!("1 0 0 0 {o1}")),
         (format!("10 - - {o1} - - 00"), format!("1 0 0 0 {f2}")),
@@ -541,13 +544,7 @@ fn lines_make_functions() {
         (format!("10 01 - {null} - - -"), "0 1 0 0 -".to_string()),
         (format!("10 00 {symbol} {null} - - -"), "0 1 0 0 -".to_string()),
         (format!("10 00 - {null} - - -"), format!("1 0 0 0 {}", function(4))),
-    ]
-    .into_iter()
-    .unzip();
-    let rows = rows_of(&lines.iter().map(String::as_str).collect::<Vec<_>>());
-    for ((line, row), expected) in lines.iter().zip(rows).zip(expected) {
-        assert_eq!(row, expected, "{line}");
-    }
+    ]);
 }
 
 /// 256 keys are the longest row, and one more is no sheet.
