@@ -1,5 +1,6 @@
 # rt is Rattle's command: it proves the crates of crates.txt and runs their programs.
-.PHONY: run test text-check day-check edits bench bench-text cost vectors messages engines engine-check engine-damage install-engines lib c-test bindings example fuzz
+.PHONY: run test text-check day-check validation-check edits bench bench-text cost vectors messages \
+	engines engine-check engine-damage install-engines lib c-test bindings example fuzz
 
 # A day of steps and string entries over one store, performed by the proved program: each call and what came of it. It needs cargo.
 run:
@@ -20,6 +21,13 @@ text-check:
 # The stored rows of the day against node's own objects: all but the calls.
 day-check:
 	node tests/rows.mjs crates/text_steps/stdin crates/text_steps/stdout
+
+# Every small pair of a current and a wanted descriptor, against the standard's text and node: the first test that fails. It needs node and gcc.
+validation-check: lib
+	node tests/validation.mjs > target/validation-cases
+	gcc -Wall -Wextra -Wpedantic -Werror -std=c11 -O1 -fsanitize=undefined -fno-sanitize-recover=undefined -Iinclude \
+		-o target/lib/validation tests/c/validation.c target/lib/libdemnyaluz.a
+	target/lib/validation < target/validation-cases
 
 # The must-fail edits that the gate leaves out, of all crates or of CRATES="NAME NAME".
 edits:
@@ -62,10 +70,10 @@ engines:
 	rt check replay
 	for engine in node gjs jsc; do if command -v $$engine > /dev/null; then sh tests/engines.sh $$engine $(SEED) $(CALLS) || exit 1; fi; done
 
-# A smaller part of the same, on node alone.
+# A smaller part of the same, on node alone: of fewer calls the rarest messages may be missing.
 engine-check:
 	rt check replay
-	sh tests/engines.sh node 7 20000
+	sh tests/engines.sh node 7 60000
 
 # Whether the comparison notices a change in each part of an expectation. It needs python3.
 engine-damage:

@@ -11,9 +11,10 @@
  *   strings   the table of strings: DEMNYALUZ_STRING_CELLS cells of 16 bits
  *   output    where the keys of an [[OwnPropertyKeys]] result go, 9 bytes each; DEMNYALUZ_OUTPUT_BYTES hold every list
  *   report    ten words
+ *   test      one word
  * Memory that is all zeros is an empty store and an empty table; demnyaluz_empty_store and demnyaluz_empty_strings make memory of any content so.
- * Each pointer is good for its length. Where a length is 0 its pointer is neither read nor written through, and may be null; a report and a
- * result have no length and are never null. What a call writes overlaps nothing else that it is lent. A step of 2,048 nested calls
+ * Each pointer is good for its length. Where a length is 0 its pointer is neither read nor written through, and may be null; a report, a test
+ * and a result have no length and are never null. What a call writes overlaps nothing else that it is lent. A step of 2,048 nested calls
  * runs in a stack of 1 MB.
  *
  * A store or table of another length, or whose counts exceed what it can hold, is refused as 1, and so is a record of a wrong length. A
@@ -206,6 +207,22 @@ enum demnyaluz_refusal {
     DEMNYALUZ_REFUSAL_TOO_MANY_CALLS = 10,     /* a 2,049th */
     DEMNYALUZ_REFUSAL_OUTPUT_TOO_SMALL = 11,
     DEMNYALUZ_REFUSAL_BROKEN_LINE = 12         /* of a text, tested before 1 */
+};
+
+/*
+ * The tests of ValidateAndApplyPropertyDescriptor (10.1.6.3), in the order of its steps; the first that fails rejects the descriptor. Those from 2
+ * on are of a property that is not configurable, and a descriptor without fields is accepted before them.
+ */
+enum demnyaluz_test {
+    DEMNYALUZ_TEST_NONE = 0,         /* none fails: the descriptor is accepted, or the call is refused */
+    DEMNYALUZ_TEST_EXTENSIBLE = 1,   /* 2.a: the property is absent, and its object is not extensible */
+    DEMNYALUZ_TEST_CONFIGURABLE = 2, /* 5.a: configurable is to become true */
+    DEMNYALUZ_TEST_ENUMERABLE = 3,   /* 5.b: enumerable is to change */
+    DEMNYALUZ_TEST_KIND = 4,         /* 5.c: data is to become an accessor, or an accessor data */
+    DEMNYALUZ_TEST_GET = 5,          /* 5.d.i: the getter is to change */
+    DEMNYALUZ_TEST_SET = 6,          /* 5.d.ii: the setter is to change */
+    DEMNYALUZ_TEST_WRITABLE = 7,     /* 5.e.i: data that is not writable is to become writable */
+    DEMNYALUZ_TEST_VALUE = 8         /* 5.e.iii: the value of data that is not writable is to change */
 };
 
 enum demnyaluz_message_number {
@@ -404,11 +421,12 @@ void demnyaluz_complete(const uint64_t *words, size_t words_length, const uint16
 
 /*
  * ValidateAndApplyPropertyDescriptor by itself, over a current descriptor or, with current_length 0, an absent property: answers whether it is
- * accepted, and reports the property after it, which may be absent. Refused (and answered false) as 1 to 5.
+ * accepted, and reports the property after it, which may be absent. test is always written: the first test that fails, DEMNYALUZ_TEST_*, which
+ * is 0 where the descriptor is accepted. Refused (and answered false, with test 0) as 1 to 5.
  */
 bool demnyaluz_validate(const uint64_t *words, size_t words_length, const uint16_t *strings, size_t strings_length, bool extensible,
                         const uint8_t *descriptor, size_t descriptor_length, const uint8_t *current, size_t current_length,
-                        uint64_t report[DEMNYALUZ_REPORT_WORDS]);
+                        uint64_t report[DEMNYALUZ_REPORT_WORDS], uint64_t *test);
 
 /* A descriptor is merged into a current one by itself: the property. Refused as 1 to 6. */
 void demnyaluz_merge(const uint64_t *words, size_t words_length, const uint16_t *strings, size_t strings_length, const uint8_t *current,

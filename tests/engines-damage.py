@@ -180,7 +180,8 @@ DAMAGES = [
     ("absence told as null", "completion", is_result(3), flip(lambda l: l.completion, 2)),
     ("a key more", "completion", is_result(4), flip(lambda l: l.completion + 1, 1)),
     ("a verdict", "completion", lambda l: l.outcome == 1 and l.form == 5, flip(lambda l: l.completion + 1, 1)),
-    ("the property after a verdict", "completion", lambda l: l.outcome == 1 and l.form == 5 and l.bytes[l.completion + 2] == 2, flip(lambda l: l.completion + 3, 4)),
+    ("the property after a verdict", "completion", lambda l: l.outcome == 1 and l.form == 5 and l.bytes[l.completion + 3] == 2, flip(lambda l: l.completion + 4, 4)),
+    ("absence after a verdict told as a property", "completion", lambda l: l.outcome == 1 and l.form == 5 and l.bytes[l.completion + 3] == 3, flip(lambda l: l.completion + 3, 1)),
     ("a completed property", "completion", lambda l: l.kind == 3 and l.outcome == 1, flip(lambda l: l.completion + 1, 4)),
     ("a merged property", "completion", lambda l: l.kind == 6 and l.outcome == 1, flip(lambda l: l.completion + 1, 4)),
     ("a string's number", "completion", lambda l: l.kind == 2 and l.outcome == 1, flip(lambda l: l.completion + 2, 1)),
@@ -296,6 +297,19 @@ DAMAGES = [
     ("a descriptor by itself: a function that was never made", "number", lambda l: l.kind == 5 and l.outcome == 0 and l.numbers == 4 and l.record[11] == 8, renumbered(3)),
     ("a current descriptor: an object under kind 8", "number", lambda l: l.kind == 6 and l.outcome == 0 and l.numbers == 8 and len(l.sheet) == 29 and l.sheet[11] == 8, renumbered(2)),
 ]
+
+
+# The number of the first test that fails, told as the next one and as none; 0 told as 1.
+def ended(n, kind):
+    return lambda line: line.kind == kind and line.outcome == 1 and line.form == 5 and line.bytes[line.completion + 2] == n
+
+
+def retested(n):
+    return lambda line: line.bytes.__setitem__(line.completion + 2, n)
+
+
+DAMAGES += [(f"test {n} of kind {kind} told as {m}", "completion", ended(n, kind), retested(m))
+            for n in range(9) for kind in (4, 5) if (n, kind) != (1, 5) for m in sorted({(n + 1) % 9, 0} - {n})]
 
 
 def replay(lines):

@@ -1,8 +1,8 @@
 #!/bin/sh
 # The gate: formatting; that what the documents name is there, and that the reference has the C header's numbers; `rt ci`, which proves everything from
-# nothing and tries the must-fail edits; then, over what was just proved, calls and texts against node's own objects, the C programs, the Rust
-# crate's tests, with clippy where it is installed, and the instructions of a step. It fails at the first that fails. The tally of `rt ci` is printed
-# last.
+# nothing and tries the must-fail edits; then, over what was just proved, calls, texts and validation against node's own objects, the C programs, the
+# Rust crate's tests, with clippy where it is installed, and the instructions of a step. It fails at the first that fails. The tally of `rt ci` is
+# printed last.
 set -eu
 cd "$(dirname "$0")/.."
 log=$(mktemp)
@@ -16,5 +16,5 @@ node tests/paths.mjs
 node tests/reference.mjs
 { rt ci || echo 'rt ci failed'; } | tee "$log"
 grep -q ' passed, 0 failed$' "$log"
-make engine-check text-check day-check c-test bindings cost
+make engine-check text-check day-check validation-check c-test bindings cost
 grep ' passed, 0 failed$' "$log"

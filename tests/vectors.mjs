@@ -4,7 +4,8 @@
 //
 // Each record is 192 bytes: an operation, its inputs, and the expected answer. The engine answers SameValue (Object.is), ToBoolean
 // (Boolean), array indices (does an Array's length follow the key?), and descriptors completed, validated and merged
-// (Reflect.defineProperty on an object made for it, then Object.getOwnPropertyDescriptor). This script answers what no engine has:
+// (Reflect.defineProperty on an object made for it, then Object.getOwnPropertyDescriptor). Which test of a validation is the first that
+// fails, it answers too: each is tried alone, on another object made so (firstRejected). This script answers what no engine has:
 // the tests of steps and sheets, operations 6 and 7, are refusals 1 to 4, written here a second time, and operation 9 is refusal 6, of
 // merging. Byte 181 of operations 6 and 7 has a bit for each of the objects 0 to 7 that is callable. The generator is seeded: a second
 // run gives the same bytes.
@@ -162,20 +163,49 @@ for (const mask of masks) {
 }
 
 // 5: validating, over an absent or a complete current property
-for (let i = 0; i < 1500; i++) {
-  const present = random(6) > 0;
-  const current = descriptor(random(2) ? 15 : 51);
-  const d = descriptor(pick(masks));
-  // half of the time ask for what is there already
-  if (random(2) && d.mask & 8 && current.mask & 8) d.value = current.value;
-  if (random(2)) d.flags = current.flags & d.mask & 7;
-  const extensible = random(2);
-  const object = {};
-  if (present) Reflect.defineProperty(object, "k", descriptorJs(current));
-  if (!extensible) Object.preventExtensions(object);
-  const accepted = Reflect.defineProperty(object, "k", descriptorJs(d));
-  emit(5, extensible, present ? 1 : 0, descriptorBytes(d), present ? descriptorBytes(current) : Array(29).fill(0), accepted ? 1 : 0, propertyBytes(object));
+
+// What each test of ECMA-262 10.1.6.3 looks at, alone, in the order of its steps; undefined where the descriptor has no such field. 1: no field at all is
+// rejected where nothing can be added; 4: a field of the kind which every property of that kind accepts.
+function aloneOf(d, current) {
+  const only = (name) => (name in d ? { [name]: d[name] } : undefined);
+  const kind = "value" in d || "writable" in d ? { writable: false } : "get" in d || "set" in d ? { get: current?.get } : undefined;
+  return [{}, only("configurable"), only("enumerable"), kind, only("get"), only("set"), only("writable"), only("value")];
 }
+
+// The number of the first that the engine rejects, 0 where it accepts all; `make` makes the object anew.
+function firstRejected(make, d) {
+  const current = Object.getOwnPropertyDescriptor(make(), "k");
+  return aloneOf(d, current).findIndex((one) => one !== undefined && !Reflect.defineProperty(make(), "k", one)) + 1;
+}
+
+// How often each number was the answer.
+const numbers = Array(9).fill(0);
+
+for (let i = 0; i < 1500; i++) {
+  const present = random(8) > 0;
+  const current = descriptor(random(2) ? 15 : 51);
+  // mostly neither configurable nor writable, and of the same kind; each field asks for what is there already, or for anything
+  current.flags &= pick([7, 1, 1, 1, 1, 1, 1, 5]);
+  const same = masks.filter((mask) => !(mask & ~current.mask));
+  const d = descriptor(random(6) ? pick(same) | pick(same) : pick(masks));
+  for (const bit of [1, 2, 4]) if (random(3)) d.flags = (d.flags & ~bit) | (current.flags & d.mask & bit);
+  for (const [name, bit] of [["value", 8], ["get", 16], ["set", 32]]) if (random(2) && d.mask & current.mask & bit) d[name] = current[name];
+  const extensible = random(2);
+  const make = () => {
+    const object = {};
+    if (present) Reflect.defineProperty(object, "k", descriptorJs(current));
+    return extensible ? object : Object.preventExtensions(object);
+  };
+  const object = make();
+  const accepted = Reflect.defineProperty(object, "k", descriptorJs(d));
+  const number = firstRejected(make, descriptorJs(d));
+  if (accepted !== (number === 0)) throw new Error(`number ${number}, but the engine ${accepted ? "accepts" : "rejects"} the whole`);
+  numbers[number]++;
+  const operands = [...descriptorBytes(d), ...(present ? descriptorBytes(current) : Array(29).fill(0))];
+  emit(5, extensible, present ? 1 : 0, operands, accepted ? 1 : 0, propertyBytes(object), number);
+}
+
+if (numbers.some((n) => n < 50)) throw new Error(`a test is too seldom the first that fails: ${numbers}`);
 
 // 6: the tests of a step, refusals 1 to 4
 

@@ -222,8 +222,11 @@ static void refuse(struct demnyaluz_value value, uint64_t refusal)
         check(is_refused(refusal), "in a descriptor");
         demnyaluz_complete(MEMORY, bytes, sizeof bytes, report_words);
         check(is_refused(refusal), "completed by itself");
-        check(!demnyaluz_validate(MEMORY, true, bytes, sizeof bytes, NULL, 0, report_words) && is_refused(refusal), "validated by itself");
-        check(!demnyaluz_validate(MEMORY, true, current, sizeof current, bytes, sizeof bytes, report_words) && is_refused(refusal), "as the current one");
+        uint64_t test = UINT64_MAX;
+        check(!demnyaluz_validate(MEMORY, true, bytes, sizeof bytes, NULL, 0, report_words, &test) && is_refused(refusal) && test == 0, "validated by itself");
+        test = UINT64_MAX;
+        check(!demnyaluz_validate(MEMORY, true, current, sizeof current, bytes, sizeof bytes, report_words, &test) && is_refused(refusal) && test == 0,
+              "as the current one");
         demnyaluz_merge(MEMORY, current, sizeof current, bytes, sizeof bytes, report_words);
         check(is_refused(refusal), "merged by itself");
     }

@@ -23,6 +23,7 @@ struct memory {
     uint8_t piece[81];
     uint8_t rows[DEMNYALUZ_TEXT_ROW];
     uint64_t report[DEMNYALUZ_REPORT_WORDS];
+    uint64_t test;
     uint64_t result[2];
     uint64_t answer;
 };
@@ -68,7 +69,9 @@ static bool extensible;
 
 static void validate(void)
 {
-    lent.answer = demnyaluz_validate(LEND(0, words), LEND(1, strings), extensible, LEND(2, descriptor), LEND(3, current), lent.report);
+    lent.answer = demnyaluz_validate(LEND(0, words), LEND(1, strings), extensible, LEND(2, descriptor), LEND(3, current), lent.report, &lent.test);
+    const bool rejected = lent.report[DEMNYALUZ_REPORT_OUTCOME] == DEMNYALUZ_OUTCOME_RESULT && !lent.answer;
+    check(lent.test == (rejected ? DEMNYALUZ_TEST_EXTENSIBLE : DEMNYALUZ_TEST_NONE), "the test is written");
 }
 
 static void merge(void)
@@ -115,6 +118,7 @@ static void run(void call(void), unsigned slices, bool null)
     is_null = null;
     memcpy(&lent, &before, sizeof lent);
     memset(lent.report, 0xee, sizeof lent.report);
+    lent.test = UINT64_MAX;
     lent.answer = 0;
     call();
 }

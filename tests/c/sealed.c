@@ -1,4 +1,7 @@
-/* The sealed 70,000 through include/demnyaluz.h: a property that stays, a handler that answers 4,464 for it, and the other entries over it. */
+/*
+ * The sealed 70,000 through include/demnyaluz.h: a property that stays, a handler that answers 4,464 for it, and the other entries over it; then each
+ * test of validation.
+ */
 #include "checked.h"
 #include <string.h>
 
@@ -38,6 +41,26 @@ static bool is_fixed(bool enumerable, int32_t integer)
     const struct demnyaluz_report r = report();
     return r.form == DEMNYALUZ_FORM_PROPERTY && !r.property.accessor && !r.property.writable && r.property.enumerable == enumerable
         && !r.property.configurable && is_same(r.property.value, demnyaluz_from_integer32(integer));
+}
+
+static uint64_t test;
+
+/* What validation answers, over no property where current is null. The test is written whatever it was. */
+static bool validate(bool extensible, const struct demnyaluz_descriptor *descriptor, const struct demnyaluz_descriptor *current)
+{
+    uint8_t bytes[DEMNYALUZ_DESCRIPTOR_BYTES], current_bytes[DEMNYALUZ_DESCRIPTOR_BYTES] = {0};
+    demnyaluz_write_descriptor(bytes, descriptor);
+    if (current != NULL)
+        demnyaluz_write_descriptor(current_bytes, current);
+    test = UINT64_MAX;
+    return demnyaluz_validate(MEMORY, extensible, bytes, sizeof bytes, current != NULL ? current_bytes : NULL,
+                              current != NULL ? sizeof current_bytes : 0, report_words, &test);
+}
+
+/* A refusal of a validation: it has no test. */
+static bool is_refused(uint64_t refusal)
+{
+    return is_report(DEMNYALUZ_OUTCOME_REFUSED, refusal, 0, 0) && test == DEMNYALUZ_TEST_NONE;
 }
 
 static struct demnyaluz_value level(int32_t number)
@@ -128,6 +151,98 @@ static void freeze(struct demnyaluz_value name)
     check(is_report(DEMNYALUZ_OUTCOME_REFUSED, DEMNYALUZ_REFUSAL_UNUSABLE_PART, 0, 0), "a level that is no Integer32");
 }
 
+#define DATA_FIELDS (DEMNYALUZ_FIELD_ENUMERABLE | DEMNYALUZ_FIELD_CONFIGURABLE | DEMNYALUZ_FIELD_WRITABLE | DEMNYALUZ_FIELD_VALUE)
+#define ACCESSOR_FIELDS (DEMNYALUZ_FIELD_ENUMERABLE | DEMNYALUZ_FIELD_CONFIGURABLE | DEMNYALUZ_FIELD_GET | DEMNYALUZ_FIELD_SET)
+#define NUMBER(integer) {DEMNYALUZ_KIND_INTEGER32, integer}
+#define FUNCTION(number) {DEMNYALUZ_KIND_FUNCTION, number}
+
+/* Current descriptors: 70,000 and an accessor of functions 5 and 6, not configurable and enumerable. */
+static const struct demnyaluz_descriptor fixed = {.mask = DATA_FIELDS, .booleans = DEMNYALUZ_FIELD_ENUMERABLE, .value = NUMBER(70000)};
+static const struct demnyaluz_descriptor writable = {
+    .mask = DATA_FIELDS, .booleans = DEMNYALUZ_FIELD_ENUMERABLE | DEMNYALUZ_FIELD_WRITABLE, .value = NUMBER(70000)};
+static const struct demnyaluz_descriptor accessor = {
+    .mask = ACCESSOR_FIELDS, .booleans = DEMNYALUZ_FIELD_ENUMERABLE, .get = FUNCTION(5), .set = FUNCTION(6)};
+static const struct demnyaluz_descriptor configurable = {
+    .mask = DATA_FIELDS, .booleans = DEMNYALUZ_FIELD_ENUMERABLE | DEMNYALUZ_FIELD_CONFIGURABLE, .value = NUMBER(70000)};
+
+/* A descriptor over a current one, and the first test that fails. */
+static const struct {
+    struct demnyaluz_descriptor descriptor;
+    const struct demnyaluz_descriptor *current;
+    uint64_t test;
+} validations[] = {
+    {{.mask = DEMNYALUZ_FIELD_VALUE, .value = NUMBER(70000)}, NULL, DEMNYALUZ_TEST_EXTENSIBLE},
+    {{.mask = DEMNYALUZ_FIELD_CONFIGURABLE, .booleans = DEMNYALUZ_FIELD_CONFIGURABLE}, &fixed, DEMNYALUZ_TEST_CONFIGURABLE},
+    {{.mask = DEMNYALUZ_FIELD_ENUMERABLE}, &fixed, DEMNYALUZ_TEST_ENUMERABLE},
+    {{.mask = DEMNYALUZ_FIELD_GET}, &fixed, DEMNYALUZ_TEST_KIND},
+    {{.mask = DEMNYALUZ_FIELD_SET}, &writable, DEMNYALUZ_TEST_KIND},
+    {{.mask = DEMNYALUZ_FIELD_WRITABLE}, &accessor, DEMNYALUZ_TEST_KIND},
+    {{.mask = DEMNYALUZ_FIELD_GET, .get = FUNCTION(6)}, &accessor, DEMNYALUZ_TEST_GET},
+    {{.mask = DEMNYALUZ_FIELD_GET | DEMNYALUZ_FIELD_SET, .get = FUNCTION(5)}, &accessor, DEMNYALUZ_TEST_SET},
+    {{.mask = DEMNYALUZ_FIELD_WRITABLE, .booleans = DEMNYALUZ_FIELD_WRITABLE}, &fixed, DEMNYALUZ_TEST_WRITABLE},
+    {{.mask = DEMNYALUZ_FIELD_VALUE | DEMNYALUZ_FIELD_WRITABLE, .value = NUMBER(4464)}, &fixed, DEMNYALUZ_TEST_VALUE},
+    /* others after it would fail too */
+    {{.mask = ACCESSOR_FIELDS, .booleans = DEMNYALUZ_FIELD_CONFIGURABLE}, &fixed, DEMNYALUZ_TEST_CONFIGURABLE},
+    {{.mask = ACCESSOR_FIELDS}, &accessor, DEMNYALUZ_TEST_ENUMERABLE},
+    {{.mask = DATA_FIELDS, .booleans = DEMNYALUZ_FIELD_ENUMERABLE}, &accessor, DEMNYALUZ_TEST_KIND},
+    {{.mask = DEMNYALUZ_FIELD_GET | DEMNYALUZ_FIELD_SET}, &accessor, DEMNYALUZ_TEST_GET},
+    {{.mask = DEMNYALUZ_FIELD_VALUE | DEMNYALUZ_FIELD_WRITABLE, .booleans = DEMNYALUZ_FIELD_WRITABLE}, &fixed, DEMNYALUZ_TEST_WRITABLE},
+    /* none fails */
+    {{.mask = 0}, &fixed, DEMNYALUZ_TEST_NONE},
+    {{.mask = DATA_FIELDS, .booleans = DEMNYALUZ_FIELD_ENUMERABLE, .value = NUMBER(70000)}, &fixed, DEMNYALUZ_TEST_NONE},
+    {{.mask = DEMNYALUZ_FIELD_VALUE | DEMNYALUZ_FIELD_WRITABLE, .value = NUMBER(4464)}, &writable, DEMNYALUZ_TEST_NONE},
+    {{.mask = DEMNYALUZ_FIELD_GET | DEMNYALUZ_FIELD_SET, .get = FUNCTION(5), .set = FUNCTION(6)}, &accessor, DEMNYALUZ_TEST_NONE},
+    {{.mask = ACCESSOR_FIELDS}, &configurable, DEMNYALUZ_TEST_NONE},
+};
+
+/* Descriptors that are refused, handed in and as the current one. */
+static const struct {
+    struct demnyaluz_descriptor descriptor;
+    uint64_t refusal;
+} refused[] = {
+    {{.mask = 64}, DEMNYALUZ_REFUSAL_MALFORMED_RECORD},
+    {{.mask = DATA_FIELDS, .value = FUNCTION(7)}, DEMNYALUZ_REFUSAL_OBJECT_NEVER_MADE},
+    {{.mask = DATA_FIELDS, .value = {DEMNYALUZ_KIND_STRING, 1}}, DEMNYALUZ_REFUSAL_UNUSABLE_PART},
+    {{.mask = DATA_FIELDS | DEMNYALUZ_FIELD_GET}, DEMNYALUZ_REFUSAL_UNUSABLE_DESCRIPTOR},
+};
+
+static void tests(void)
+{
+    for (uint64_t number = 5; number <= 6; number++) {
+        run_alone((struct demnyaluz_step_parts){.code = DEMNYALUZ_CODE_MAKE_FUNCTION, .value = demnyaluz_make_value(DEMNYALUZ_KIND_NULL, 0)});
+        check(is_value(DEMNYALUZ_KIND_FUNCTION, number), "a function");
+    }
+    for (size_t i = 0; i < sizeof validations / sizeof validations[0]; i++) {
+        const struct demnyaluz_descriptor *descriptor = &validations[i].descriptor, *current = validations[i].current;
+        const bool none = validations[i].test == DEMNYALUZ_TEST_NONE;
+        check(validate(false, descriptor, current) == none && test == validations[i].test, "the first test that fails");
+        check(is_report(DEMNYALUZ_OUTCOME_RESULT, 0, 0, 0) && report().form == (current != NULL ? DEMNYALUZ_FORM_PROPERTY : DEMNYALUZ_FORM_ABSENT),
+              "a validation is no refusal");
+        if (!none && current != NULL) {
+            uint8_t bytes[DEMNYALUZ_DESCRIPTOR_BYTES], after[DEMNYALUZ_DESCRIPTOR_BYTES];
+            const struct demnyaluz_descriptor kept = demnyaluz_property_descriptor(report().property);
+            demnyaluz_write_descriptor(bytes, current);
+            demnyaluz_write_descriptor(after, &kept);
+            check(memcmp(bytes, after, sizeof bytes) == 0, "a property that is rejected stays");
+        }
+        /* whether the object is extensible matters where the property is absent alone */
+        check(validate(true, descriptor, current) == (none || current == NULL) && test == (current != NULL ? validations[i].test : DEMNYALUZ_TEST_NONE),
+              "the same of an extensible object");
+    }
+    for (size_t i = 0; i < sizeof refused / sizeof refused[0]; i++) {
+        const struct demnyaluz_descriptor *descriptor = &refused[i].descriptor;
+        check(!validate(false, descriptor, NULL) && is_refused(refused[i].refusal), "a refusal over an absent property");
+        check(!validate(true, descriptor, &fixed) && is_refused(refused[i].refusal), "a refusal over a property");
+        check(!validate(true, &fixed, descriptor) && is_refused(refused[i].refusal), "a refusal of the current descriptor");
+    }
+    uint8_t bytes[DEMNYALUZ_DESCRIPTOR_BYTES];
+    demnyaluz_write_descriptor(bytes, &fixed);
+    test = UINT64_MAX;
+    check(!demnyaluz_validate(MEMORY, true, bytes, sizeof bytes - 1, bytes, sizeof bytes, report_words, &test)
+              && is_refused(DEMNYALUZ_REFUSAL_MALFORMED_RECORD),
+          "a descriptor cut short");
+}
+
 int main(void)
 {
     memset(words, 0xff, sizeof words);
@@ -209,20 +324,21 @@ int main(void)
     check(is_report(DEMNYALUZ_OUTCOME_RESULT, 0, 0, 0) && report().form == DEMNYALUZ_FORM_PROPERTY && report_words[DEMNYALUZ_REPORT_DETAIL] == 0
               && report().property.value.kind == DEMNYALUZ_KIND_UNDEFINED,
           "the empty descriptor completed: data, undefined, all false");
-    bool yes = demnyaluz_validate(MEMORY, true, other_bytes, sizeof other_bytes, sealed_bytes, sizeof sealed_bytes, report_words);
-    check(!yes && is_report(DEMNYALUZ_OUTCOME_RESULT, 0, 0, 0) && is_fixed(true, 70000), "4464 over the sealed 70000");
-    yes = demnyaluz_validate(MEMORY, true, sealed_bytes, sizeof sealed_bytes, sealed_bytes, sizeof sealed_bytes, report_words);
-    check(yes && is_fixed(true, 70000), "70000 over the sealed 70000");
-    yes = demnyaluz_validate(MEMORY, false, other_bytes, sizeof other_bytes, NULL, 0, report_words);
-    check(!yes && report().form == DEMNYALUZ_FORM_ABSENT, "absent and not extensible");
-    yes = demnyaluz_validate(MEMORY, true, other_bytes, sizeof other_bytes, NULL, 0, report_words);
-    check(yes && is_fixed(false, 4464), "absent and extensible");
-    yes = demnyaluz_validate(MEMORY, true, sealed_bytes, sizeof sealed_bytes, other_bytes, sizeof other_bytes, report_words);
-    check(!yes && is_report(DEMNYALUZ_OUTCOME_REFUSED, DEMNYALUZ_REFUSAL_INCOMPLETE_CURRENT, 0, 0), "an incomplete current descriptor");
+    bool yes = validate(true, &other, &sealed);
+    check(!yes && is_report(DEMNYALUZ_OUTCOME_RESULT, 0, 0, 0) && is_fixed(true, 70000) && test == DEMNYALUZ_TEST_VALUE, "4464 over the sealed 70000");
+    yes = validate(true, &sealed, &sealed);
+    check(yes && is_fixed(true, 70000) && test == DEMNYALUZ_TEST_NONE, "70000 over the sealed 70000");
+    yes = validate(false, &other, NULL);
+    check(!yes && report().form == DEMNYALUZ_FORM_ABSENT && test == DEMNYALUZ_TEST_EXTENSIBLE, "absent and not extensible");
+    yes = validate(true, &other, NULL);
+    check(yes && is_fixed(false, 4464) && test == DEMNYALUZ_TEST_NONE, "absent and extensible");
+    yes = validate(true, &sealed, &other);
+    check(!yes && is_refused(DEMNYALUZ_REFUSAL_INCOMPLETE_CURRENT), "an incomplete current descriptor");
     demnyaluz_merge(MEMORY, sealed_bytes, sizeof sealed_bytes, other_bytes, sizeof other_bytes, report_words);
     check(is_report(DEMNYALUZ_OUTCOME_RESULT, 0, 0, 0) && is_fixed(true, 4464), "4464 merged into the sealed 70000");
 
     freeze(visits);
+    tests();
     printf("sealed: %d checks hold\n", checks);
     return 0;
 }

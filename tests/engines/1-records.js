@@ -13,8 +13,8 @@
 //                   numbers (4): bit n is set where refusal or message n would be right, bit 0 for message 32; the engine's text may
 //                   fit several messages
 //                   answers used (1)
-//                   completion: its length (2), then 1 a value, 2 a property, 3 absence, 4 and how many keys (2), or 5 yes or no and
-//                   the property or absence after it
+//                   completion: its length (2), then 1 a value, 2 a property, 3 absence, 4 and how many keys (2), or 5 yes or no, the
+//                   number of the first test that fails (1, 0 where none does), and the property or absence after it
 //                   the output after the call: room bytes, each 0xee before it
 //                   the store after the call: how many strings (2), how many objects (1), then each object: 2 for a proxy, or
 //                   callable (0 or 1), extensible (0 or 1), the prototype, how many own keys (2), and in their order kind, number and

@@ -351,6 +351,18 @@ function doEnter(text) {
 
 // Completing, validating and merging by themselves --------------------------------------
 
+// How often each number ended a validation.
+const ended = [0, 0, 0, 0, 0, 0, 0, 0, 0];
+
+// The first test of 10.1.6.3 that fails, by its number: what each looks at is defined alone, in the order of its steps, on an object made anew. 1: no field
+// at all is rejected where nothing can be added. 4: a field of the kind, such that every property of that kind accepts it.
+function firstRejected(made, d) {
+  const own = Reflect.getOwnPropertyDescriptor(made(), 'k'), only = (name) => (name in d ? { [name]: d[name] } : null);
+  const kind = 'value' in d || 'writable' in d ? { writable: false } : 'get' in d || 'set' in d ? { get: own === undefined ? undefined : own.get } : null;
+  const tests = [{}, only('configurable'), only('enumerable'), kind, only('get'), only('set'), only('writable'), only('value')];
+  return 1 + tests.findIndex((one) => one !== null && !Reflect.defineProperty(made(), 'k', one));
+}
+
 const isComplete = (mask) => (mask & 3) === 3 && ((mask & 12) === 12 || (mask & 48) === 48);
 
 function alone(kind, record, current) {
@@ -360,17 +372,23 @@ function alone(kind, record, current) {
   if (n === 0 && kind === 6 && ((current[0] & 12 && record[0] & 48) || (current[0] & 48 && record[0] & 12))) n = 6;
   if (n !== 0) return refused(n);
   const result = (completion) => ({ outcome: 1, numbers: 0, answers: 0, completion });
-  const it = {}, d = descriptorObject(descriptorOf(record));
+  const d = descriptorObject(descriptorOf(record));
   if (kind === 6) {                                       // boa's fill_with: each field that the second has replaces the first's
     const merged = descriptorObject(descriptorOf(current));
     for (const [name] of FIELDS) if (name in d) merged[name] = d[name];
     return result('02' + propertyText(merged));
   }
-  if (over) Reflect.defineProperty(it, 'k', descriptorObject(descriptorOf(current)));
-  if (kind === 4) Reflect.preventExtensions(it);
-  const accepted = Reflect.defineProperty(it, 'k', d), p = Reflect.getOwnPropertyDescriptor(it, 'k');
+  const made = () => {
+    const it = {};
+    if (over) Reflect.defineProperty(it, 'k', descriptorObject(descriptorOf(current)));
+    return kind === 4 ? Object.preventExtensions(it) : it;
+  };
+  const it = made(), accepted = Reflect.defineProperty(it, 'k', d), p = Reflect.getOwnPropertyDescriptor(it, 'k');
   if (kind === 3) return result('02' + propertyText(p));
-  return result('05' + (accepted ? '01' : '00') + (p === undefined ? '03' : '02' + propertyText(p)));
+  const number = firstRejected(made, d);
+  if (accepted !== (number === 0)) throw new Error('test ' + number + ' is the first that fails alone, but the whole is ' + (accepted ? 'accepted' : 'rejected'));
+  ended[number]++;
+  return result('05' + (accepted ? '01' : '00') + HEX[number] + (p === undefined ? '03' : '02' + propertyText(p)));
 }
 
 const doAlone = (kind, record, current) => line(kind, 0, record, current, alone(kind, record, current));

@@ -315,13 +315,14 @@ function wouldLoop(o, p) {
 const isIndex = (key) => typeof key === 'string' && String(key >>> 0) === key && key >>> 0 !== 4294967295;
 
 // Where JavaScriptCore departs from 10.1.9.2: [[Set]] of an array index that the receiver lacks. A prototype has it as writable data, which decides; but a
-// prototype further up that has it read-only or as an accessor decides there. docs/DIFFERENCES.md.
+// prototype further up that has it read-only or as an accessor, or is a proxy, decides there. docs/DIFFERENCES.md.
 function isIntercepted(s) {
   let n = s.object, found = false;
   while (world.objects[n].proxy && !world.objects[n].revoked && !(world.objects[n].mask & 256)) n = world.objects[n].target;
   const key = valueOf(s.key);
   if (world.objects[n].proxy || valueOf(s.receiver) !== world.objects[n].it || !isIndex(key) || Reflect.getOwnPropertyDescriptor(world.objects[n].it, key) !== undefined) return false;
-  for (; n !== undefined && !world.objects[n].proxy; n = world.numbers.get(Reflect.getPrototypeOf(world.objects[n].it))) {
+  for (; n !== undefined; n = world.numbers.get(Reflect.getPrototypeOf(world.objects[n].it))) {
+    if (world.objects[n].proxy) return found;
     const p = Reflect.getOwnPropertyDescriptor(world.objects[n].it, key);
     if (p !== undefined && !p.writable) return found;
     found = found || p !== undefined;
@@ -394,11 +395,23 @@ function levelScene() {
 
 // Descriptors by themselves --------------------------------------------------------------
 
+// Some fields of a property, and one of its fields changed: mostly that test alone fails.
+function unlike(there) {
+  const d = {}, names = Object.keys(there), name = pick(names.concat(names.filter((field) => field !== 'enumerable' && field !== 'configurable')));
+  for (const field of names) if (chance(55)) d[field] = there[field];
+  if (name === 'value') d.value = nearValue(there.value);
+  else if (name === 'get' || name === 'set') d[name] = there[name][0] === 8 && chance(50) ? UNDEFINED : someFunction();
+  else if (name !== undefined) d[name] = !there[name];
+  return d;
+}
+
 function stepAlone() {
-  const kind = 3 + random(4);
+  const kind = weighed([[2, 3], [4, 4], [4, 5], [2, 6]]);
   const whole = (d) => Object.assign('get' in d || 'set' in d ? { get: UNDEFINED, set: UNDEFINED } : { value: UNDEFINED, writable: false }, { enumerable: false, configurable: false }, d);
   const there = chance(92) ? whole(someDescriptor()) : someDescriptor();
-  const d = chance(60) ? near(there) : chance(94) ? someDescriptor() : Object.assign(someDescriptor(), { get: someFunction(), value: somePrimitive() });
+  if (there.configurable && chance(60)) there.configurable = false;
+  const mixed = () => Object.assign(someDescriptor(), { get: someFunction(), value: somePrimitive() });
+  const d = weighed([[40, () => near(there)], [30, () => unlike(there)], [28, someDescriptor], [2, mixed]])();
   if (chance(4)) d.value = pick([unmade(), misnamed(random(world.objects.length)), string(world.strings.length), symbol(300)]);
   if (chance(2)) there.get = pick([unmade(), misnamed(random(world.objects.length))]);
   const record = descriptorBytes(d), other = kind === 3 || (kind < 6 && chance(15)) ? [] : descriptorBytes(there);

@@ -123,7 +123,7 @@ function fixedCalls() {
   run(13, crowd, { key: string(0) }); define(last, string(0), { configurable: true }); define(last, string(1), { configurable: true });
   run(7, last); define(last, string(1), { configurable: true });
   fixedLevels(enter, run, make, makeFunction, proxy, define);
-  for (const more of [fixedFunctions, fixedFunctionAnswers, fixedFunctionRefusals]) more(enter, run, make, makeFunction, proxy, define);
+  for (const more of [fixedFunctions, fixedFunctionAnswers, fixedFunctionRefusals, fixedValidation]) more(enter, run, make, makeFunction, proxy, define);
 }
 
 // Steps 18 and 19.
@@ -412,4 +412,50 @@ function fixedFunctionRefusals(enter, run, make, makeFunction, proxy, define) {
   while (world.objects.length < FULL.objects) makeFunction(F);
   for (const value of [NULL, callable(31), callable(32)]) { run(1, 0, { value }); run(16, 0, { value }); }
   run(2, o, { value: integer(0) }); run(2, 31, { value: integer(0) }); run(4, 31);
+}
+
+// Validation by itself: each number, alone and with tests after it that fail too, and refusals. The number that the engine tells must be the one here.
+function fixedValidation(enter, run, make, makeFunction) {
+  emptied();
+  const f = callable(makeFunction()), g = callable(makeFunction()), closed = 4, open = 5, bytes = (d) => (d === undefined ? [] : descriptorBytes(d));
+  const data = { value: integer(0), writable: false, enumerable: false, configurable: false };
+  const accessor = { get: f, set: f, enumerable: true, configurable: false };
+  const ends = (number, kind, d, now) => {
+    const before = ended[number];
+    doAlone(kind, bytes(d), bytes(now));
+    if (ended[number] !== before + 1) throw new Error('validation ended otherwise than in ' + number);
+  };
+
+  ends(0, open, data); ends(0, open, {}); ends(0, open, {}, data); ends(0, closed, {}, data); ends(0, closed, data, data); ends(0, closed, accessor, accessor);
+  ends(0, closed, { value: float(0), writable: false }, data); ends(0, open, { enumerable: false, configurable: false }, data);
+  ends(0, closed, { set: f }, accessor);
+  ends(1, closed, {}); ends(1, closed, data); ends(1, closed, accessor); ends(1, closed, { configurable: true });
+  ends(2, open, { configurable: true }, data); ends(2, closed, { configurable: true, enumerable: true, get: f }, data);
+  ends(2, closed, { configurable: true, enumerable: true, writable: true, value: NULL }, data);
+  ends(2, open, { configurable: true, enumerable: false, get: g, set: g }, accessor);
+  ends(3, open, { enumerable: true }, data); ends(3, open, { enumerable: false }, accessor);
+  ends(3, closed, { enumerable: true, configurable: false, set: UNDEFINED }, data); ends(3, open, { enumerable: true, writable: true, value: NULL }, data);
+  ends(3, open, { enumerable: false, get: g, set: g }, accessor);
+  ends(4, open, { get: UNDEFINED }, data); ends(4, closed, { set: f, enumerable: false }, data); ends(4, open, { writable: false }, accessor);
+  ends(4, open, { value: UNDEFINED, configurable: false }, accessor); ends(4, open, { value: f, writable: true }, accessor);
+  ends(5, open, { get: g }, accessor); ends(5, open, { get: UNDEFINED, set: f }, accessor);
+  ends(5, closed, { get: g, set: g, enumerable: true, configurable: false }, accessor);
+  ends(6, open, { set: g }, accessor); ends(6, closed, { get: f, set: UNDEFINED }, accessor); ends(6, open, { get: f, set: g, enumerable: true }, accessor);
+  ends(7, open, { writable: true }, data); ends(7, open, { writable: true, value: float(0) }, data);
+  ends(7, closed, { writable: true, value: integer(1) }, data);
+  ends(8, open, { value: integer(1) }, data); ends(8, open, { value: float(-0) }, data);
+  ends(8, closed, { value: f, writable: false, enumerable: false, configurable: false }, data);
+  // of a property that is configurable, or writable, no such test is made
+  for (const now of [data, accessor].map((d) => Object.assign({}, d, { configurable: true }))) {
+    ends(0, closed, { configurable: true }, now); ends(0, closed, { enumerable: true }, now); ends(0, closed, { enumerable: false }, now);
+    for (const d of [{ get: g }, { set: g }, { writable: true }, { value: integer(1) }]) ends(0, closed, d, now);
+  }
+  const writable = Object.assign({}, data, { writable: true });
+  for (const d of [{ value: integer(1) }, { writable: true }, { writable: false, value: float(-0) }]) ends(0, closed, d, writable);
+  // refused as 1 to 5, each where a test would fail
+  const unmade = { get: callable(99), configurable: true }, misnamed = { value: object(0), configurable: true };
+  for (const d of [[1], bytes(unmade), bytes(misnamed), bytes({ get: f, value: NULL, configurable: true })]) {
+    doAlone(closed, d, []); doAlone(open, d, bytes(data));
+  }
+  doAlone(open, bytes({ configurable: true }), bytes({ configurable: false }));
 }

@@ -139,11 +139,13 @@ fn main() {
     println!("results {}, thrown {}", tally.results, tally.thrown);
     println!("refusals 1 to 11: {:?}", &tally.refusals[1..]);
     println!("messages 1 to 32: {:?}", &tally.messages[1..]);
+    println!("validations by the first test that failed, 0 (none) to 8: {:?}", tally.tests);
     println!("steps of each code: {:?}", tally.steps().collect::<Vec<_>>());
     println!("functions, where they came and where they were refused: {:?}", tally.functions);
     println!("steps of code 18 that changed the store and ended in a TypeError or a throw: {}", tally.midway);
     if count >= 100_000 {
         assert_eq!(tally.missing(), (vec![], vec![]), "refusals and messages that never came");
+        assert!(tally.tests.iter().all(|n| *n > 0), "tests of validation that never failed");
         assert!(tally.functions.all(), "places of functions that never came");
     }
 }

@@ -32,6 +32,8 @@ impl AsRef<[u64]> for ReportWords {
 pub struct Validated {
     /// Whether the descriptor is accepted.
     pub accepted: bool,
+    /// The number of the first test that fails, of [`ValidationTest`](crate::ValidationTest); 0 where the descriptor is accepted or refused.
+    pub test: u64,
     /// The property after it, or the refusal.
     pub report: ReportWords,
 }
@@ -122,17 +124,20 @@ pub fn complete(words: &[u64], strings: &[u16], descriptor: &[u8]) -> ReportWord
 /// A descriptor is validated by itself over a current one, or, with none, over an absent property.
 ///
 /// ```
-/// use demnyaluz::{lent, PropertyDescriptor, STORE_WORDS, STRING_CELLS};
+/// use demnyaluz::{lent, PropertyDescriptor, ValidationTest, STORE_WORDS, STRING_CELLS};
 ///
 /// let (words, strings) = (vec![0; STORE_WORDS], vec![0; STRING_CELLS]);
 /// let [fixed, told] = [70_000, 4_464].map(|n| PropertyDescriptor::fixed(n).to_bytes());
 /// assert!(lent::validate(&words, &strings, true, &told, &[]).accepted);
-/// assert!(!lent::validate(&words, &strings, true, &told, &fixed).accepted);
+/// let rejected = lent::validate(&words, &strings, true, &told, &fixed);
+/// assert!(!rejected.accepted);
+/// assert_eq!(ValidationTest::from_number(rejected.test), Some(ValidationTest::Value));
 /// ```
 #[must_use]
 pub fn validate(words: &[u64], strings: &[u16], extensible: bool, descriptor: &[u8], current: &[u8]) -> Validated {
-    let mut report = ReportWords::ZERO;
-    // SAFETY: each pointer is a slice's, with its length, and the report has its words. Only the report is written: it overlaps nothing.
+    let (mut report, mut test) = (ReportWords::ZERO, 0);
+    // SAFETY: each pointer is a slice's, with its length, the report has its words and the test is one. Only these two are written: they overlap
+    // nothing.
     let accepted = unsafe {
         raw::demnyaluz_validate(
             words.as_ptr(),
@@ -145,9 +150,10 @@ pub fn validate(words: &[u64], strings: &[u16], extensible: bool, descriptor: &[
             current.as_ptr(),
             current.len(),
             report.0.as_mut_ptr(),
+            &mut test,
         )
     };
-    Validated { accepted, report }
+    Validated { accepted, test, report }
 }
 
 /// A descriptor is merged into a current one by itself.

@@ -38,14 +38,16 @@ pub mod rows;
 mod step;
 mod store;
 mod text;
+mod validation;
 mod value;
 
 pub use descriptor::{Property, PropertyDescriptor};
 pub use report::{Completion, Failure, Message, Refusal, Report, REPORT_WORDS};
 pub use step::{sheet_bytes, Answer, IntegrityLevel, Step, Traps};
 pub use store::{
-    Store, Validation, MAXIMUM_ANSWERS, MAXIMUM_CALLS, MAXIMUM_KEYS, MAXIMUM_OBJECTS, MAXIMUM_PROPERTIES, MAXIMUM_STRINGS, MAXIMUM_UNITS,
-    OUTPUT_BYTES, STORE_WORDS, STRING_CELLS,
+    Store, MAXIMUM_ANSWERS, MAXIMUM_CALLS, MAXIMUM_KEYS, MAXIMUM_OBJECTS, MAXIMUM_PROPERTIES, MAXIMUM_STRINGS, MAXIMUM_UNITS, OUTPUT_BYTES,
+    STORE_WORDS, STRING_CELLS,
 };
 pub use text::{run_text, TextReader, TEXT_LINE_BYTES, TEXT_ROW_BYTES, TEXT_STATE_WORDS};
+pub use validation::{Validation, ValidationTest};
 pub use value::{FunctionId, ObjectId, PropertyKey, Prototype, StringId, SymbolId, TryFromValueError, Value, ValueWords};

@@ -1,8 +1,12 @@
 //! Calls and what came of them, as lines that a person reads: `21: get o2 "visits", handler answers 4464: TypeError 17, ...`. Lines alike are one.
+//!
+//! The page performs the calls on a store of its own, to tell which test rejected a descriptor.
 use crate::notation::{Call, Strings};
 use crate::readable;
 use crate::report::{Completion, Failure, Report};
 use crate::step::{Answer, Step};
+use crate::store::Store;
+use crate::validation::ValidationTest;
 use crate::value::{FunctionId, ObjectId, Value};
 use std::io::{self, Write};
 
@@ -12,6 +16,9 @@ pub(crate) struct Page {
     strings: Strings,
     proxies: Vec<ObjectId>,
     functions: Vec<ObjectId>,
+    store: Store,
+    /// Set once a report was not the store's: what rejects from there on is not known.
+    differs: bool,
     last: Option<Lines>,
 }
 
@@ -41,7 +48,8 @@ impl Page {
 
     /// The next line.
     pub(crate) fn write(&mut self, line: u64, call: &Call, report: &Report, output: &mut impl Write) -> io::Result<()> {
-        let (told, outcome) = (self.call(call), self.outcome(call, report));
+        let failed = self.perform(call, report);
+        let (told, outcome) = (self.call(call), self.outcome(call, report, failed));
         match call {
             Call::Enter(units) => {
                 self.strings.enter(units);
@@ -64,6 +72,26 @@ impl Page {
     /// Writes the last lines.
     pub(crate) fn flush(&mut self, output: &mut impl Write) -> io::Result<()> {
         self.last.take().map_or(Ok(()), |lines| lines.write(output))
+    }
+
+    /// Performs the call, and says which test rejected its descriptor if this is the report.
+    fn perform(&mut self, call: &Call, report: &Report) -> Option<ValidationTest> {
+        if self.differs {
+            return None;
+        }
+        let (told, failed) = match call {
+            Call::Enter(units) => {
+                let entered = self.store.enter_units(units);
+                let outcome = entered.map(|s| Completion::Value(s.into())).map_err(Failure::Refused);
+                (Report { outcome, answers: 0, calls: 0 }, None)
+            }
+            Call::Step { step, answers } => {
+                let failed = self.store.failed_test(step, answers);
+                (self.store.step(step, answers), failed)
+            }
+        };
+        self.differs = told != *report;
+        failed.filter(|_| !self.differs)
     }
 
     /// What an object is called: `f1` where a function was made by this number.
@@ -103,8 +131,8 @@ impl Page {
         }
     }
 
-    fn outcome(&self, call: &Call, report: &Report) -> Outcome {
-        let told = match &report.outcome {
+    fn outcome(&self, call: &Call, report: &Report, failed: Option<ValidationTest>) -> Outcome {
+        let mut told = match &report.outcome {
             // a string by its number, which is what it is called from now on
             Ok(Completion::Value(v @ Value::String(_))) if matches!(call, Call::Enter(_)) => v.to_string(),
             Ok(c) => readable::completion(c, &self.strings),
@@ -112,6 +140,9 @@ impl Page {
             Err(Failure::TypeError(m)) => format!("TypeError {}, {m}", m.number()),
             Err(Failure::Thrown(v)) => format!("thrown {}", readable::value(*v, &self.strings)),
         };
+        if let Some(test) = failed {
+            told += &format!(", {}", readable::failed_test(test));
+        }
         let object = match (call, &report.outcome) {
             (Call::Step { step: Step::MakeObject { .. } | Step::MakeProxy { .. }, .. }, Ok(Completion::Value(Value::Object(o)))) => Some(*o),
             (Call::Step { step: Step::MakeFunction { .. }, .. }, Ok(Completion::Value(Value::Function(f)))) => Some((*f).into()),

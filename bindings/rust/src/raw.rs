@@ -2,8 +2,8 @@
 //!
 //! # Safety
 //! Every function takes memory of any content and length. Each pointer must be good for its length, and may be null where that is 0; a
-//! report must be good for [`REPORT_WORDS`](crate::REPORT_WORDS) words and a result for two. Nothing that is written may overlap anything else
-//! that is lent.
+//! report must be good for [`REPORT_WORDS`](crate::REPORT_WORDS) words, a test for one and a result for two. Nothing that is written may overlap
+//! anything else that is lent.
 //!
 //! ```
 //! use demnyaluz::raw;
@@ -44,7 +44,7 @@ extern "C" {
         report: *mut u64,
     );
 
-    /// A descriptor is validated by itself over a current one, or, with length 0, over an absent property.
+    /// A descriptor is validated by itself over a current one, or, with length 0, over an absent property; the test is the first that fails.
     pub fn demnyaluz_validate(
         words: *const u64,
         words_length: usize,
@@ -56,6 +56,7 @@ extern "C" {
         current: *const u8,
         current_length: usize,
         report: *mut u64,
+        test: *mut u64,
     ) -> bool;
 
     /// A descriptor is merged into a current one by itself.

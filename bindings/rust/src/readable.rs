@@ -15,6 +15,7 @@ use crate::descriptor::PropertyDescriptor;
 use crate::notation::{Call, Strings};
 use crate::report::{Completion, Failure, Report};
 use crate::step::{Answer, IntegrityLevel, Step, Traps};
+use crate::validation::ValidationTest;
 use crate::value::Value;
 
 /// A text in quotation marks; quotation marks, backslashes, control characters and lone surrogates are escaped.
@@ -188,6 +189,18 @@ pub fn report(r: &Report, strings: &Strings) -> String {
         Err(failure) => failure.to_string(),
     };
     format!("{outcome} {}", spent(r))
+}
+
+/// Which test rejected a descriptor: `failed test: value`.
+///
+/// ```
+/// use demnyaluz::{readable, ValidationTest};
+///
+/// assert_eq!(readable::failed_test(ValidationTest::Value), "failed test: value");
+/// ```
+#[must_use]
+pub fn failed_test(t: ValidationTest) -> String {
+    format!("failed test: {t}")
 }
 
 /// What a step used and made: `(1 answer, 2 calls)`.

@@ -257,9 +257,13 @@ impl std::error::Error for Error {
 /// Reads the rows of the calls, under their heading, and writes each beside its call; lines alike are one line:
 ///
 /// ```text
+/// 18: defineProperty o0 "visits" {value: 4464}: false, failed test: value (0 answers, 3 calls)
 /// 21: get o2 "visits", handler answers 4464: TypeError 17, Proxy trap returned unexpected data descriptor (1 answer, 2 calls)
 /// 152 to 166: object: o17 to o31 (0 answers, 0 calls)
 /// ```
+///
+/// Rows do not have the [test that failed](crate::Store::failed_test). The calls are performed on a new store to tell it, up to the first whose
+/// report is not that of its row.
 ///
 /// # Errors
 /// The first row that is missing, malformed, of another line or left over, and those of the reader and of the writer. What was shown before it

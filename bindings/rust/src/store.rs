@@ -3,6 +3,7 @@ use crate::descriptor::{Property, PropertyDescriptor};
 use crate::lent::{self, ReportWords};
 use crate::report::{Completion, Failure, Refusal, Report};
 use crate::step::{sheet_bytes, Answer, IntegrityLevel, Step, Traps};
+use crate::validation::{Validation, ValidationTest};
 use crate::value::{FunctionId, ObjectId, PropertyKey, Prototype, StringId, Value};
 
 /// How many words a store has.
@@ -55,17 +56,6 @@ pub const MAXIMUM_CALLS: usize = 2048;
 pub struct Store {
     words: Box<[u64]>,
     strings: Box<[u16]>,
-}
-
-/// What [`Store::validate`] says.
-#[derive(Clone, Copy, PartialEq, Eq, Hash, Debug)]
-#[must_use = "a descriptor may not be accepted"]
-#[non_exhaustive]
-pub struct Validation {
-    /// Whether the descriptor is accepted.
-    pub accepted: bool,
-    /// The property after it; none is absent.
-    pub property: Option<Property>,
 }
 
 impl Default for Store {
@@ -389,7 +379,7 @@ impl Store {
         self.step(&Step::GetOwnProperty { object: object.into(), key: key.into() }, answers).into_property()
     }
 
-    /// \[\[DefineOwnProperty]]
+    /// \[\[DefineOwnProperty]]; where it rejects the descriptor, [`Store::failed_test`] says by which test.
     ///
     /// # Errors
     /// A refusal, a TypeError or a thrown value.
@@ -637,18 +627,19 @@ impl Store {
         present(lent::complete(&self.words, &self.strings, &descriptor.to_bytes()))
     }
 
-    /// ValidateAndApplyPropertyDescriptor by itself: whether it accepts, and the property after it. No current descriptor is an absent
-    /// property.
+    /// ValidateAndApplyPropertyDescriptor by itself: whether it accepts, else the first test that fails, and the property after it. No current
+    /// descriptor is an absent property.
     ///
     /// # Errors
     /// Those of [`Store::complete`], and [`Refusal::IncompleteCurrent`].
     ///
     /// ```
-    /// use demnyaluz::{PropertyDescriptor, Store};
+    /// use demnyaluz::{PropertyDescriptor, Store, ValidationTest};
     ///
     /// let current = PropertyDescriptor::fixed(70_000);
     /// let told = Store::new().validate(true, &PropertyDescriptor::fixed(4_464), Some(&current))?;
     /// assert!(!told.accepted);
+    /// assert_eq!(told.failed, Some(ValidationTest::Value));
     /// assert_eq!(told.property.map(PropertyDescriptor::from), Some(current));
     /// # Ok::<(), demnyaluz::Refusal>(())
     /// ```
@@ -656,7 +647,7 @@ impl Store {
         let current = current.map(PropertyDescriptor::to_bytes);
         let current = current.as_ref().map_or(&[][..], |c| c);
         let told = lent::validate(&self.words, &self.strings, extensible, &descriptor.to_bytes(), current);
-        Ok(Validation { accepted: told.accepted, property: refused_or(told.report)? })
+        Ok(Validation { accepted: told.accepted, failed: ValidationTest::from_number(told.test), property: refused_or(told.report)? })
     }
 
     /// Merges a descriptor into a current one of its kind, by itself.

@@ -2,7 +2,8 @@
 use demnyaluz::notation::Call;
 use demnyaluz::{
     lent, notation, rows, sheet_bytes, Answer, Completion, Failure, FunctionId, IntegrityLevel, Message, ObjectId, Property, PropertyDescriptor,
-    PropertyKey, Prototype, Refusal, Report, Step, Store, StringId, SymbolId, TextReader, Traps, TryFromValueError, Validation, Value, ValueWords,
+    PropertyKey, Prototype, Refusal, Report, Step, Store, StringId, SymbolId, TextReader, Traps, TryFromValueError, Validation, ValidationTest,
+    Value, ValueWords,
 };
 use std::collections::HashSet;
 use std::error::Error;
@@ -282,6 +283,238 @@ fn the_store_is_full_at_32_objects_and_256_properties() {
     assert_eq!(store, before);
     assert_eq!(store.delete(ObjectId(0), SymbolId(0), &[]), Ok(true));
     assert_eq!(store.set(ObjectId(0), SymbolId(1), 1, ObjectId(0), &[]), Ok(true));
+}
+
+/// Fields of a descriptor by their names.
+macro_rules! fields {
+    ($($name:ident: $value:expr),*) => {
+        PropertyDescriptor { $($name: Some($value.into()),)* ..Default::default() }
+    };
+}
+
+/// A store with functions 0 and 1, and complete descriptors that are not configurable and enumerable: 70,000, the same but writable, and an accessor of
+/// the functions.
+fn functions_and_descriptors() -> (Store, [PropertyDescriptor; 3]) {
+    let mut store = Store::new();
+    let (get, set) = (store.make_function(None).unwrap().into(), store.make_function(None).unwrap().into());
+    let accessor = Property::Accessor { get, set, enumerable: true, configurable: false };
+    (store, [PropertyDescriptor::fixed(70_000), PropertyDescriptor::data(70_000, true, true, false), accessor.into()])
+}
+
+#[test]
+fn each_test_of_validation_fails_first() {
+    let (store, [fixed, writable, accessor]) = functions_and_descriptors();
+    let open = PropertyDescriptor::data(70_000, false, true, true);
+    let (f0, f1, undefined) = (FunctionId(0), FunctionId(1), Value::Undefined);
+    use ValidationTest as T;
+    let cases = [
+        (T::Extensible, fields! {}, None),
+        (T::Extensible, fields! { configurable: true, get: f0 }, None),
+        (T::Configurable, fields! { configurable: true }, Some(fixed)),
+        (T::Configurable, fields! { configurable: true, enumerable: false, get: undefined }, Some(writable)),
+        (T::Enumerable, fields! { enumerable: false }, Some(fixed)),
+        (T::Enumerable, fields! { enumerable: false, configurable: false, value: 70_000 }, Some(accessor)),
+        (T::Kind, fields! { set: undefined }, Some(fixed)),
+        (T::Kind, fields! { get: f0, enumerable: true }, Some(writable)),
+        (T::Kind, fields! { writable: true, value: 4_464 }, Some(accessor)),
+        (T::Get, fields! { get: f1, set: f1 }, Some(accessor)),
+        (T::Get, fields! { get: undefined, set: undefined }, Some(accessor)),
+        (T::Set, fields! { set: f0 }, Some(accessor)),
+        (T::Set, fields! { get: f0, set: undefined, enumerable: true, configurable: false }, Some(accessor)),
+        (T::Writable, fields! { writable: true }, Some(fixed)),
+        (T::Writable, fields! { writable: true, value: 4_464 }, Some(fixed)),
+        (T::Value, fields! { value: 4_464 }, Some(fixed)),
+        (T::Value, fields! { value: 70_000.5, writable: false, enumerable: true, configurable: false }, Some(fixed)),
+    ];
+    for (test, descriptor, current) in cases {
+        let told = store.validate(false, &descriptor, current.as_ref()).unwrap();
+        assert_eq!((told.accepted, told.failed), (false, Some(test)), "{descriptor} over {current:?}");
+        assert_eq!(told.property.map(PropertyDescriptor::from), current);
+        // being extensible is asked of absent properties alone
+        let told = store.validate(true, &descriptor, current.as_ref()).unwrap();
+        assert_eq!((told.accepted, told.failed), current.map_or((true, None), |_| (false, Some(test))), "{descriptor} over {current:?}");
+    }
+    assert!(ValidationTest::ALL.iter().all(|t| cases.iter().any(|(test, ..)| test == t)));
+    for (descriptor, current) in [
+        (fields! {}, fixed),
+        (fields! {}, accessor),
+        (fixed, fixed),
+        (fields! { value: 70_000.0, writable: false }, fixed),
+        (fields! { value: 4_464, writable: false }, writable),
+        (accessor, accessor),
+        (fields! { enumerable: true, configurable: false }, accessor),
+        (fields! { get: f0, enumerable: false, configurable: true }, open),
+        (fields! { writable: true, value: 4_464 }, open),
+    ] {
+        let told = store.validate(false, &descriptor, Some(&current)).unwrap();
+        assert_eq!((told.accepted, told.failed), (true, None), "{descriptor} over {current}");
+    }
+}
+
+/// A refusal says nothing of the tests.
+#[test]
+fn a_refused_validation_has_no_test() {
+    let (store, [fixed, ..]) = functions_and_descriptors();
+    let strings = vec![0; demnyaluz::STRING_CELLS];
+    let mixed = fields! { configurable: true, value: 1, get: Value::Undefined };
+    let [fixed_bytes, mixed_bytes, some] = [fixed, mixed, fields! { value: 1 }].map(|d| d.to_bytes());
+    for (descriptor, current, refusal) in [
+        (&mixed_bytes[..], &fixed_bytes[..], Refusal::UnusableDescriptor),
+        (&mixed_bytes, &[], Refusal::UnusableDescriptor),
+        (&fixed_bytes, &mixed_bytes, Refusal::UnusableDescriptor),
+        (&fixed_bytes, &some, Refusal::IncompleteCurrent),
+        (&fixed_bytes[1..], &[], Refusal::MalformedRecord),
+        (&fields! { value: ObjectId(2) }.to_bytes(), &fixed_bytes, Refusal::ObjectNeverMade),
+        (&fields! { value: StringId(0) }.to_bytes(), &fixed_bytes, Refusal::UnusablePart),
+    ] {
+        for extensible in [false, true] {
+            let told = lent::validate(store.words(), &strings, extensible, descriptor, current);
+            assert_eq!((told.accepted, told.test), (false, 0));
+            let report = Report::from_words(told.report.as_slice(), &[]).unwrap();
+            assert_eq!(report.outcome, Err(refusal.into()));
+        }
+    }
+}
+
+/// What a step reports and the test that failed in it, which is the same after it.
+#[track_caller]
+fn step_and_failed_test(store: &mut Store, step: &Step, answers: &[Answer]) -> (String, Option<ValidationTest>) {
+    let failed = store.failed_test(step, answers);
+    let report = store.step(step, answers);
+    assert_eq!(store.failed_test(step, answers), failed, "{step}");
+    let told = match report.outcome {
+        Err(Failure::TypeError(m)) => format!("TypeError {}", m.number()),
+        Err(Failure::Refused(r)) => format!("refused {}", r.number()),
+        _ => report.to_string().split(" (").next().unwrap().to_string(),
+    };
+    (told, failed)
+}
+
+#[test]
+fn a_rejected_step_has_the_test_that_failed() {
+    let (mut store, [fixed, _, accessor]) = functions_and_descriptors();
+    let (data, functions, absent) = (PropertyKey::from(SymbolId(0)), PropertyKey::from(SymbolId(1)), PropertyKey::from(SymbolId(2)));
+    let ordinary = store.make_object(None).unwrap();
+    assert!(store.define_own_property(ordinary, data, fixed, &[]).unwrap());
+    assert!(store.define_own_property(ordinary, functions, accessor, &[]).unwrap());
+    assert!(store.prevent_extensions(ordinary, &[]).unwrap());
+    let own = Traps::GET_OWN_PROPERTY_DESCRIPTOR;
+    let forwarding = store.make_proxy(ordinary, Traps::ALL - Traps::DEFINE_PROPERTY - own - Traps::IS_EXTENSIBLE).unwrap();
+    let trapping = store.make_proxy(forwarding, Traps::ALL).unwrap();
+    let before_trapping = store.make_proxy(trapping, Traps::NONE).unwrap();
+    let outermost = store.make_proxy(before_trapping, Traps::ALL).unwrap();
+
+    use ValidationTest as T;
+    let (no, yes) = (|| Answer::Value(false.into()), || Answer::Value(true.into()));
+    let define = |object, key, descriptor| Step::DefineOwnProperty { object, key, descriptor };
+    let get = |object, key| Step::GetOwnProperty { object, key };
+    let told_other = Answer::from(PropertyDescriptor::fixed(4_464));
+    let told = Answer::from(fixed);
+    for (test, key, descriptor) in [
+        (T::Extensible, absent, fields! {}),
+        (T::Configurable, data, fields! { configurable: true }),
+        (T::Enumerable, data, fields! { enumerable: false }),
+        (T::Kind, functions, fields! { value: 4_464 }),
+        (T::Get, functions, fields! { get: FunctionId(1) }),
+        (T::Set, functions, fields! { set: Value::Undefined }),
+        (T::Writable, data, fields! { writable: true }),
+        (T::Value, data, fields! { value: 4_464 }),
+    ] {
+        // an ordinary object, and a proxy without the traps, which uses no answer
+        for object in [ordinary, forwarding] {
+            assert_eq!(step_and_failed_test(&mut store, &define(object, key, descriptor), &[]), ("false".into(), Some(test)));
+            assert_eq!(step_and_failed_test(&mut store, &define(object, key, descriptor), &[no()]), ("false".into(), Some(test)));
+        }
+        for object in [trapping, before_trapping] {
+            // a trap that accepts it: an absent property has a message of its own
+            let (message, failed) = if key == absent { ("TypeError 13", None) } else { ("TypeError 14", Some(test)) };
+            assert_eq!(step_and_failed_test(&mut store, &define(object, key, descriptor), &[yes()]), (message.into(), failed));
+            // and one that does not
+            assert_eq!(step_and_failed_test(&mut store, &define(object, key, descriptor), &[no()]), ("false".into(), None));
+        }
+        // the same descriptor as an answer, with what it lacks: it is enumerable, so that the tests after that one are come to
+        let enumerable = Some(descriptor.enumerable.unwrap_or(key != absent));
+        let mut answered = PropertyDescriptor { enumerable, ..descriptor };
+        if test == T::Set {
+            answered.get = accessor.get;
+        }
+        for object in [trapping, before_trapping] {
+            assert_eq!(step_and_failed_test(&mut store, &get(object, key), &[answered.into()]), ("TypeError 10".into(), Some(test)));
+        }
+        // in a proxy over a proxy the inner trap is asked after the outer one's answer
+        let answers = [told.clone(), answered.into()];
+        assert_eq!(step_and_failed_test(&mut store, &get(outermost, key), &answers), ("TypeError 10".into(), Some(test)));
+        let answers = [yes(), answered.into()];
+        assert_eq!(step_and_failed_test(&mut store, &define(outermost, key, fields! {}), &answers), ("TypeError 10".into(), Some(test)));
+    }
+
+    // the outer trap's answer over what the inner traps answered, of the property and of being extensible
+    let answers = [yes(), told.clone(), no()];
+    let step = define(outermost, data, PropertyDescriptor::fixed(4_464));
+    assert_eq!(step_and_failed_test(&mut store, &step, &answers), ("TypeError 14".into(), Some(T::Value)));
+    let answers = [told_other.clone(), told.clone(), no()];
+    assert_eq!(step_and_failed_test(&mut store, &get(outermost, data), &answers), ("TypeError 10".into(), Some(T::Value)));
+    let answers = [told_other.clone(), Answer::Value(Value::Undefined), no()];
+    assert_eq!(step_and_failed_test(&mut store, &get(outermost, absent), &answers), ("TypeError 10".into(), Some(T::Extensible)));
+
+    // no descriptor was rejected
+    let key = data;
+    for (step, answers, told) in [
+        (define(ordinary, data, fixed), vec![], "true"),
+        (define(ordinary, data, fields! {}), vec![], "true"),
+        (define(trapping, data, fixed), vec![yes()], "true"),
+        (define(outermost, data, fixed), vec![yes(), told.clone(), no()], "true"),
+        (define(outermost, data, PropertyDescriptor::fixed(4_464)), vec![no(), told_other.clone()], "false"),
+        (define(outermost, data, fixed), vec![yes(), Answer::Throw(4_464.into())], "thrown 4464"),
+        (define(outermost, data, fixed), vec![yes(), told.clone(), yes()], "TypeError 5"),
+        (define(outermost, data, fixed), vec![yes()], "refused 8"),
+        (define(trapping, data, PropertyDescriptor::fixed(4_464)), vec![], "refused 8"),
+        (define(ObjectId(9), data, fixed), vec![], "refused 2"),
+        (define(ordinary, data, fields! { value: 1, get: Value::Undefined }), vec![], "refused 4"),
+        (get(ordinary, absent), vec![], "absent"),
+        (get(trapping, data), vec![Answer::Value(Value::Undefined)], "TypeError 8"),
+        (get(trapping, data), vec![fields! { get: 1 }.into()], "TypeError 27"),
+        (get(trapping, data), vec![fields! { value: 1, get: Value::Undefined }.into()], "TypeError 29"),
+        (get(trapping, data), vec![told.clone()], &fixed.to_string()),
+        // the other messages 10 and other steps
+        (Step::HasProperty { object: trapping, key }, vec![no()], "TypeError 10"),
+        (Step::HasProperty { object: outermost, key }, vec![no(), told_other], "TypeError 10"),
+        (Step::Set { object: ordinary, key, value: 4_464.into(), receiver: ordinary.into() }, vec![], "false"),
+        (Step::Delete { object: ordinary, key }, vec![], "false"),
+        (Step::MakeObject { prototype: None }, vec![], "o7"),
+    ] {
+        assert_eq!(step_and_failed_test(&mut store, &step, &answers), (told.to_string(), None), "{step}");
+    }
+}
+
+/// A call can pass through every object of a full store: the innermost answer is rejected, then the outermost one.
+#[test]
+fn the_test_that_failed_is_found_behind_31_proxies() {
+    let mut store = Store::new();
+    let key = PropertyKey::from(SymbolId(0));
+    let mut object = store.make_object(None).unwrap();
+    assert!(store.define_own_property(object, key, PropertyDescriptor::fixed(70_000), &[]).unwrap());
+    for _ in 0..31 {
+        object = store.make_proxy(object, Traps::GET_OWN_PROPERTY_DESCRIPTOR).unwrap();
+    }
+    let define = Step::DefineOwnProperty { object, key, descriptor: fields! { writable: true } };
+    assert_eq!(step_and_failed_test(&mut store, &define, &[]), ("false".into(), Some(ValidationTest::Writable)));
+    let get = Step::GetOwnProperty { object, key };
+    for wrong in [30, 0, 15] {
+        let mut answers = vec![Answer::from(PropertyDescriptor::fixed(70_000)); 31];
+        answers[wrong] = PropertyDescriptor::fixed(4_464).into();
+        assert_eq!(step_and_failed_test(&mut store, &get, &answers), ("TypeError 10".into(), Some(ValidationTest::Value)));
+    }
+}
+
+#[test]
+fn tests_of_validation_have_numbers_and_names() {
+    for (number, test) in (1..).zip(ValidationTest::ALL) {
+        assert_eq!((test.number(), ValidationTest::from_number(number.into())), (number, Some(*test)));
+        assert_eq!(test.to_string(), format!("{test:?}").to_lowercase());
+    }
+    assert_eq!(ValidationTest::ALL.len(), 8);
+    assert_eq!([0, 9, 256, u64::MAX].map(ValidationTest::from_number), [None; 4]);
 }
 
 #[test]
@@ -1236,6 +1469,8 @@ fn names_and_numbers_are_the_headers() {
     assert_eq!(messages, of("MESSAGE_"));
     let levels: Vec<_> = IntegrityLevel::ALL.iter().map(|l| (in_capitals(&format!("{l:?}")), l.number().into())).collect();
     assert_eq!(levels, of("LEVEL_"));
+    let tests = ValidationTest::ALL.iter().map(|t| (in_capitals(&format!("{t:?}")), t.number().into()));
+    assert_eq!([("NONE".to_string(), 0)].into_iter().chain(tests).collect::<Vec<_>>(), of("TEST_"));
     for (name, value) in [
         ("STORE_WORDS", demnyaluz::STORE_WORDS),
         ("STRING_CELLS", demnyaluz::STRING_CELLS),
@@ -1292,7 +1527,7 @@ fn lent_memory_of_another_length_is_left() {
     assert_eq!(lent::complete(&words, &strings, &[0; 29]).as_slice(), refused);
     assert_eq!(lent::merge(&words, &strings, &[0; 29], &[0; 29]).as_slice(), refused);
     let validated = lent::validate(&words, &strings, true, &[0; 29], &[]);
-    assert_eq!((validated.accepted, validated.report.as_slice()), (false, &refused[..]));
+    assert_eq!((validated.accepted, validated.test, validated.report.as_slice()), (false, 0, &refused[..]));
     assert_eq!(lent::text_feed(&mut words, &mut strings, &mut state, &mut [], b"step", &mut []), None);
     assert_eq!(lent::text_end(&mut words, &mut strings, &mut state, &mut [], &mut []), None);
     assert!(words.iter().all(|w| *w == 7) && strings.iter().all(|c| *c == 7) && state.iter().all(|w| *w == 7));
@@ -1368,7 +1603,7 @@ fn everything_can_move_between_threads() {
     sendable::<Store>();
     sendable::<TextReader>();
     sendable::<Report>();
-    sendable::<Validation>();
+    sendable::<(Validation, ValidationTest)>();
     sendable::<(Step, Answer, Traps, IntegrityLevel, Message)>();
     sendable::<(Value, ValueWords, PropertyKey, Prototype, Property, PropertyDescriptor)>();
     sendable::<(notation::Line, notation::Strings, rows::Row)>();
@@ -1411,6 +1646,8 @@ fn enums_that_grow_are_not_exhaustive() {
             | Step::TestIntegrityLevel { .. }
     ));
     assert!(IntegrityLevel::ALL.iter().all(|l| named!(l, IntegrityLevel::Sealed | IntegrityLevel::Frozen)));
+    use ValidationTest as T;
+    assert!(T::ALL.iter().all(|t| named!(t, T::Extensible | T::Configurable | T::Enumerable | T::Kind | T::Get | T::Set | T::Writable | T::Value)));
     assert!(named!(Answer::keys([]), Answer::Value(_) | Answer::Descriptor(_) | Answer::Keys(_) | Answer::Throw(_)));
     assert!(named!(Call::Enter(vec![]), Call::Enter(_) | Call::Step { .. }));
     let made = Store::new().step(&step, &[]).outcome.unwrap();

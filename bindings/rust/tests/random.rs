@@ -39,6 +39,7 @@ fn every_call_is_as_the_plain_implementation_says() {
     }
     assert_eq!(tally.missing(), (vec![], vec![]), "refusals and messages that never came");
     assert!(tally.steps().all(|(_, n)| n > 0));
+    assert!(tally.tests.iter().all(|n| *n > 100), "each test of validation, and none, by more than a hundred calls");
     assert!(tally.midway > 0);
     assert!(tally.functions.all());
 }

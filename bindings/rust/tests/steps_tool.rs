@@ -150,6 +150,86 @@ fn rows_are_shown_beside_their_calls() {
     assert!(file.rows(&format!("{ROWS}{}", rows.join("\n"))).status.success());
 }
 
+/// Steps that reject descriptors, and some that do not.
+const REJECTIONS: &str = "object
+defineProperty o0 \"visits\" {value: 70000, writable: false, enumerable: true, configurable: false}
+defineProperty o0 \"visits\" {value: 4464}
+defineProperty o0 \"visits\" {value: 4464}
+defineProperty o0 \"visits\" {writable: true}
+proxy o0 traps defineProperty, getOwnPropertyDescriptor
+defineProperty o1 \"visits\" {value: 4464} answers: true
+defineProperty o1 \"visits\" {value: 4464} answers: false
+getOwnPropertyDescriptor o1 \"visits\" answers: {value: 70000}
+proxy o1
+getOwnPropertyDescriptor o2 \"visits\" answers: {value: 4464, enumerable: true}
+preventExtensions o2
+defineProperty o0 y3 {}
+set o0 \"visits\" 4464
+";
+
+/// The first test that failed stands with the outcome, and lines alike have the same.
+#[test]
+fn failed_tests_are_shown() {
+    let cells = steps(&["--cells", "-"], REJECTIONS).stdout;
+    let rows = text_of(demnyaluz::run_text(&cells));
+    let define = "defineProperty o0 \"visits\" {value: 70000, writable: false, enumerable: true, configurable: false}";
+    let shown = [
+        "1: object: o0 (0 answers, 0 calls)",
+        "2: string \"visits\": s0",
+        &format!("3: {define}: true (0 answers, 3 calls)"),
+        "4 to 5: defineProperty o0 \"visits\" {value: 4464}: false, failed test: value (0 answers, 3 calls)",
+        "6: defineProperty o0 \"visits\" {writable: true}: false, failed test: writable (0 answers, 3 calls)",
+        "7: proxy o0 traps getOwnPropertyDescriptor, defineProperty: o1 (0 answers, 0 calls)",
+        "8: defineProperty o1 \"visits\" {value: 4464}, handler answers true: \
+         TypeError 14, Proxy trap set property to unexpected value, failed test: value (1 answer, 3 calls)",
+        "9: defineProperty o1 \"visits\" {value: 4464}, handler answers false: false (1 answer, 1 call)",
+        "10: getOwnPropertyDescriptor o1 \"visits\", handler answers {value: 70000}: \
+         TypeError 10, Proxy trap returned unexpected property, failed test: enumerable (1 answer, 3 calls)",
+        "11: proxy o1: o2 (0 answers, 0 calls)",
+        "12: getOwnPropertyDescriptor o2 \"visits\", handler answers {value: 4464, enumerable: true}: \
+         TypeError 10, Proxy trap returned unexpected property, failed test: value (1 answer, 4 calls)",
+        "13: preventExtensions o2: true (0 answers, 3 calls)",
+        "14: defineProperty o0 y3 {}: false, failed test: extensible (0 answers, 3 calls)",
+        "15: set o0 \"visits\" 4464: false (0 answers, 2 calls)",
+    ];
+    let file = Steps::new("failed", REJECTIONS);
+    let ran = file.rows(&rows);
+    assert_eq!(text_of(ran.stderr), "");
+    assert_eq!(text_of(ran.stdout).lines().collect::<Vec<_>>(), shown);
+
+    // from a row on that is not what the step reports here no test is told
+    let (row, other) = ("6 1 0 0 3 020000000000000000", "6 1 0 0 4 020000000000000000");
+    assert!(rows.contains(row));
+    let ran = file.rows(&rows.replace(row, other));
+    let told = text_of(ran.stdout);
+    assert_eq!(told.lines().filter(|l| l.contains("failed test")).collect::<Vec<_>>(), [shown[3]]);
+    assert!(told.contains("6: defineProperty o0 \"visits\" {writable: true}: false (0 answers, 4 calls)\n"));
+    // an entry's too
+    let ran = file.rows(&rows.replace("2 1 0 0 0 050000000000000000", "2 1 0 0 0 050100000000000000"));
+    assert!(ran.status.success() && !text_of(ran.stdout).contains("failed test"));
+}
+
+/// A line of its own after the report.
+#[test]
+fn failed_tests_are_printed() {
+    let ran = steps(&["-"], REJECTIONS);
+    assert!(ran.status.success());
+    let told = text_of(ran.stdout);
+    let lines: Vec<&str> = told.lines().collect();
+    let failed = |i: &usize| lines[*i].starts_with("   failed test: ");
+    let found: Vec<_> = (0..lines.len()).filter(failed).map(|i| (lines[i - 1].split([':', '(']).next().unwrap().trim(), lines[i].trim())).collect();
+    let expected = [
+        ("false", "failed test: value"),
+        ("false", "failed test: value"),
+        ("false", "failed test: writable"),
+        ("TypeError 14", "failed test: value"),
+        ("TypeError 10", "failed test: enumerable"),
+        ("TypeError 10", "failed test: value"),
+        ("false", "failed test: extensible"),
+    ];
+    assert_eq!(found, expected);
+}
+
 #[test]
 fn rows_that_do_not_belong_to_the_calls_are_errors() {
     let file = Steps::new("errors", "object\nownKeys o0\ngetOwnPropertyDescriptor o0 y1\n");

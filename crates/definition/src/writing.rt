@@ -57,7 +57,7 @@ pub fn apply_validation(
     ensures { λ r. ⌜ Fitting (now (words .entry)) r ⌝ }
 {
     match validation {
-        Validation::Rejected => WriteOut::Done(false, Write::Nothing, s),
+        Validation::Rejected(_) => WriteOut::Done(false, Write::Nothing, s),
         Validation::Unchanged => WriteOut::Done(true, Write::Nothing, s),
         Validation::Becomes(p) => write_property(words, allowance, o, key, p, s),
     }

@@ -56,7 +56,7 @@ use Rattle.steps.proofs.Sequences.{Led, Leads, leads-pure, leads-fails, leads-r
 -- What the two descriptors make of a property ---------------------------------------------------
 
 sealed-becomes : (q : Property) → validate false sealedDescriptor (Present q) ≡ Becomes (applied sealedDescriptor q)
-unfolding validate Rattle.property.specs.Descriptor.isGenericDescriptor Rattle.property.specs.Descriptor.isAccessorDescriptor Rattle.property.specs.Descriptor.isDataDescriptor
+unfolding validate Rattle.property.specs.Validate.rejectIf Rattle.property.specs.Descriptor.isGenericDescriptor Rattle.property.specs.Descriptor.isAccessorDescriptor Rattle.property.specs.Descriptor.isDataDescriptor
 sealed-becomes (Data v true e true) = refl
 sealed-becomes (Data v true e false) = refl
 sealed-becomes (Data v false e true) = refl
@@ -65,7 +65,7 @@ sealed-becomes (Accessor g s e true) = refl
 sealed-becomes (Accessor g s e false) = refl
 
 frozen-becomes : (q : Property) → validate false (frozenDescriptor q) (Present q) ≡ Becomes (applied (frozenDescriptor q) q)
-unfolding validate Rattle.property.specs.Descriptor.isGenericDescriptor Rattle.property.specs.Descriptor.isAccessorDescriptor Rattle.property.specs.Descriptor.isDataDescriptor
+unfolding validate Rattle.property.specs.Validate.rejectIf Rattle.property.specs.Descriptor.isGenericDescriptor Rattle.property.specs.Descriptor.isAccessorDescriptor Rattle.property.specs.Descriptor.isDataDescriptor
 frozen-becomes (Data v true e true) = refl
 frozen-becomes (Data v true e false) = refl
 frozen-becomes (Data v false e true) = refl
@@ -111,8 +111,8 @@ module _ (c : Context) (o : ℕ) (k : PropertyKey) (d : PropertyDescriptor) (bec
     after : w .1 ≡ withProperty (c .store) o k (applied d before)
 
   apply-ordinary : (t : OwnProperty) → t ≡ own (c .store) o k → (v : Validation) → validate false d t ≡ v → Ensures (applyValidation c o k t v) (λ w. w .0 ≡ true → Redefined w)
-  unfolding applyValidation validate
-  apply-ordinary t f Rejected h = ensures-pure _ (λ e. absurd (false≢true e))
+  unfolding applyValidation validate Rattle.property.specs.Validate.rejectIf
+  apply-ordinary t f (Rejected n) h = ensures-pure _ (λ e. absurd (false≢true e))
   apply-ordinary Absent f Unchanged h = absurd (false≢true cc)
   apply-ordinary (Present q) f Unchanged h = let z : Unchanged ≡ Becomes (applied d q) = sym h ∙ becomes q (sym f) in absurd (false≢true cc)
   apply-ordinary Absent f (Becomes p) h = absurd (false≢true cc)

@@ -14,7 +14,7 @@ ghost use Rattle.store_write.specs.Write as store_writes;
 ghost use Rattle.text.specs.Answers as table_answers;
 ghost use Rattle.reporting.specs.ReportWords.{reportWords};
 ghost use Rattle.reporting.specs.Memory.{StepExported, StringExported};
-ghost use Rattle.descriptor_entries.specs.Entries.{completeOver, validateOver, mergeOver, verdictReport, isAccepted};
+ghost use Rattle.descriptor_entries.specs.Entries.{completeOver, validateOver, mergeOver, verdictReport, isAccepted, failedTest};
 ghost use Rattle.internal_methods.specs.Messages.{messageText};
 ghost use Rattle.message.specs.Written.{written};
 ghost use Rattle.text_reader.specs.Memory.{Started, Fed, Ended, progressOf};
@@ -55,7 +55,7 @@ pub extern "C" fn demnyaluz_complete(
     *report = report_words::report_words(descriptor_entries::complete(words, strings, bytes));
 }
 
-// A descriptor is validated by itself over a current one, or none: yes or no, and a report of the property after it.
+// A descriptor is validated by itself over a current one, or none: yes or no, the first test that fails, and a report of the property after it.
 #[no_mangle]
 pub extern "C" fn demnyaluz_validate(
     words: &[u64],
@@ -64,12 +64,15 @@ pub extern "C" fn demnyaluz_validate(
     bytes: &[u8],
     current: &[u8],
     report: &mut [u64; 10],
+    test: &mut u64,
 ) -> bool
     ensures accepted { λ r. ⌜ r ≡ isAccepted (validateOver (now (words .entry)) (now (strings .entry)) extensible (now (bytes .entry)) (now (current .entry))) ⌝ }
+    ensures tested { λ _. ⌜ now (test .exit) ≡ failedTest (validateOver (now (words .entry)) (now (strings .entry)) extensible (now (bytes .entry)) (now (current .entry))) ⌝ }
     ensures reported { λ _. ⌜ now (report .exit) ≡ reportWords (verdictReport (validateOver (now (words .entry)) (now (strings .entry)) extensible (now (bytes .entry)) (now (current .entry)))) ⌝ }
 {
     let verdict = descriptor_entries::validate(words, strings, extensible, bytes, current);
     *report = report_words::report_words(descriptor_entries::verdict_report(verdict));
+    *test = descriptor_entries::failed_test(verdict);
     descriptor_entries::is_accepted(verdict)
 }
 

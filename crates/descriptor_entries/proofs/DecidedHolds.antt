@@ -1,5 +1,6 @@
 -- Demand 1 of completing, validating and merging by themselves holds of all records. Assumes nothing.
-use Prim.Native.Nat.{ℕ}
+use Prim.Native.Nat.{ℕ, _<_}
+use native.Mathlib.Omega.{arith}
 use mathlib.Core.Path.{_≡_, refl, sym, ap, _∙_, subst}
 use mathlib.Core.Logic.{_↔_}
 use mathlib.Core.Bool.{Bool, true, false, not, _&&_, _||_, false≢true}
@@ -14,18 +15,23 @@ use Rattle.property.specs.declared.DescriptorKind.{DescriptorKind}
 use Rattle.property.specs.declared.DescriptorKind.the-variants as kind
 use Rattle.property.specs.declared.Property.{Property}
 use Rattle.property.specs.declared.Property.the-variants.{Data, Accessor}
-use Rattle.property.specs.declared.OwnProperty.the-variants.{Present}
+use Rattle.property.specs.declared.OwnProperty.{OwnProperty}
+use Rattle.property.specs.declared.OwnProperty.the-variants.{Absent, Present}
 use Rattle.property.specs.Fields.{has, hasFlag, valueField, writableField, getField, setField}
 use Rattle.property.specs.Descriptor.{isAccessorDescriptor, isDataDescriptor}
-use Rattle.property.specs.Validate.{populated, propertyOf, unmergeable}
+use Rattle.property.specs.Validate.{validate, populated, propertyOf, unmergeable}
+use Rattle.property.specs.Answers.{ownProperty}
+use Rattle.property.specs.FirstTest.{FirstFails}
+use Rattle.property.proofs.FirstTestHolds.{tests-decided}
 use Rattle.record.specs.declared.Counts.{Counts}
 use Rattle.descriptor_entries.specs.declared.operations.DescriptorAnswer.{DescriptorAnswer}
 use Rattle.descriptor_entries.specs.declared.operations.DescriptorAnswer.the-variants as answer
 use Rattle.descriptor_entries.specs.declared.operations.Verdict.{Verdict}
 use Rattle.descriptor_entries.specs.declared.operations.Verdict.the-variants as verdict
 use Rattle.descriptor_entries.specs.Records.{descriptorOf, oneRefusal, twoRefusal}
-use Rattle.descriptor_entries.specs.Operations.{completed, completeRecord, validated, validatedOver, validatedAbsent, validateRecords, mergedWith, mergedOver, merged, mergeRecords}
-use Rattle.descriptor_entries.specs.Decided.{lacksIn, lacks, areOfTwoKinds, CompleteRefusal, ValidateRefusal, MergeRefusal, DescriptorsDecided}
+use Rattle.descriptor_entries.specs.Operations.{completed, completeRecord, judged, validated, validatedOver, validatedAbsent, validateRecords, mergedWith, mergedOver, merged, mergeRecords}
+use Rattle.descriptor_entries.specs.Entries.{failedTest}
+use Rattle.descriptor_entries.specs.Decided.{lacksIn, lacks, areOfTwoKinds, currentOf, CompleteRefusal, ValidateRefusal, MergeRefusal, DescriptorsDecided}
 
 -- What a current descriptor is, and what it lacks ---------------------------------------------
 
@@ -107,6 +113,42 @@ module _ (n : Counts) (bytes : List ℕ) where
       back j (ValidateRefusal.inadmissible q e) = rw e
       back _ (ValidateRefusal.lacking q e h) = rw e (lacked (whole-of (descriptorOf (b ∷ rest))) h)
 
+  -- validating is refused, or judges the current property
+  data Validates (extensible : Bool) (current : List ℕ) : Type 0 where
+    refused : (j : ℕ) → validateRecords n extensible bytes current ≡ verdict.Refused j → Validates extensible current
+    judges : validateRecords n extensible bytes current ≡ judged (currentOf current) (validate extensible (descriptorOf bytes) (currentOf current)) → Validates extensible current
+
+  judges-or-not : (extensible : Bool) (current : List ℕ) → Validates extensible current
+  unfolding validateRecords
+  judges-or-not extensible [] = go (oneRefusal n bytes) refl
+    where
+      go : (x : Option ℕ) → oneRefusal n bytes ≡ x → Validates extensible []
+      go (some j) e = Validates.refused j (ap (validatedAbsent extensible (descriptorOf bytes)) e)
+      go none e = Validates.judges (ap (validatedAbsent extensible (descriptorOf bytes)) e)
+  judges-or-not extensible (b ∷ rest) = go (twoRefusal n bytes (b ∷ rest)) refl
+    where
+      over : (o : Option Property) → propertyOf (descriptorOf (b ∷ rest)) ≡ o → twoRefusal n bytes (b ∷ rest) ≡ none → Validates extensible (b ∷ rest)
+      over none f e = Validates.refused 5 (rw (e, f))
+      over (some p) f e = Validates.judges (rw (e, f))
+
+      go : (x : Option ℕ) → twoRefusal n bytes (b ∷ rest) ≡ x → Validates extensible (b ∷ rest)
+      go (some j) e = Validates.refused j (ap (validated extensible (descriptorOf bytes) (propertyOf (descriptorOf (b ∷ rest)))) e)
+      go none e = over (propertyOf (descriptorOf (b ∷ rest))) refl e
+
+  refused-or-judged : {j : ℕ} {a : Bool} {m : ℕ} {o : OwnProperty} → verdict.Refused j ≡ verdict.Verdict a m o → ⊥
+  refused-or-judged e = false≢true cc
+
+  tests : (extensible : Bool) (current : List ℕ) (i : ℕ) → 0 < i
+      → (failedTest (validateRecords n extensible bytes current) ≡ i) ↔ (((j : ℕ) → ValidateRefusal n bytes current j → ⊥) × FirstFails extensible (descriptorOf bytes) (currentOf current) i)
+  tests extensible current i l = go (judges-or-not extensible current)
+    where
+      go : Validates extensible current → (failedTest (validateRecords n extensible bytes current) ≡ i) ↔ (((j : ℕ) → ValidateRefusal n bytes current j → ⊥) × FirstFails extensible (descriptorOf bytes) (currentOf current) i)
+      go (Validates.refused j e) =
+          (λ h. let z : 0 ≡ i = sym (ap failedTest e) ∙ h in absurd (omega arith), λ f. absurd (f .0 j (validates extensible current j .0 e)))
+      go (Validates.judges e) =
+          let decided = tests-decided extensible (descriptorOf bytes) (currentOf current) in
+          (λ h. ((λ j r. refused-or-judged (sym (validates extensible current j .1 r) ∙ e), decided .first i l .0 (sym (ap failedTest e) ∙ h))), λ f. ap failedTest e ∙ decided .first i l .1 (f .1))
+
   merges : (current : List ℕ) (i : ℕ) → (mergeRecords n current bytes ≡ answer.Refused i) ↔ MergeRefusal n current bytes i
   unfolding mergeRecords
   merges current i = (λ h. go (twoRefusal n current bytes) refl h, back i)
@@ -138,4 +180,4 @@ module _ (n : Counts) (bytes : List ℕ) where
       back _ (MergeRefusal.mixed e l k) = rw e (two-kinds (whole-of (descriptorOf current)) l k)
 
 pub descriptors-decided : (n : Counts) (extensible : Bool) (bytes current : List ℕ) → DescriptorsDecided n extensible bytes current
-descriptors-decided n extensible bytes current = record { completes = completes n bytes; validates = validates n bytes extensible current; merges = merges n bytes current }
+descriptors-decided n extensible bytes current = record { completes = completes n bytes; validates = validates n bytes extensible current; tests = tests n bytes extensible current; merges = merges n bytes current }

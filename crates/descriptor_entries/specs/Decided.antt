@@ -1,5 +1,6 @@
--- Demand 1 of completing, validating and merging by themselves: which records are refused, with which number, and why. Assumes nothing.
-use Prim.Native.Nat.{ℕ}
+-- Demand 1 of completing, validating and merging by themselves: which records are refused, with which number, and why; and which test of
+-- validation is told. Assumes nothing.
+use Prim.Native.Nat.{ℕ, _<_}
 use mathlib.Core.Path.{_≡_}
 use mathlib.Core.Logic.{_↔_}
 use mathlib.Core.Bool.{Bool, true, false, not, _&&_, _||_}
@@ -8,13 +9,19 @@ use mathlib.Core.List.{List, [], _∷_}
 use Rattle.property.specs.declared.PropertyDescriptor.{PropertyDescriptor}
 use Rattle.property.specs.declared.DescriptorKind.{DescriptorKind}
 use Rattle.property.specs.declared.DescriptorKind.the-variants.{Generic, Data, Accessor}
+use Rattle.property.specs.declared.OwnProperty.{OwnProperty}
+use Rattle.property.specs.declared.OwnProperty.the-variants.{Absent}
 use Rattle.property.specs.Fields.{has, hasFlag}
 use Rattle.property.specs.Descriptor.{isAccessorDescriptor, isDataDescriptor}
+use Rattle.property.specs.Validate.{propertyOf}
+use Rattle.property.specs.Answers.{ownProperty}
+use Rattle.property.specs.FirstTest.{FirstFails}
 use Rattle.record.specs.declared.Counts.{Counts}
 use Rattle.descriptor_entries.specs.declared.operations.DescriptorAnswer.the-variants as answer
 use Rattle.descriptor_entries.specs.declared.operations.Verdict.the-variants as verdict
 use Rattle.descriptor_entries.specs.Records.{descriptorOf, oneRefusal, twoRefusal}
 use Rattle.descriptor_entries.specs.Operations.{completeRecord, validateRecords, mergeRecords}
+use Rattle.descriptor_entries.specs.Entries.{failedTest}
 
 -- 5: it has neither all fields of a data property nor all of an accessor
 abbrev pub lacksIn : DescriptorKind → Bool
@@ -44,8 +51,14 @@ pub data MergeRefusal (n : Counts) (current bytes : List ℕ) : ℕ → Type 0 w
   lacking : twoRefusal n current bytes ≡ none → lacks (descriptorOf current) ≡ true → MergeRefusal n current bytes 5
   mixed : twoRefusal n current bytes ≡ none → lacks (descriptorOf current) ≡ false → areOfTwoKinds (descriptorOf current) (descriptorOf bytes) ≡ true → MergeRefusal n current bytes 6
 
--- the refusal is i exactly if the condition numbered i holds
+-- the property that is validated over; no current record stands for an absent one
+abbrev pub currentOf : List ℕ → OwnProperty
+currentOf [] = Absent
+currentOf (b ∷ rest) = ownProperty (propertyOf (descriptorOf (b ∷ rest)))
+
+-- the refusal is i exactly if the condition numbered i holds; the test that is told is i exactly if nothing is refused and test i is the first that fails
 pub record DescriptorsDecided (n : Counts) (extensible : Bool) (bytes current : List ℕ) : Type 0 where
   pub completes : (i : ℕ) → (completeRecord n bytes ≡ answer.Refused i) ↔ CompleteRefusal n bytes i
   pub validates : (i : ℕ) → (validateRecords n extensible bytes current ≡ verdict.Refused i) ↔ ValidateRefusal n bytes current i
+  pub tests : (i : ℕ) → 0 < i → (failedTest (validateRecords n extensible bytes current) ≡ i) ↔ (((j : ℕ) → ValidateRefusal n bytes current j → ⊥) × FirstFails extensible (descriptorOf bytes) (currentOf current) i)
   pub merges : (i : ℕ) → (mergeRecords n current bytes ≡ answer.Refused i) ↔ MergeRefusal n current bytes i

@@ -38,11 +38,16 @@ afterReport (Present p) = resultReport (result.descriptor p)
 -- the property after a verdict
 abbrev pub verdictReport : Verdict → Report
 verdictReport (verdict.Refused n) = reportOf (refusal n)
-verdictReport (verdict.Verdict accepted after) = afterReport after
+verdictReport (verdict.Verdict accepted test after) = afterReport after
 
 abbrev pub isAccepted : Verdict → Bool
 isAccepted (verdict.Refused n) = false
-isAccepted (verdict.Verdict accepted after) = accepted
+isAccepted (verdict.Verdict accepted test after) = accepted
+
+-- the first test of 10.1.6.3 that fails; 0 where it is accepted or refused
+abbrev pub failedTest : Verdict → ℕ
+failedTest (verdict.Refused n) = 0
+failedTest (verdict.Verdict accepted test after) = test
 
 abbrev pub completedIn : List ℕ → Held → Report
 completedIn bytes (Counts n) = answerReport (completeRecord n bytes)

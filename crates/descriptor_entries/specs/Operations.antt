@@ -9,7 +9,7 @@ use Rattle.property.specs.declared.OwnProperty.{OwnProperty}
 use Rattle.property.specs.declared.OwnProperty.the-variants.{Absent, Present}
 use Rattle.property.specs.declared.Validation.{Validation}
 use Rattle.property.specs.Descriptor.{complete}
-use Rattle.property.specs.Validate.{validate, isAccepted, settled, propertyOf, applied, unmergeable}
+use Rattle.property.specs.Validate.{validate, isAccepted, failedTest, settled, propertyOf, applied, unmergeable}
 use Rattle.record.specs.declared.Counts.{Counts}
 use Rattle.descriptor_entries.specs.declared.operations.DescriptorAnswer.{DescriptorAnswer}
 use Rattle.descriptor_entries.specs.declared.operations.DescriptorAnswer.the-variants as answer
@@ -25,9 +25,9 @@ completed d none = answer.Property (complete d)
 unfoldable pub completeRecord : Counts → List ℕ → DescriptorAnswer
 completeRecord n bytes = completed (descriptorOf bytes) (oneRefusal n bytes)
 
--- yes or no, and the property after it
+-- yes or no, the first test that fails, and the property after it
 abbrev pub judged : OwnProperty → Validation → Verdict
-judged current v = verdict.Verdict (isAccepted v) (settled current v)
+judged current v = verdict.Verdict (isAccepted v) (failedTest v) (settled current v)
 
 -- refusal 5: the current descriptor has not all fields of a data or of an accessor property
 abbrev pub validatedOver : Bool → PropertyDescriptor → Option Property → Verdict

@@ -8,7 +8,7 @@ use steps::Completion;
 use steps::Outcome;
 use steps::Report;
 ghost use mathlib.Core.Path.{_≡_};
-ghost use Rattle.descriptor_entries.specs.Entries.{countsIn, answerReport, afterReport, verdictReport, isAccepted, completeOver, validateOver, mergeOver};
+ghost use Rattle.descriptor_entries.specs.Entries.{countsIn, answerReport, afterReport, verdictReport, isAccepted, failedTest, completeOver, validateOver, mergeOver};
 
 pub mod operations;
 mod records;
@@ -64,7 +64,7 @@ pub fn verdict_report(verdict: Verdict) -> Report
 {
     match verdict {
         Verdict::Refused(n) => reporting::refused(n),
-        Verdict::Verdict(_, after) => after_report(after),
+        Verdict::Verdict(_, _, after) => after_report(after),
     }
 }
 
@@ -74,7 +74,17 @@ pub fn is_accepted(verdict: Verdict) -> bool
 {
     match verdict {
         Verdict::Refused(_) => false,
-        Verdict::Verdict(accepted, _) => accepted,
+        Verdict::Verdict(accepted, _, _) => accepted,
+    }
+}
+
+// The first test that fails; 0 where there is none, and for a refusal.
+pub fn failed_test(verdict: Verdict) -> u64
+    ensures { λ r. ⌜ r ≡ failedTest verdict ⌝ }
+{
+    match verdict {
+        Verdict::Refused(_) => 0,
+        Verdict::Verdict(_, test, _) => test,
     }
 }
 

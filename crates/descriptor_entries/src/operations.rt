@@ -24,10 +24,10 @@ pub enum DescriptorAnswer {
     Property(Property),
 }
 
-// A refusal by its number, or yes or no and the property after it.
+// A refusal by its number, or yes or no, the first test that fails and the property after it.
 pub enum Verdict {
     Refused(u64),
-    Verdict(bool, OwnProperty),
+    Verdict(bool, u64, OwnProperty),
 }
 
 fn complete_read(n: Counts, d: DescriptorObject) -> DescriptorAnswer
@@ -56,14 +56,15 @@ pub fn complete_record(n: Counts, bytes: &[u8]) -> DescriptorAnswer
     }
 }
 
-// Yes or no, and the property after it.
+// Yes or no, the first test that fails, and the property after it.
 fn judge(extensible: bool, d: PropertyDescriptor, current: OwnProperty) -> Verdict
     ensures { λ r. ⌜ r ≡ judged current (validate extensible d current) ⌝ }
 {
     let v = validation::validate(extensible, d, current);
     let accepted = outcome::is_accepted(v);
+    let test = outcome::failed_test(v);
     let after = outcome::settled(current, v);
-    Verdict::Verdict(accepted, after)
+    Verdict::Verdict(accepted, test, after)
 }
 
 fn validate_absent(n: Counts, extensible: bool, d: DescriptorObject) -> Verdict

@@ -201,7 +201,7 @@ steady-room c n false e w k = steady-pure w k
 pub applyValidation-steady : (c : Context) (n : ℕ) → Closed (c .store) → (o : ℕ) (k : PropertyKey) (current : OwnProperty) (v : Validation)
     → Steady c n (applyValidation c o k current v) (applyValidation c o k current v) (KeptBy c)
 unfolding applyValidation
-applyValidation-steady c n closed o k current Rejected = steady-pure _ (kept-same (c .store) closed)
+applyValidation-steady c n closed o k current (Rejected t) = steady-pure _ (kept-same (c .store) closed)
 applyValidation-steady c n closed o k current Unchanged = steady-pure _ (kept-same (c .store) closed)
 applyValidation-steady c n closed o k Absent (Becomes p) = steady-room c n (isFull c) refl _ (kept-with (c .store) o k p closed)
 applyValidation-steady c n closed o k (Present q) (Becomes p) = steady-pure _ (kept-with (c .store) o k p closed)

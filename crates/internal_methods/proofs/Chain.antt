@@ -345,7 +345,7 @@ module _ (c : Context) (h : Ends (c .store)) where
 
   applyValidation-ends : (o : ℕ) (k : PropertyKey) (current : OwnProperty) (v : Validation) → Ensures (applyValidation c o k current v) EndsIn
   unfolding applyValidation
-  applyValidation-ends o k current Rejected = ensures-pure _ h
+  applyValidation-ends o k current (Rejected t) = ensures-pure _ h
   applyValidation-ends o k current Unchanged = ensures-pure _ h
   applyValidation-ends o k Absent (Becomes p) = ensures-if _ (λ _. ensures-fails _) (λ _. ensures-pure _ (ends-with (c .store) o k p h))
   applyValidation-ends o k (Present q) (Becomes p) = ensures-pure _ (ends-with (c .store) o k p h)

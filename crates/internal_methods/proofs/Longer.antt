@@ -173,7 +173,7 @@ askKeys-longer = askKeys-by longer-asking
 
 pub applyValidation-longer : (c : Context) (o : ℕ) (k : PropertyKey) (current : OwnProperty) (v : Validation) → Longer (applyValidation c o k current v)
 unfolding applyValidation
-applyValidation-longer c o k current Rejected = longer-pure _
+applyValidation-longer c o k current (Rejected t) = longer-pure _
 applyValidation-longer c o k current Unchanged = longer-pure _
 applyValidation-longer c o k Absent (Becomes p) = longer-if _ (longer-fails _) (longer-pure _)
 applyValidation-longer c o k (Present q) (Becomes p) = longer-pure _

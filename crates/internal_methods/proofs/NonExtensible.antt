@@ -73,7 +73,7 @@ preventExtensions-fits (suc n) c o = same-dispatch (c .store) o
 module _ (c : Context) (o : ℕ) (k : PropertyKey) (d : PropertyDescriptor) where
   apply-fits : (x : Bool) → x ≡ false → (current : OwnProperty) → current ≡ own (c .store) o k → (v : Validation) → validate x d current ≡ v → Fitting (Within c) (applyValidation c o k current v)
   unfolding applyValidation
-  apply-fits x e current f Rejected h = same-pure _ (le-refl _)
+  apply-fits x e current f (Rejected t) h = same-pure _ (le-refl _)
   apply-fits x e current f Unchanged h = same-pure _ (le-refl _)
   apply-fits x e Absent f (Becomes p) h = absurd (validate-adds x d Absent p h e refl)
   apply-fits x e (Present q) f (Becomes p) h = same-pure _ (keeps (c .store) o k p q (sym f))

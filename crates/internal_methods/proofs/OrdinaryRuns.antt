@@ -102,7 +102,7 @@ module _ (c : Context) (o : ℕ) (r : OrdinaryObject) (found : lookup (c .store)
     defineOwnProperty-completes room d = begins _ _ (suc (suc m)) (completes-bind _ _ (own-run n (suc m) k _ refl) (completes-bind _ _ (extensible-run n m) (go (own (c .store) o k) (validate (r .extensible) d (own (c .store) o k)))))
       where
         go : (current : OwnProperty) (v : Validation) → Completes (applyValidation c o k current v) (state a m)
-        go current Rejected = completes-pure _ _
+        go current (Rejected t) = completes-pure _ _
         go current Unchanged = completes-pure _ _
         go Absent (Becomes p) = rw room (completes-pure _ _)
         go (Present q) (Becomes p) = completes-pure _ _

@@ -194,7 +194,7 @@ askKeys-reader = record { ended = λ s. keys-ended (s .calls) (s .answers) }
 
 pub applyValidation-reader : (c : Context) (o : ℕ) (k : PropertyKey) (current : OwnProperty) (v : Validation) → Reader (applyValidation c o k current v)
 unfolding applyValidation
-applyValidation-reader c o k current Rejected = reader-pure _
+applyValidation-reader c o k current (Rejected t) = reader-pure _
 applyValidation-reader c o k current Unchanged = reader-pure _
 applyValidation-reader c o k Absent (Becomes p) = reader-if _ (reader-fails _ refl) (reader-pure _)
 applyValidation-reader c o k (Present q) (Becomes p) = reader-pure _

@@ -241,7 +241,7 @@ module _ {n l : ℕ} {A : Type 0} where
 
 pub applyValidation-richer : {n l : ℕ} (c : Context) (o : ℕ) (k : PropertyKey) (current : OwnProperty) (v : Validation) → Richer n l (applyValidation c o k current v) (applyValidation c o k current v)
 unfolding applyValidation
-applyValidation-richer c o k current Rejected = richer-pure _
+applyValidation-richer c o k current (Rejected t) = richer-pure _
 applyValidation-richer c o k current Unchanged = richer-pure _
 applyValidation-richer c o k Absent (Becomes p) = richer-if _ (richer-fails _ refl) (richer-pure _)
 applyValidation-richer c o k (Present q) (Becomes p) = richer-pure _

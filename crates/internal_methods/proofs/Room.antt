@@ -208,7 +208,7 @@ room-if c false n τ e = record { rooms = λ s. done (λ f. absurd (false≢true
 pub applyValidation-roomy : (c : Context) (o : ℕ) (r : OrdinaryObject) → lookup (c .store) o ≡ some (Ordinary r) → (k : PropertyKey) (current : OwnProperty) → OwnIn c o k current → (v : Validation)
     → Roomy c (applyValidation c o k current v) (applyValidation (allowing c (oneMore c)) o k current v)
 unfolding applyValidation if_then_else_
-applyValidation-roomy c o r e k current h Rejected = roomy-kept _ (le-refl _)
+applyValidation-roomy c o r e k current h (Rejected t) = roomy-kept _ (le-refl _)
 applyValidation-roomy c o r e k current h Unchanged = roomy-kept _ (le-refl _)
 applyValidation-roomy c o r e k Absent h (Becomes p) = rw (has-room c) (room-if c (isFull c) refl (withProperty (c .store) o k p) (grows (c .store) o k p (sym (h r e))))
 applyValidation-roomy c o r e k (Present q) h (Becomes p) = roomy-kept _ (keeps (c .store) o k p q (sym (h r e)))

@@ -95,7 +95,7 @@ module _ (c : Context) (o : ℕ) (r : OrdinaryObject) (k : PropertyKey) (d : Pro
   apply-report : (v : Validation) → validate (r .extensible) d (own (c .store) o k) ≡ v → (t : OwnProperty)
       → Ensures (applyValidation c o k t v) (Changed (c .store) (Defined (c .store) o k d))
   unfolding applyValidation isCompatible
-  apply-report Rejected h t = ensures-pure _ false-idle
+  apply-report (Rejected n) h t = ensures-pure _ false-idle
   apply-report Unchanged h t = ensures-pure _ (true-idle (record {
     there = λ u. let b = at-base (here e) u in validate-refuses (r .extensible) d (own (c .store) o k) (rw h) (b .0) (b .1);
     froze = λ w a. record { number = o; object = r; base = here e; holds = validate-unchanged (r .extensible) d _ w h a };

@@ -80,7 +80,7 @@ isFull c = not (ltb (length (c .store .properties)) (c .allowance))
 
 -- the write of 10.1.6.3 steps 2.c, 2.d and 6
 unfoldable pub applyValidation : Context → ℕ → PropertyKey → OwnProperty → Validation → M Written
-applyValidation c o k current Rejected = pure (false, c .store)
+applyValidation c o k current (Rejected t) = pure (false, c .store)
 applyValidation c o k current Unchanged = pure (true, c .store)
 applyValidation c o k Absent (Becomes p) = if isFull c then fails (Refused 7) else pure (true, withProperty (c .store) o k p)
 applyValidation c o k (Present q) (Becomes p) = pure (true, withProperty (c .store) o k p)

@@ -1,1 +1,3 @@
 pub mod ValidateLaws
+pub mod FirstTestHolds
+pub mod UnnumberedLaws

@@ -16,11 +16,13 @@ use Rattle.property.specs.declared.Property.{Property}
 use Rattle.property.specs.declared.Property.the-variants.{Data, Accessor}
 use Rattle.property.specs.declared.OwnProperty.{OwnProperty}
 use Rattle.property.specs.declared.OwnProperty.the-variants.{Absent, Present}
+use Rattle.property.specs.declared.ValidationTest.{ValidationTest}
+use Rattle.property.specs.declared.ValidationTest.the-variants as test
 use Rattle.property.specs.declared.Validation.{Validation}
 use Rattle.property.specs.declared.Validation.the-variants.{Rejected, Unchanged, Becomes}
 use Rattle.property.specs.Fields.{has, isTrue, isFalse, unlike, unlikeFlag, orElse, orElseFlag, valueField, writableField, getField, setField, enumerable, configurable, isAccessor}
 use Rattle.property.specs.Descriptor.{isAccessorDescriptor, isDataDescriptor, isGenericDescriptor, complete}
-use Rattle.property.specs.Validate.{hasNoFields, applied, validateKind, validateFixed, validate, isAccepted, isCompatible}
+use Rattle.property.specs.Validate.{hasNoFields, isOtherKind, applied, rejectIf, validateKind, validateFixed, validate, isAccepted, isCompatible}
 
 -- a data property that is neither writable nor configurable, with this value
 abbrev pub frozenAs : Value → OwnProperty → Bool
@@ -69,13 +71,14 @@ some-fields d w a = rw (no-accessor d w a, is-data d w a)
 -- step 5 was passed with the answer r
 record Passed (d : PropertyDescriptor) (current : Property) (next r : Validation) : Type 0 where
   five-a : isTrue (d .configurable) ≡ false
-  five-c : (not (isGenericDescriptor d) && not (Bool·beq (isAccessorDescriptor d) (isAccessor current))) ≡ false
+  five-c : isOtherKind d current ≡ false
   five-de : validateKind d current next ≡ r
 
 -- an answer other than false comes from where the test fails
-past : (b : Bool) (z r : Validation) → isAccepted r ≡ true → cond b Rejected z ≡ r → (b ≡ false) × (z ≡ r)
-past true z r a h = absurd (false≢true (ap isAccepted h ∙ a))
-past false z r a h = (refl, h)
+past : (t : ValidationTest) (b : Bool) (z r : Validation) → isAccepted r ≡ true → rejectIf t b z ≡ r → (b ≡ false) × (z ≡ r)
+unfolding rejectIf
+past t true z r a h = absurd (false≢true (ap isAccepted h ∙ a))
+past t false z r a h = (refl, h)
 
 otherwise : (b : Bool) (y z r : Validation) → b ≡ false → cond b y z ≡ r → z ≡ r
 otherwise true y z r a h = absurd (true≢false a)
@@ -83,9 +86,9 @@ otherwise false y z r a h = h
 
 passed : (d : PropertyDescriptor) (current : Property) (next r : Validation) → isAccepted r ≡ true → validateFixed d current next ≡ r → Passed d current next r
 passed d current next r a h =
-    let (p, h1) = past (isTrue (d .configurable)) _ r a h in
-    let (q, h2) = past (unlikeFlag (d .enumerable) (enumerable current)) _ r a h1 in
-    let (s, h3) = past (not (isGenericDescriptor d) && not (Bool·beq (isAccessorDescriptor d) (isAccessor current))) _ r a h2 in
+    let (p, h1) = past test.Configurable (isTrue (d .configurable)) _ r a h in
+    let (q, h2) = past test.Enumerable (unlikeFlag (d .enumerable) (enumerable current)) _ r a h1 in
+    let (s, h3) = past test.Kind (isOtherKind d current) _ r a h2 in
     record { five-a = p; five-c = s; five-de = h3 }
 
 one-kind : (a b : Bool) → (not (not a && not b) && not (Bool·beq a false)) ≡ false → a ≡ false
@@ -104,12 +107,8 @@ record Fixed (d : PropertyDescriptor) (v : Value) : Type 0 where
 
 fixed-kind : (d : PropertyDescriptor) (v : Value) (e c : Bool) (next r : Validation) → isAccepted r ≡ true → validateKind d (Data v false e c) next ≡ r → Fixed d v
 fixed-kind d v e c next r a h =
-    let (p, h1) = past (isTrue (writableField (d .kind))) _ r a h in
-    record { not-writable = p; alike = go (valueField (d .kind)) h1 }
-  where
-    go : (f : Field) → cond (has f) (cond (unlike f v) Rejected Unchanged) next ≡ r → unlike f v ≡ false
-    go field.Absent h = refl
-    go (field.Present w) h = past (not (sameValue w v)) Unchanged r a h .0
+    let (p, h1) = past test.Writable (isTrue (writableField (d .kind))) _ r a h in
+    record { not-writable = p; alike = past test.Value (unlike (valueField (d .kind)) v) _ r a h1 .0 }
 
 -- Of a frozen property nothing changes
 
@@ -137,15 +136,15 @@ applied-frozen d w v e next r ok a h =
 -- where step 5 ends in a change, it is that of step 6
 made : (d : PropertyDescriptor) (t : Property) (q p : Property) → validateKind d t (Becomes q) ≡ Becomes p → q ≡ p
 made d (Accessor g s e c) q p h =
-    let h1 = past (unlike (getField (d .kind)) g) _ (Becomes p) refl h .1 in
-    let h2 = past (unlike (setField (d .kind)) s) _ (Becomes p) refl h1 .1 in
+    let h1 = past test.Get (unlike (getField (d .kind)) g) _ (Becomes p) refl h .1 in
+    let h2 = past test.Set (unlike (setField (d .kind)) s) _ (Becomes p) refl h1 .1 in
     cc
 made d (Data w true e c) q p h = cc
-made d (Data w false e c) q p h = go (has (valueField (d .kind))) (past (isTrue (writableField (d .kind))) _ (Becomes p) refl h .1)
-  where
-    go : (b : Bool) → cond b (cond (unlike (valueField (d .kind)) w) Rejected Unchanged) (Becomes q) ≡ Becomes p → q ≡ p
-    go true g = let u : Unchanged ≡ Becomes p = past (unlike (valueField (d .kind)) w) Unchanged (Becomes p) refl g .1 in absurd (false≢true cc)
-    go false g = cc
+made d (Data w false e c) q p h =
+    let h1 = past test.Writable (isTrue (writableField (d .kind))) _ (Becomes p) refl h .1 in
+    let h2 = past test.Value (unlike (valueField (d .kind)) w) _ (Becomes p) refl h1 .1 in
+    let h3 = became (has (valueField (d .kind))) (Becomes q) p h2 in
+    cc
 
 pub validate-keeps : (x : Bool) (d : PropertyDescriptor) (t : OwnProperty) (p : Property) → validate x d t ≡ Becomes p
     → (v : Value) → frozenAs v t ≡ true → frozenAs v (Present p) ≡ true
@@ -162,13 +161,13 @@ validate-keeps x d (Present (Data w false e false)) p h v f =
 -- Nothing is added to what is not extensible
 
 pub validate-adds : (x : Bool) (d : PropertyDescriptor) (t : OwnProperty) (p : Property) → validate x d t ≡ Becomes p → x ≡ false → isAbsent t ≡ true → ⊥
-unfolding validate
+unfolding validate rejectIf
 validate-adds true d Absent p h e a = true≢false e
 validate-adds false d Absent p h e a = false≢true cc
 validate-adds x d (Present q) p h e a = false≢true a
 
 pub validate-refuses : (x : Bool) (d : PropertyDescriptor) (t : OwnProperty) → isCompatible x d t ≡ true → x ≡ false → isAbsent t ≡ true → ⊥
-unfolding isCompatible validate
+unfolding isCompatible validate rejectIf
 validate-refuses true d Absent h e a = true≢false e
 validate-refuses false d Absent h e a = false≢true h
 validate-refuses x d (Present q) h e a = false≢true a
@@ -192,7 +191,7 @@ gives d t p true h = cc
 gives d t p false h = made d t (applied d t) p (passed d t (Becomes (applied d t)) (Becomes p) refl h .five-de)
 
 pub validate-gives : (x : Bool) (d : PropertyDescriptor) (t : OwnProperty) (p : Property) (w : Value) → validate x d t ≡ Becomes p → AsksFrozen d w → frozenAs w (Present p) ≡ true
-unfolding validate
+unfolding validate rejectIf
 validate-gives false d Absent p w h a = absurd (false≢true cc)
 validate-gives true d Absent p w h a = let q : complete d ≡ p = cc in subst (λ (z : Property). frozenAs w (Present z) ≡ true) q (complete-frozen d w a)
 validate-gives x d (Present t) p w h a =
@@ -223,7 +222,7 @@ unchanged d (Data v true e false) w a h =
 unchanged d (Data v false e false) w a h = asked-fixed d v e _ Unchanged w refl a (passed d (Data v false e false) _ Unchanged refl h)
 
 pub validate-unchanged : (x : Bool) (d : PropertyDescriptor) (t : OwnProperty) (w : Value) → validate x d t ≡ Unchanged → AsksFrozen d w → frozenAs w t ≡ true
-unfolding validate
+unfolding validate rejectIf
 validate-unchanged false d Absent w h a = absurd (false≢true cc)
 validate-unchanged true d Absent w h a = absurd (false≢true cc)
 validate-unchanged x d (Present t) w h a = unchanged d t w a (otherwise (hasNoFields d) Unchanged _ Unchanged (some-fields d w a) h)

@@ -48,9 +48,21 @@ pub enum OwnProperty {
     Present(Property),
 }
 
-// What ValidateAndApplyPropertyDescriptor answers: false, or true and what becomes of the property.
+// The tests of ValidateAndApplyPropertyDescriptor, in the order of 10.1.6.3.
+pub enum ValidationTest {
+    Extensible,
+    Configurable,
+    Enumerable,
+    Kind,
+    Get,
+    Set,
+    Writable,
+    Value,
+}
+
+// What ValidateAndApplyPropertyDescriptor answers: false and the first test that fails, or true and what becomes of the property.
 pub enum Validation {
-    Rejected,
+    Rejected(ValidationTest),
     Unchanged,
     Becomes(Property),
 }

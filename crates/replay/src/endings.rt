@@ -38,7 +38,9 @@ fn result(size: usize) -> Ending {
 pub fn judged(verdict: Verdict, ours: &mut [u8]) -> Ending {
     match verdict {
         Verdict::Refused(n) => refused(n),
-        Verdict::Verdict(accepted, own) => result(readout::put_verdict(ours, accepted, own)),
+        Verdict::Verdict(accepted, test, own) => {
+            result(readout::put_verdict(ours, accepted, test, own))
+        }
     }
 }
 

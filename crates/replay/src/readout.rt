@@ -125,10 +125,11 @@ fn put_own(out: &mut [u8], at: usize, own: OwnProperty) -> usize {
     }
 }
 
-// Yes or no, and the property after it.
-pub fn put_verdict(out: &mut [u8], accepted: bool, own: OwnProperty) -> usize {
+// Yes or no, the first test that fails, and the property after it.
+pub fn put_verdict(out: &mut [u8], accepted: bool, test: u64, own: OwnProperty) -> usize {
     let next = put_numbered(out, 0, 5, bits::weight(accepted, 1));
-    put_own(out, next, own)
+    let last = put_byte(out, next, test);
+    put_own(out, last, own)
 }
 
 fn put_key(out: &mut [u8], at: usize, key: PropertyKey) -> usize {

@@ -1,5 +1,5 @@
 // 10.1.6.3 ValidateAndApplyPropertyDescriptor, and 10.1.6.2.
-// applying: step 6. outcome: yes or no, and the property after it. merging: two descriptors into one.
+// applying: step 6. outcome: yes or no, the test that fails, and the property after it. merging: two descriptors into one.
 use descriptors::attributes;
 use descriptors::completion;
 use descriptors::fields;
@@ -10,11 +10,12 @@ use property::OwnProperty;
 use property::Property;
 use property::PropertyDescriptor;
 use property::Validation;
+use property::ValidationTest;
 ghost use mathlib.Core.Path.{_≡_};
-ghost use mathlib.Core.Bool.{not, _&&_, Bool·beq};
-ghost use Rattle.property.specs.Fields.{isAccessor};
-ghost use Rattle.property.specs.Descriptor.{isAccessorDescriptor, isGenericDescriptor};
-ghost use Rattle.property.specs.Validate.{hasNoFields, applied, validateKind, validateFixed, validate, isCompatible};
+ghost use mathlib.Core.Bool.{cond};
+ghost use Rattle.property.specs.Fields.{configurable};
+ghost use Rattle.property.specs.Validate.{hasNoFields, isOtherKind, validateKind, validateFixed, validate, isCompatible};
+ghost use Rattle.validation.specs.Tested.{goesOn};
 
 mod applying;
 pub mod merging;
@@ -26,18 +27,18 @@ fn has_no_fields(d: PropertyDescriptor) -> bool
 {
     let enumerable = d.enumerable;
     let configurable = d.configurable;
-    if kinds::is_generic_descriptor(d) {
-        if flags::has_flag(enumerable) {
-            return false;
-        }
-        return !flags::has_flag(configurable);
+    if flags::has_flag(enumerable) {
+        return false;
     }
-    false
+    if flags::has_flag(configurable) {
+        return false;
+    }
+    kinds::is_generic_descriptor(d)
 }
 
 // Step 5.c: the one is a data property, the other an accessor.
 fn is_other_kind(d: PropertyDescriptor, current: Property) -> bool
-    ensures { λ r. ⌜ r ≡ (not (isGenericDescriptor d) && not (Bool·beq (isAccessorDescriptor d) (isAccessor current))) ⌝ }
+    ensures { λ r. ⌜ r ≡ isOtherKind d current ⌝ }
 {
     if kinds::is_generic_descriptor(d) {
         return false;
@@ -45,56 +46,73 @@ fn is_other_kind(d: PropertyDescriptor, current: Property) -> bool
     kinds::is_accessor_descriptor(d) != attributes::is_accessor(current)
 }
 
-// Steps 5.d and 5.e, where `next` is what step 6 makes of the property.
-fn validate_kind(d: PropertyDescriptor, current: Property, next: Validation) -> Validation
-    ensures { λ r. ⌜ r ≡ validateKind d current next ⌝ }
+// What step 5 comes to: the first test that fails, true where 5.e.iii returns it, or all tests passed.
+pub enum Tested {
+    Fails(ValidationTest),
+    Returns,
+    Passes,
+}
+
+// Steps 5.d and 5.e.
+fn test_kind(d: PropertyDescriptor, current: Property) -> Tested
+    ensures { λ r. ⌜ ((next : Validation) → goesOn r next ≡ validateKind d current next) ⌝ }
 {
     let k = d.kind;
     match current {
         Property::Accessor(g, s, _, _) => {
             if fields::is_unlike(kind_fields::get_field(k), g) {
-                return Validation::Rejected; // 5.d.i
+                return Tested::Fails(ValidationTest::Get); // 5.d.i
             }
             if fields::is_unlike(kind_fields::set_field(k), s) {
-                return Validation::Rejected; // 5.d.ii
+                return Tested::Fails(ValidationTest::Set); // 5.d.ii
             }
-            next
+            Tested::Passes
         }
         Property::Data(v, w, _, _) => {
             if w {
-                return next;
+                return Tested::Passes;
             }
             if flags::is_true(kind_fields::writable_field(k)) {
-                return Validation::Rejected; // 5.e.i
+                return Tested::Fails(ValidationTest::Writable); // 5.e.i
             }
             let value = kind_fields::value_field(k);
-            if fields::has_field(value) {
-                if fields::is_unlike(value, v) {
-                    return Validation::Rejected; // 5.e.iii
-                }
-                return Validation::Unchanged; // 5.e.iii
+            if fields::is_unlike(value, v) {
+                return Tested::Fails(ValidationTest::Value); // 5.e.iii
             }
-            next
+            if fields::has_field(value) {
+                return Tested::Returns; // 5.e.iii
+            }
+            Tested::Passes
         }
     }
 }
 
-// Step 5.
-fn validate_fixed(d: PropertyDescriptor, current: Property, next: Validation) -> Validation
-    ensures { λ r. ⌜ r ≡ validateFixed d current next ⌝ }
+// Steps 5.a to 5.e.
+fn test_fixed(d: PropertyDescriptor, current: Property) -> Tested
+    ensures { λ r. ⌜ ((next : Validation) → goesOn r next ≡ validateFixed d current next) ⌝ }
 {
     let enumerable = d.enumerable;
     let configurable = d.configurable;
     if flags::is_true(configurable) {
-        return Validation::Rejected; // 5.a
+        return Tested::Fails(ValidationTest::Configurable); // 5.a
     }
     if flags::is_unlike_flag(enumerable, attributes::is_enumerable(current)) {
-        return Validation::Rejected; // 5.b
+        return Tested::Fails(ValidationTest::Enumerable); // 5.b
     }
     if is_other_kind(d, current) {
-        return Validation::Rejected; // 5.c
+        return Tested::Fails(ValidationTest::Kind); // 5.c
     }
-    validate_kind(d, current, next) // 5.d, 5.e
+    test_kind(d, current) // 5.d, 5.e
+}
+
+// Step 5.
+fn test_current(d: PropertyDescriptor, current: Property) -> Tested
+    ensures { λ r. ⌜ ((next : Validation) → goesOn r next ≡ cond (configurable current) next (validateFixed d current next)) ⌝ }
+{
+    if attributes::is_configurable(current) {
+        return Tested::Passes;
+    }
+    test_fixed(d, current)
 }
 
 // 10.1.6.3 ValidateAndApplyPropertyDescriptor ( O, P, extensible, Desc, current )
@@ -103,20 +121,27 @@ pub fn validate(extensible: bool, d: PropertyDescriptor, current: OwnProperty) -
 {
     match current {
         OwnProperty::Absent => {
-            if extensible {
-                return Validation::Becomes(completion::complete_property_descriptor(d)); // 2.c to 2.e
+            if !extensible {
+                return Validation::Rejected(ValidationTest::Extensible); // 2.a
             }
-            Validation::Rejected // 2.a
+            return Validation::Becomes(completion::complete_property_descriptor(d)); // 2.c to 2.e
         }
         OwnProperty::Present(p) => {
             if has_no_fields(d) {
                 return Validation::Unchanged; // 4
             }
-            let next = Validation::Becomes(applying::applied(d, p)); // 6, 7
-            if attributes::is_configurable(p) {
-                return next;
+            // 5
+            match test_current(d, p) {
+                Tested::Fails(test) => {
+                    return Validation::Rejected(test);
+                }
+                Tested::Returns => {
+                    return Validation::Unchanged;
+                }
+                Tested::Passes => {
+                    return Validation::Becomes(applying::applied(d, p)); // 6, 7
+                }
             }
-            validate_fixed(d, p, next) // 5
         }
     }
 }

@@ -189,10 +189,11 @@ fn validate(r: &[u8]) -> bool
     let current = own_at(r, truth(r[2]), 32);
     let v = validation::validate(truth(r[1]), descriptor(r, 3), current);
     if same_bool(outcome::is_accepted(v), truth(r[61])) {
-        same_own(outcome::settled(current, v), own_at(r, truth(r[62]), 63))
-    } else {
-        false
+        if outcome::failed_test(v) == bits::wide(r[92]) {
+            return same_own(outcome::settled(current, v), own_at(r, truth(r[62]), 63));
+        }
     }
+    false
 }
 
 // The number of a refusal as the vectors have it: 0 is none.

@@ -13,11 +13,14 @@ use std::process::ExitCode;
 const USAGE: &str = "\
 usage: steps [--cells | --rows] [--] FILE
 
-Runs the readable steps of FILE over one store and prints, for each, its line, its bytes and its report.
+Runs the readable steps of FILE over one store and prints, for each, its line, its bytes and its report. Where
+ValidateAndApplyPropertyDescriptor (ECMA-262 10.1.6.3) rejects a descriptor, the first test that failed is
+named: extensible, configurable, enumerable, kind, get, set, writable or value.
 FILE may be -, the standard input, but not with --rows.
 
   --cells      prints each step as a line of hexadecimal cells, under their names, and runs nothing
-  --rows       reads the rows of such lines from the standard input and prints each beside its step
+  --rows       reads the rows of such lines from the standard input and prints each beside its step; failed
+               tests are named up to the first row that is not what its step reports here
   --help, -h   prints this
   --           ends the options, for a FILE whose name begins with a dash
 
@@ -172,7 +175,11 @@ fn run(calls: &[Line], text: &str, output: &mut impl Write) -> io::Result<()> {
                 }
                 writeln!(output, "   step  {}", hex(&step.to_bytes()))?;
                 writeln!(output, "   sheet {}", hex(&sheet_bytes(answers)))?;
+                let failed = store.failed_test(step, answers);
                 writeln!(output, "   {}", readable::report(&store.step(step, answers), &strings))?;
+                if let Some(test) = failed {
+                    writeln!(output, "   {}", readable::failed_test(test))?;
+                }
             }
             call => unreachable!("a line is an entry or a step: {call}"),
         }

@@ -1,4 +1,4 @@
-//! The C functions, with the report an allocation of its own too, so that a memory checker sees an access past its end; and the same call through
+//! The C functions, with report and test allocations of their own too, so that a memory checker sees an access past its end; and the same call through
 //! `lent`, on copies, which must leave the same.
 use demnyaluz::{lent, raw, REPORT_WORDS};
 
@@ -61,9 +61,11 @@ pub fn complete(words: &[u64], strings: &[u16], descriptor: &[u8]) -> Words {
     *report
 }
 
-pub fn validate(words: &[u64], strings: &[u16], extensible: bool, descriptor: &[u8], current: &[u8]) -> (bool, Words) {
+/// What it answers, the test and the report.
+pub fn validate(words: &[u64], strings: &[u16], extensible: bool, descriptor: &[u8], current: &[u8]) -> (bool, u64, Words) {
     let mut report = unwritten();
-    // SAFETY: as above.
+    let mut test = Box::new(u64::MAX);
+    // SAFETY: as above; the test is one word.
     let accepted = unsafe {
         raw::demnyaluz_validate(
             words.as_ptr(),
@@ -76,11 +78,12 @@ pub fn validate(words: &[u64], strings: &[u16], extensible: bool, descriptor: &[
             current.as_ptr(),
             current.len(),
             report.as_mut_ptr(),
+            &mut *test,
         )
     };
     let lent = lent::validate(words, strings, extensible, descriptor, current);
-    assert_eq!((lent.accepted, lent.report.as_slice()), (accepted, &report[..]), "by lent slices");
-    (accepted, *report)
+    assert_eq!((lent.accepted, lent.test, lent.report.as_slice()), (accepted, *test, &report[..]), "by lent slices");
+    (accepted, *test, *report)
 }
 
 pub fn merge(words: &[u64], strings: &[u16], current: &[u8], descriptor: &[u8]) -> Words {

@@ -279,6 +279,7 @@ impl Generator {
                 _ => Value::Undefined,
             }),
             Asked::Descriptor(o, key) => match self.held(world, o, key) {
+                Some(held) if self.random.once_in(5) => Answer::Descriptor(self.over(world, &held)),
                 Some(held) if !self.random.once_in(6) => Answer::Descriptor(self.near_descriptor(world, &held)),
                 None if self.random.once_in(3) => Answer::Descriptor(self.descriptor(world)),
                 _ => Answer::Value(Value::Undefined),
@@ -355,6 +356,7 @@ impl Generator {
             9 => {
                 let key = Key::of(step.key).unwrap();
                 step.descriptor = match self.held(world, object, key) {
+                    Some(held) if self.random.once_in(3) => self.over(world, &held),
                     Some(held) if self.random.once_in(2) => self.near_descriptor(world, &held),
                     _ => self.descriptor(world),
                 };
@@ -506,15 +508,49 @@ impl Generator {
         pair.enter_string(&units);
     }
 
-    fn record(&mut self, world: &World, full: bool) -> Vec<u8> {
-        let mut d = self.descriptor(world);
-        if full {
-            d = d.completed();
-            if self.random.once_in(6) {
-                d = self.near_descriptor(world, &d);
-            }
+    /// A complete descriptor, mostly not configurable; seldom a field is missing or wrong.
+    fn current(&mut self, world: &World) -> Descriptor {
+        let mut d = self.descriptor(world).completed();
+        if self.random.once_in(4) {
+            d = Descriptor { value: None, writable: None, get: Some(self.callable(world)), set: Some(self.callable(world)), ..d };
         }
-        let mut bytes = descriptor_bytes(&d);
+        if !self.random.once_in(3) {
+            d.configurable = Some(false);
+        }
+        if self.random.once_in(6) {
+            self.near_descriptor(world, &d)
+        } else {
+            d
+        }
+    }
+
+    /// Some fields of a current descriptor, of which one may be what a test of validation rejects.
+    fn over(&mut self, world: &World, current: &Descriptor) -> Descriptor {
+        let mut d = *current;
+        match self.random.below(8) {
+            0 => d.configurable = Some(true),
+            1 => d.enumerable = d.enumerable.map(|e| !e),
+            2 if d.is_accessor() => d = Descriptor { get: None, set: None, writable: Some(false), ..d },
+            2 => d = Descriptor { value: None, writable: None, get: Some(self.callable(world)), ..d },
+            3 | 4 if d.is_accessor() => d.get = Some(self.callable(world)),
+            5 | 6 if d.is_accessor() => d.set = Some(self.callable(world)),
+            3 | 4 => d.writable = Some(true),
+            5 | 6 => d.value = Some(self.value(world)),
+            _ => d = self.near_descriptor(world, current),
+        }
+        let mut keeps = || !self.random.once_in(4);
+        d.enumerable = d.enumerable.filter(|_| keeps());
+        d.configurable = d.configurable.filter(|_| keeps());
+        d.writable = d.writable.filter(|_| keeps());
+        d.value = d.value.filter(|_| keeps());
+        d.get = d.get.filter(|_| keeps());
+        d.set = d.set.filter(|_| keeps());
+        d
+    }
+
+    /// The bytes of a descriptor, damaged or not.
+    fn record(&mut self, world: &World, d: &Descriptor) -> Vec<u8> {
+        let mut bytes = descriptor_bytes(d);
         if self.random.once_in(3 * self.habits.damage) {
             self.change_kind(&mut bytes, world);
         }
@@ -526,8 +562,10 @@ impl Generator {
 
     /// Completing, validating and merging by themselves.
     pub fn run_descriptor(&mut self, pair: &mut Pair) {
-        let current = if self.random.once_in(5) { Vec::new() } else { self.record(&pair.world, true) };
-        let bytes = self.record(&pair.world, false);
+        let held = self.current(&pair.world);
+        let d = if self.random.once_in(3) { self.descriptor(&pair.world) } else { self.over(&pair.world, &held) };
+        let current = if self.random.once_in(5) { Vec::new() } else { self.record(&pair.world, &held) };
+        let bytes = self.record(&pair.world, &d);
         match self.random.below(4) {
             0 => drop(pair.complete(&bytes)),
             1 => drop(pair.merge(&current, &bytes)),

@@ -82,6 +82,8 @@ pub struct Tally {
     pub refusals: [u64; 12],
     pub messages: [u64; 33],
     pub codes: [u64; 20],
+    /// Validations that were not refused, by the first test that failed; 0 is none.
+    pub tests: [u64; 9],
     /// Steps of code 18 without a result that changed the store.
     pub midway: u64,
     pub functions: Functions,
@@ -89,7 +91,17 @@ pub struct Tally {
 
 impl Default for Tally {
     fn default() -> Self {
-        Tally { calls: 0, results: 0, thrown: 0, refusals: [0; 12], messages: [0; 33], codes: [0; 20], midway: 0, functions: Functions::default() }
+        Tally {
+            calls: 0,
+            results: 0,
+            thrown: 0,
+            refusals: [0; 12],
+            messages: [0; 33],
+            codes: [0; 20],
+            tests: [0; 9],
+            midway: 0,
+            functions: Functions::default(),
+        }
     }
 }
 
@@ -114,6 +126,7 @@ impl Tally {
         all(&mut self.refusals, &other.refusals);
         all(&mut self.messages, &other.messages);
         all(&mut self.codes, &other.codes);
+        all(&mut self.tests, &other.tests);
     }
 
     /// How many steps there were of each code.
@@ -210,12 +223,15 @@ impl Pair {
         expected
     }
 
-    pub fn validate(&mut self, extensible: bool, bytes: &[u8], current: &[u8]) -> (bool, Report) {
-        let (yes, expected) = step::validate_alone(&self.world, extensible, bytes, current);
+    pub fn validate(&mut self, extensible: bool, bytes: &[u8], current: &[u8]) -> (bool, u64, Report) {
+        let (yes, test, expected) = step::validate_alone(&self.world, extensible, bytes, current);
         let told = entries::validate(&self.words, &self.strings, extensible, &exact(bytes), &exact(current));
-        assert_eq!(told, (yes, layout::report_words(&expected)), "validating {extensible} {} over {}", hex(bytes), hex(current));
+        assert_eq!(told, (yes, test, layout::report_words(&expected)), "validating {extensible} {} over {}", hex(bytes), hex(current));
         self.tally.count(&expected);
-        (yes, expected)
+        if matches!(expected.outcome, Outcome::Result(_)) {
+            self.tally.tests[test as usize] += 1;
+        }
+        (yes, test, expected)
     }
 
     pub fn merge(&mut self, current: &[u8], bytes: &[u8]) -> Report {

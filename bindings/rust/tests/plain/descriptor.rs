@@ -76,39 +76,41 @@ impl Descriptor {
     }
 }
 
-/// 10.1.6.3 ValidateAndApplyPropertyDescriptor: the property afterwards, or nothing where it answers false.
-pub fn validate(extensible: bool, d: &Descriptor, current: Option<&Descriptor>) -> Option<Descriptor> {
+/// 10.1.6.3 ValidateAndApplyPropertyDescriptor: the property afterwards, or, where it answers false, the number of the test by which it does.
+pub fn validate(extensible: bool, d: &Descriptor, current: Option<&Descriptor>) -> Result<Descriptor, u64> {
     let Some(current) = current else {
-        return extensible.then(|| d.completed()); // 2
+        return if extensible { Ok(d.completed()) } else { Err(1) }; // 2
     };
     if d.is_empty() {
-        return Some(*current); // 4
+        return Ok(*current); // 4
     }
     if current.configurable == Some(false) {
-        if d.configurable == Some(true) {
-            return None; // 5.a
+        if let Some(number) = first_failed(d, current) {
+            return Err(number); // 5
         }
-        if d.enumerable.is_some() && d.enumerable != current.enumerable {
-            return None; // 5.b
-        }
-        if !d.is_generic() && d.is_accessor() != current.is_accessor() {
-            return None; // 5.c
-        }
-        let differs = |given: Option<Value>, held: Option<Value>| given.is_some_and(|g| !same_value(g, held.unwrap()));
-        if current.is_accessor() {
-            if differs(d.get, current.get) || differs(d.set, current.set) {
-                return None; // 5.d
-            }
-        } else if current.writable == Some(false) {
-            if d.writable == Some(true) || differs(d.value, current.value) {
-                return None; // 5.e
-            }
-            return Some(*current);
+        if current.writable == Some(false) {
+            return Ok(*current); // 5.e
         }
     }
     let kept = Descriptor { enumerable: current.enumerable, configurable: current.configurable, ..Descriptor::default() };
     if current.is_data() && d.is_accessor() || current.is_accessor() && d.is_data() {
-        return Some(kept.filled(d).completed()); // 6.a, 6.b
+        return Ok(kept.filled(d).completed()); // 6.a, 6.b
     }
-    Some(current.filled(d)) // 6.c
+    Ok(current.filled(d)) // 6.c
+}
+
+/// Step 5: of its tests of a property that is not configurable, by their numbers, the first that fails.
+fn first_failed(d: &Descriptor, current: &Descriptor) -> Option<u64> {
+    let differs = |given: Option<Value>, held: Option<Value>| given.is_some_and(|g| !same_value(g, held.unwrap()));
+    let fixed = current.is_data() && current.writable == Some(false);
+    let fails = [
+        (2, d.configurable == Some(true)),                                 // 5.a
+        (3, d.enumerable.is_some() && d.enumerable != current.enumerable), // 5.b
+        (4, !d.is_generic() && d.is_accessor() != current.is_accessor()),  // 5.c
+        (5, current.is_accessor() && differs(d.get, current.get)),         // 5.d.i
+        (6, current.is_accessor() && differs(d.set, current.set)),         // 5.d.ii
+        (7, fixed && d.writable == Some(true)),                            // 5.e.i
+        (8, fixed && differs(d.value, current.value)),                     // 5.e.iii
+    ];
+    fails.into_iter().find(|(_, fails)| *fails).map(|(number, _)| number)
 }

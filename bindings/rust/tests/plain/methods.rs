@@ -36,6 +36,8 @@ pub struct Run {
     pub calls: u64,
     /// Set where the sheet had no next answer.
     pub wanted: Option<Asked>,
+    /// Set where 10.1.6.3 answered false: the number of its test.
+    pub failed: Option<u64>,
 }
 
 enum Kind {
@@ -92,6 +94,10 @@ impl Run {
             Value::String(n) => !self.world.strings[n as usize].is_empty(),
             Value::Symbol(_) | Value::Object(_) | Value::Function(_) => true,
         })
+    }
+
+    fn validate(&mut self, extensible: bool, d: &Descriptor, current: Option<&Descriptor>) -> Option<Descriptor> {
+        validate(extensible, d, current).map_err(|test| self.failed = Some(test)).ok()
     }
 
     /// 10.1.1, 10.5.1
@@ -218,7 +224,7 @@ impl Run {
             return type_error(29);
         }
         let told = told.completed();
-        if validate(extensible, &told, held.as_ref()).is_none() {
+        if self.validate(extensible, &told, held.as_ref()).is_none() {
             return type_error(10);
         }
         if told.configurable == Some(false) {
@@ -254,7 +260,7 @@ impl Run {
                 }
             }
             Some(held) => {
-                if validate(extensible, d, Some(&held)).is_none() {
+                if self.validate(extensible, d, Some(&held)).is_none() {
                     return type_error(14);
                 }
                 if fixes && held.configurable == Some(true) {
@@ -271,7 +277,7 @@ impl Run {
     fn ordinary_define_own_property(&mut self, o: usize, key: Key, d: &Descriptor) -> Ends<bool> {
         let current = self.get_own_property(o, key)?;
         let extensible = self.is_extensible(o)?;
-        let Some(after) = validate(extensible, d, current.as_ref()) else {
+        let Some(after) = self.validate(extensible, d, current.as_ref()) else {
             return Ok(false);
         };
         if current.is_none() && self.world.live_properties() == MAXIMUM_PROPERTIES {

@@ -43,10 +43,11 @@ impl Report {
     }
 }
 
-/// What a step leaves: its report, and what the sheet lacked where it was refused as 8.
+/// What a step leaves: its report, what the sheet lacked where it was refused as 8, and the last test of validation that failed in its course.
 pub struct Stepped {
     pub report: Report,
     pub wanted: Option<Wanted>,
+    pub failed: Option<u64>,
 }
 
 /// What the next answer is wanted for, and the world of that moment.
@@ -59,9 +60,9 @@ pub struct Wanted {
 pub fn step(world: &mut World, bytes: &[u8], sheet: &[u8], output: &mut [u8]) -> Stepped {
     let (step, answers) = match record::read(world, bytes, sheet) {
         Ok(read) => read,
-        Err(n) => return Stepped { report: Report::refused(n), wanted: None },
+        Err(n) => return Stepped { report: Report::refused(n), wanted: None, failed: None },
     };
-    let mut run = Run { world: world.clone(), answers, used: 0, calls: 0, wanted: None };
+    let mut run = Run { world: world.clone(), answers, used: 0, calls: 0, wanted: None, failed: None };
     let mut ended = perform(&mut run, &step);
     if let Ok(Completion::Keys(keys)) = &ended {
         if output.len() < 9 * keys.len() {
@@ -71,7 +72,7 @@ pub fn step(world: &mut World, bytes: &[u8], sheet: &[u8], output: &mut [u8]) ->
     let outcome = match ended {
         Err(Stop::Refused(n)) => {
             let wanted = run.wanted.map(|asked| Wanted { asked, world: run.world });
-            return Stepped { report: Report::refused(n), wanted };
+            return Stepped { report: Report::refused(n), wanted, failed: run.failed };
         }
         Err(Stop::TypeError(n)) => Outcome::TypeError(n),
         Err(Stop::Thrown(v)) => Outcome::Thrown(v),
@@ -87,7 +88,7 @@ pub fn step(world: &mut World, bytes: &[u8], sheet: &[u8], output: &mut [u8]) ->
     if matches!(outcome, Outcome::Result(_)) || step.code == 18 {
         *world = run.world;
     }
-    Stepped { report: Report { outcome, answers: run.used as u64, calls: run.calls }, wanted: None }
+    Stepped { report: Report { outcome, answers: run.used as u64, calls: run.calls }, wanted: None, failed: run.failed }
 }
 
 fn make(run: &mut Run, object: Object) -> Result<Completion, Stop> {
@@ -181,20 +182,23 @@ pub fn complete(world: &World, bytes: &[u8]) -> Report {
     descriptor_report(read_all(world, &[bytes]).map(|all| all[0].completed()))
 }
 
-/// Validating a descriptor by itself, over a current one or, without a record, an absent property: yes or no, and the property after it.
-pub fn validate_alone(world: &World, extensible: bool, bytes: &[u8], current: &[u8]) -> (bool, Report) {
+/// Validating a descriptor by itself, over a current one or, without a record, an absent property: yes or no, the number of the first test that fails
+/// or 0, and the property after it.
+pub fn validate_alone(world: &World, extensible: bool, bytes: &[u8], current: &[u8]) -> (bool, u64, Report) {
     let records = if current.is_empty() { vec![bytes] } else { vec![bytes, current] };
     let all = match read_all(world, &records) {
         Ok(all) => all,
-        Err(n) => return (false, Report::refused(n)),
+        Err(n) => return (false, 0, Report::refused(n)),
     };
     let current = all.get(1);
     if current.is_some_and(|c| !c.is_full()) {
-        return (false, Report::refused(5));
+        return (false, 0, Report::refused(5));
     }
-    let accepted = validate(extensible, &all[0], current);
-    let after = accepted.as_ref().or(current).map_or(Completion::Absent, |p| Completion::Descriptor(*p));
-    (accepted.is_some(), Report::without_calls(Outcome::Result(after)))
+    let (test, after) = match validate(extensible, &all[0], current) {
+        Ok(after) => (0, Some(after)),
+        Err(test) => (test, current.copied()),
+    };
+    (test == 0, test, Report::without_calls(Outcome::Result(after.map_or(Completion::Absent, Completion::Descriptor))))
 }
 
 /// Merging a descriptor into a current one by itself.

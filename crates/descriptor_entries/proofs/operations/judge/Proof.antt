@@ -3,7 +3,7 @@ use Rattle.descriptor_entries.proofs.operations.judge.Statement.{statem
 use Rattle.descriptor_entries.proofs.operations.judge.Tie as tie
 
 returns : tie.Need-returns
-returns c = rw (c .settled .ensures, c .before .is-accepted .ensures, c .before .before .validate .ensures)
+returns c = rw (c .settled .ensures, c .before .failed-test .ensures, c .before .before .is-accepted .ensures, c .before .before .before .validate .ensures)
 
 pub judge-spec : {M : Type 1} → statement M
-judge-spec = tie.close (tie.spec (λ c κs. search needs) (λ c κs. search needs) (λ c κs. search needs) returns)
+judge-spec = tie.close (tie.spec (λ c κs. search needs) (λ c κs. search needs) (λ c κs. search needs) (λ c κs. search needs) returns)
