@@ -21,7 +21,7 @@ use Rattle.property.specs.Fields.{has, hasFlag, valueField, writableField, getF
 use Rattle.property.specs.Descriptor.{isAccessorDescriptor, isDataDescriptor}
 use Rattle.property.specs.Validate.{validate, populated, propertyOf, unmergeable}
 use Rattle.property.specs.Answers.{ownProperty}
-use Rattle.property.specs.FirstTest.{FirstFails}
+use Rattle.property.specs.FirstTest.{Fails, FirstFails}
 use Rattle.property.proofs.FirstTestHolds.{tests-decided}
 use Rattle.record.specs.declared.Counts.{Counts}
 use Rattle.descriptor_entries.specs.declared.operations.DescriptorAnswer.{DescriptorAnswer}
@@ -30,7 +30,7 @@ use Rattle.descriptor_entries.specs.declared.operations.Verdict.{Verdict
 use Rattle.descriptor_entries.specs.declared.operations.Verdict.the-variants as verdict
 use Rattle.descriptor_entries.specs.Records.{descriptorOf, oneRefusal, twoRefusal}
 use Rattle.descriptor_entries.specs.Operations.{completed, completeRecord, judged, validated, validatedOver, validatedAbsent, validateRecords, mergedWith, mergedOver, merged, mergeRecords}
-use Rattle.descriptor_entries.specs.Entries.{failedTest}
+use Rattle.descriptor_entries.specs.Entries.{isAccepted, failedTest}
 use Rattle.descriptor_entries.specs.Decided.{lacksIn, lacks, areOfTwoKinds, currentOf, CompleteRefusal, ValidateRefusal, MergeRefusal, DescriptorsDecided}
 
 -- What a current descriptor is, and what it lacks ---------------------------------------------
@@ -138,16 +138,25 @@ module _ (n : Counts) (bytes : List ℕ) where
   refused-or-judged : {j : ℕ} {a : Bool} {m : ℕ} {o : OwnProperty} → verdict.Refused j ≡ verdict.Verdict a m o → ⊥
   refused-or-judged e = false≢true cc
 
+  -- what is true of no refusal is true of the verdict exactly if nothing is refused and it is true of what is judged
+  unless-refused : (extensible : Bool) (current : List ℕ) (P : Verdict → Type 0) (Q : Type 0) → ((j : ℕ) → P (verdict.Refused j) → ⊥)
+      → P (judged (currentOf current) (validate extensible (descriptorOf bytes) (currentOf current))) ↔ Q
+      → P (validateRecords n extensible bytes current) ↔ (((j : ℕ) → ValidateRefusal n bytes current j → ⊥) × Q)
+  unless-refused extensible current P Q never q = go (judges-or-not extensible current)
+    where
+      go : Validates extensible current → P (validateRecords n extensible bytes current) ↔ (((j : ℕ) → ValidateRefusal n bytes current j → ⊥) × Q)
+      go (Validates.refused j e) = (λ h. absurd (never j (subst P e h)), λ f. absurd (f .0 j (validates extensible current j .0 e)))
+      go (Validates.judges e) = (λ h. (λ j r. refused-or-judged (sym (validates extensible current j .1 r) ∙ e), q .0 (subst P e h)), λ f. subst P (sym e) (q .1 (f .1)))
+
   tests : (extensible : Bool) (current : List ℕ) (i : ℕ) → 0 < i
       → (failedTest (validateRecords n extensible bytes current) ≡ i) ↔ (((j : ℕ) → ValidateRefusal n bytes current j → ⊥) × FirstFails extensible (descriptorOf bytes) (currentOf current) i)
-  tests extensible current i l = go (judges-or-not extensible current)
-    where
-      go : Validates extensible current → (failedTest (validateRecords n extensible bytes current) ≡ i) ↔ (((j : ℕ) → ValidateRefusal n bytes current j → ⊥) × FirstFails extensible (descriptorOf bytes) (currentOf current) i)
-      go (Validates.refused j e) =
-          (λ h. let z : 0 ≡ i = sym (ap failedTest e) ∙ h in absurd (omega arith), λ f. absurd (f .0 j (validates extensible current j .0 e)))
-      go (Validates.judges e) =
-          let decided = tests-decided extensible (descriptorOf bytes) (currentOf current) in
-          (λ h. ((λ j r. refused-or-judged (sym (validates extensible current j .1 r) ∙ e), decided .first i l .0 (sym (ap failedTest e) ∙ h))), λ f. ap failedTest e ∙ decided .first i l .1 (f .1))
+  tests extensible current i l =
+      unless-refused extensible current (λ v. failedTest v ≡ i) _ (λ j h. let z : 0 ≡ i = h in omega arith) (tests-decided extensible (descriptorOf bytes) (currentOf current) .first i l)
+
+  accepts : (extensible : Bool) (current : List ℕ)
+      → (isAccepted (validateRecords n extensible bytes current) ≡ true) ↔ (((j : ℕ) → ValidateRefusal n bytes current j → ⊥) × ((i : ℕ) → Fails extensible (descriptorOf bytes) (currentOf current) i → ⊥))
+  accepts extensible current =
+      unless-refused extensible current (λ v. isAccepted v ≡ true) _ (λ j h. false≢true h) (tests-decided extensible (descriptorOf bytes) (currentOf current) .accepted)
 
   merges : (current : List ℕ) (i : ℕ) → (mergeRecords n current bytes ≡ answer.Refused i) ↔ MergeRefusal n current bytes i
   unfolding mergeRecords
@@ -180,4 +189,4 @@ module _ (n : Counts) (bytes : List ℕ) where
       back _ (MergeRefusal.mixed e l k) = rw e (two-kinds (whole-of (descriptorOf current)) l k)
 
 pub descriptors-decided : (n : Counts) (extensible : Bool) (bytes current : List ℕ) → DescriptorsDecided n extensible bytes current
-descriptors-decided n extensible bytes current = record { completes = completes n bytes; validates = validates n bytes extensible current; tests = tests n bytes extensible current; merges = merges n bytes current }
+descriptors-decided n extensible bytes current = record { completes = completes n bytes; validates = validates n bytes extensible current; tests = tests n bytes extensible current; accepts = accepts n bytes extensible current; merges = merges n bytes current }

@@ -15,13 +15,13 @@ use Rattle.property.specs.Fields.{has, hasFlag}
 use Rattle.property.specs.Descriptor.{isAccessorDescriptor, isDataDescriptor}
 use Rattle.property.specs.Validate.{propertyOf}
 use Rattle.property.specs.Answers.{ownProperty}
-use Rattle.property.specs.FirstTest.{FirstFails}
+use Rattle.property.specs.FirstTest.{Fails, FirstFails}
 use Rattle.record.specs.declared.Counts.{Counts}
 use Rattle.descriptor_entries.specs.declared.operations.DescriptorAnswer.the-variants as answer
 use Rattle.descriptor_entries.specs.declared.operations.Verdict.the-variants as verdict
 use Rattle.descriptor_entries.specs.Records.{descriptorOf, oneRefusal, twoRefusal}
 use Rattle.descriptor_entries.specs.Operations.{completeRecord, validateRecords, mergeRecords}
-use Rattle.descriptor_entries.specs.Entries.{failedTest}
+use Rattle.descriptor_entries.specs.Entries.{isAccepted, failedTest}
 
 -- 5: it has neither all fields of a data property nor all of an accessor
 abbrev pub lacksIn : DescriptorKind → Bool
@@ -56,9 +56,11 @@ abbrev pub currentOf : List ℕ → OwnProperty
 currentOf [] = Absent
 currentOf (b ∷ rest) = ownProperty (propertyOf (descriptorOf (b ∷ rest)))
 
--- the refusal is i exactly if the condition numbered i holds; the test that is told is i exactly if nothing is refused and test i is the first that fails
+-- the refusal is i exactly if the condition numbered i holds; the test that is told is i exactly if nothing is refused and test i is the first that fails;
+-- the answer is yes exactly if nothing is refused and no test fails
 pub record DescriptorsDecided (n : Counts) (extensible : Bool) (bytes current : List ℕ) : Type 0 where
   pub completes : (i : ℕ) → (completeRecord n bytes ≡ answer.Refused i) ↔ CompleteRefusal n bytes i
   pub validates : (i : ℕ) → (validateRecords n extensible bytes current ≡ verdict.Refused i) ↔ ValidateRefusal n bytes current i
   pub tests : (i : ℕ) → 0 < i → (failedTest (validateRecords n extensible bytes current) ≡ i) ↔ (((j : ℕ) → ValidateRefusal n bytes current j → ⊥) × FirstFails extensible (descriptorOf bytes) (currentOf current) i)
+  pub accepts : (isAccepted (validateRecords n extensible bytes current) ≡ true) ↔ (((j : ℕ) → ValidateRefusal n bytes current j → ⊥) × ((i : ℕ) → Fails extensible (descriptorOf bytes) (currentOf current) i → ⊥))
   pub merges : (i : ℕ) → (mergeRecords n current bytes ≡ answer.Refused i) ↔ MergeRefusal n current bytes i
