@@ -31,7 +31,7 @@ use Rattle.descriptor_entries.specs.declared.operations.Verdict.the-vari
 use Rattle.descriptor_entries.specs.Records.{descriptorOf, oneRefusal, twoRefusal}
 use Rattle.descriptor_entries.specs.Operations.{completed, completeRecord, judged, validated, validatedOver, validatedAbsent, validateRecords, mergedWith, mergedOver, merged, mergeRecords}
 use Rattle.descriptor_entries.specs.Entries.{isAccepted, failedTest}
-use Rattle.descriptor_entries.specs.Decided.{lacksIn, lacks, areOfTwoKinds, currentOf, CompleteRefusal, ValidateRefusal, MergeRefusal, DescriptorsDecided}
+use Rattle.descriptor_entries.specs.Decided.{lacksIn, lacks, areOfTwoKinds, currentOf, CompleteRefusal, ValidateRefusal, MergeRefusal, Unrefused, DescriptorsDecided}
 
 -- What a current descriptor is, and what it lacks ---------------------------------------------
 
@@ -141,20 +141,20 @@ module _ (n : Counts) (bytes : List ℕ) where
   -- what is true of no refusal is true of the verdict exactly if nothing is refused and it is true of what is judged
   unless-refused : (extensible : Bool) (current : List ℕ) (P : Verdict → Type 0) (Q : Type 0) → ((j : ℕ) → P (verdict.Refused j) → ⊥)
       → P (judged (currentOf current) (validate extensible (descriptorOf bytes) (currentOf current))) ↔ Q
-      → P (validateRecords n extensible bytes current) ↔ (((j : ℕ) → ValidateRefusal n bytes current j → ⊥) × Q)
+      → P (validateRecords n extensible bytes current) ↔ (Unrefused n bytes current × Q)
   unless-refused extensible current P Q never q = go (judges-or-not extensible current)
     where
-      go : Validates extensible current → P (validateRecords n extensible bytes current) ↔ (((j : ℕ) → ValidateRefusal n bytes current j → ⊥) × Q)
+      go : Validates extensible current → P (validateRecords n extensible bytes current) ↔ (Unrefused n bytes current × Q)
       go (Validates.refused j e) = (λ h. absurd (never j (subst P e h)), λ f. absurd (f .0 j (validates extensible current j .0 e)))
       go (Validates.judges e) = (λ h. (λ j r. refused-or-judged (sym (validates extensible current j .1 r) ∙ e), q .0 (subst P e h)), λ f. subst P (sym e) (q .1 (f .1)))
 
   tests : (extensible : Bool) (current : List ℕ) (i : ℕ) → 0 < i
-      → (failedTest (validateRecords n extensible bytes current) ≡ i) ↔ (((j : ℕ) → ValidateRefusal n bytes current j → ⊥) × FirstFails extensible (descriptorOf bytes) (currentOf current) i)
+      → (failedTest (validateRecords n extensible bytes current) ≡ i) ↔ (Unrefused n bytes current × FirstFails extensible (descriptorOf bytes) (currentOf current) i)
   tests extensible current i l =
       unless-refused extensible current (λ v. failedTest v ≡ i) _ (λ j h. let z : 0 ≡ i = h in omega arith) (tests-decided extensible (descriptorOf bytes) (currentOf current) .first i l)
 
   accepts : (extensible : Bool) (current : List ℕ)
-      → (isAccepted (validateRecords n extensible bytes current) ≡ true) ↔ (((j : ℕ) → ValidateRefusal n bytes current j → ⊥) × ((i : ℕ) → Fails extensible (descriptorOf bytes) (currentOf current) i → ⊥))
+      → (isAccepted (validateRecords n extensible bytes current) ≡ true) ↔ (Unrefused n bytes current × ((i : ℕ) → Fails extensible (descriptorOf bytes) (currentOf current) i → ⊥))
   accepts extensible current =
       unless-refused extensible current (λ v. isAccepted v ≡ true) _ (λ j h. false≢true h) (tests-decided extensible (descriptorOf bytes) (currentOf current) .accepted)
 

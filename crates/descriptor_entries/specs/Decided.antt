@@ -51,6 +51,10 @@ pub data MergeRefusal (n : Counts) (current bytes : List ℕ) : ℕ → Type 0 w
   lacking : twoRefusal n current bytes ≡ none → lacks (descriptorOf current) ≡ true → MergeRefusal n current bytes 5
   mixed : twoRefusal n current bytes ≡ none → lacks (descriptorOf current) ≡ false → areOfTwoKinds (descriptorOf current) (descriptorOf bytes) ≡ true → MergeRefusal n current bytes 6
 
+-- validating is not refused
+abbrev pub Unrefused : Counts → List ℕ → List ℕ → Type 0
+Unrefused n bytes current = (j : ℕ) → ValidateRefusal n bytes current j → ⊥
+
 -- the property that is validated over; no current record stands for an absent one
 abbrev pub currentOf : List ℕ → OwnProperty
 currentOf [] = Absent
@@ -61,6 +65,6 @@ currentOf (b ∷ rest) = ownProperty (propertyOf (descriptorOf (b ∷ rest)))
 pub record DescriptorsDecided (n : Counts) (extensible : Bool) (bytes current : List ℕ) : Type 0 where
   pub completes : (i : ℕ) → (completeRecord n bytes ≡ answer.Refused i) ↔ CompleteRefusal n bytes i
   pub validates : (i : ℕ) → (validateRecords n extensible bytes current ≡ verdict.Refused i) ↔ ValidateRefusal n bytes current i
-  pub tests : (i : ℕ) → 0 < i → (failedTest (validateRecords n extensible bytes current) ≡ i) ↔ (((j : ℕ) → ValidateRefusal n bytes current j → ⊥) × FirstFails extensible (descriptorOf bytes) (currentOf current) i)
-  pub accepts : (isAccepted (validateRecords n extensible bytes current) ≡ true) ↔ (((j : ℕ) → ValidateRefusal n bytes current j → ⊥) × ((i : ℕ) → Fails extensible (descriptorOf bytes) (currentOf current) i → ⊥))
+  pub tests : (i : ℕ) → 0 < i → (failedTest (validateRecords n extensible bytes current) ≡ i) ↔ (Unrefused n bytes current × FirstFails extensible (descriptorOf bytes) (currentOf current) i)
+  pub accepts : (isAccepted (validateRecords n extensible bytes current) ≡ true) ↔ (Unrefused n bytes current × ((i : ℕ) → Fails extensible (descriptorOf bytes) (currentOf current) i → ⊥))
   pub merges : (i : ℕ) → (mergeRecords n current bytes ≡ answer.Refused i) ↔ MergeRefusal n current bytes i
