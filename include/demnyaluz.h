@@ -206,7 +206,8 @@ enum demnyaluz_refusal {
     DEMNYALUZ_REFUSAL_UNREADABLE_ANSWER = 9,   /* of another form than is asked for, or an object or a function for a descriptor or for keys */
     DEMNYALUZ_REFUSAL_TOO_MANY_CALLS = 10,     /* a 2,049th */
     DEMNYALUZ_REFUSAL_OUTPUT_TOO_SMALL = 11,
-    DEMNYALUZ_REFUSAL_BROKEN_LINE = 12         /* of a text, tested before 1 */
+    DEMNYALUZ_REFUSAL_BROKEN_LINE = 12,        /* of a text, tested before 1 */
+    DEMNYALUZ_REFUSAL_UNREAD_ANSWERS = 13      /* the step ends with answers that nothing took; after 7 to 10, before 11 */
 };
 
 /*
@@ -406,8 +407,9 @@ static inline struct demnyaluz_descriptor demnyaluz_property_descriptor(struct d
 }
 
 /*
- * One step. Traps, getters and setters take the sheet's answers in their order; a sheet without answers is one zero byte. The keys of a
- * result of code 14 are written from the output's start on, 9 bytes each; nothing else writes the output.
+ * One step. Traps, getters and setters take the sheet's answers in their order, all of them: a step that ends with unread answers is refused as
+ * 13. A sheet without answers is one zero byte. The keys of a result of code 14 are written from the output's start on, 9 bytes each; nothing
+ * else writes the output.
  */
 void demnyaluz_step(uint64_t *words, size_t words_length, const uint16_t *strings, size_t strings_length, const uint8_t *step, size_t step_length,
                     const uint8_t *sheet, size_t sheet_length, uint8_t *output, size_t output_length, uint64_t report[DEMNYALUZ_REPORT_WORDS]);

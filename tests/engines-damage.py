@@ -160,6 +160,9 @@ def is_result(form):
     return lambda line: line.kind == 1 and line.outcome == 1 and line.form == form
 
 
+# All codes of steps.
+CODES = [*range(1, 15), 16, 18, 19]
+
 DAMAGES = [
     ("a result told as a throw", "outcome", is_result(1), flip(lambda l: l.begin, 2)),
     ("a refusal told as a TypeError", "outcome", lambda l: l.outcome == 0, flip(lambda l: l.begin, 2)),
@@ -189,6 +192,16 @@ DAMAGES = [
     ("a listed key", "output", lambda l: is_result(4)(l) and l.bytes[l.completion + 1] > 1, flip(lambda l: l.output + 1, 1)),
     ("an output byte after the keys", "output", lambda l: is_result(4)(l) and l.room > 9 * l.bytes[l.completion + 1], flip(lambda l: l.store - 1, 1)),
     ("an output byte of a refusal", "output", lambda l: l.outcome == 0 and l.room > 0, flip(lambda l: l.output, 1)),
+    *[(f"step {code}: refusal 13 told as a result", "outcome", level(code, 0, 13), flip(lambda l: l.begin, 1)) for code in CODES],
+    *[(f"step {code}: refusal 13 told as {other}", "number", level(code, 0, 13), renumbered(other)) for code in (1, 11, 14) for other in (8, 9, 11, 12)],
+    ("refusal 11 told as 13", "number", level(14, 0, 11), renumbered(13)),
+    ("refusal 9 told as 13", "number", level(8, 0, 9), renumbered(13)),
+    ("refusal 8 told as 13", "number", level(11, 0, 8), renumbered(13)),
+    ("refusal 7 told as 13", "number", level(1, 0, 7), renumbered(13)),
+    ("answers of refusal 13", "answers", level(11, 0, 13), flip(lambda l: l.begin + 5, 1)),
+    ("an output byte of refusal 13", "output", both(level(14, 0, 13), lambda l: l.room > 0), flip(lambda l: l.output, 1)),
+    ("an object more after refusal 13", "store", level(1, 0, 13), flip(lambda l: l.store + 2, 1)),
+    ("a property changed by refusal 13", "store", both(level(9, 0, 13), lambda l: any(l.keys)), flip(lambda l: entry(l) + 2, 8)),
     ("how many strings there are", "store", lambda l: l.kind == 1, flip(lambda l: l.store, 1)),
     ("a proxy", "store", lambda l: l.kind == 1 and l.proxies, flip(lambda l: l.proxies[0], 1)),
     ("extensible", "store", lambda l: l.extensible, flip(lambda l: l.extensible[0], 1)),
@@ -225,6 +238,7 @@ DAMAGES = [
     ("step 18: a property after message 32", "store", both(level(18, 2, 32), lambda l: any(l.keys)), flip(lambda l: entry(l) + 2, 8)),
     ("step 18: closed although the sheet was spent", "store", both(level(18, 0, 8), lambda l: any(l.bytes[x] for x in l.extensible)), flip(lambda l: next(x for x in l.extensible if l.bytes[x]), 1)),
     ("step 18: closed although an answer was not read", "store", both(level(18, 0, 9), lambda l: any(l.bytes[x] for x in l.extensible)), flip(lambda l: next(x for x in l.extensible if l.bytes[x]), 1)),
+    ("step 18: closed although an answer was left", "store", both(level(18, 0, 13), lambda l: any(l.bytes[x] for x in l.extensible)), flip(lambda l: next(x for x in l.extensible if l.bytes[x]), 1)),
     ("step 18: an output byte", "output", lambda l: l.code == 18 and l.outcome == 1 and l.room > 0, flip(lambda l: l.output, 1)),
     ("step 19: true told as false", "completion", lambda l: level(19, 1)(l) and l.bytes[l.completion + 2] == 1, flip(lambda l: l.completion + 2, 1)),
     ("step 19: false told as true", "completion", lambda l: level(19, 1)(l) and l.bytes[l.completion + 2] == 0, flip(lambda l: l.completion + 2, 1)),

@@ -8,11 +8,18 @@ import { readFileSync } from 'node:fs';
 const source = ['1-records.js', '2-world.js', '3-engine.js'].map((file) => readFileSync(new URL(`engines/${file}`, import.meta.url), 'utf8')).join('\n');
 const engine = new Function(`${source}
   let told;
-  line = (kind, room, record, given, expected) => { told = expected; };
+  line = (kind, room, record, given, expected) => { told = told ?? expected; };
   newWorld();
   return {
-    step(record, given) { if (!doStep(record, given, 9 * 256)) throw new Error('a property cannot be taken back'); return told; },
-    enter(text) { doEnter(text); return told; },
+    // a sheet with unread answers is performed without them, and that is taken back
+    step(record, given) {
+      const copies = copied(), before = world.dump;
+      told = undefined;
+      if (!doStep(record, given, 9 * 256)) throw new Error('a property cannot be taken back');
+      if (told.outcome === 0 && world.dump !== before) { world.dump = before; keep(restored(copies)); }
+      return told;
+    },
+    enter(text) { told = undefined; doEnter(text); return told; },
     refused,
   };`)();
 

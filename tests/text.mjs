@@ -269,6 +269,7 @@ const refused = (number, cells) => put(cellsLine(cells), `0 ${number} 0 0 -`);
 // A step, performed by node. `number` is the message that a TypeError has; false, and no line, where it is a TypeError and no number is given. Step 18: Object.freeze
 // and Object.seal throw where it answers false, which is where the last answer was a false of the preventExtensions trap; a false of defineProperty is
 // message 32. Node says so too, and asks for nothing after it.
+// A sheet with answers that nothing takes is refused as 13; the same step with the others follows.
 function step(code, o, parts = {}, sheet = [], number = 0) {
   const it = objects[o], copies = code === 18 ? copied() : null;
   [calls, used, answers, rejected] = [0, 0, sheet, null];
@@ -295,7 +296,9 @@ function step(code, o, parts = {}, sheet = [], number = 0) {
     else row = `2 ${number} ${used} ${calls + (/revoked/.test(e.message) ? 1 : 0)} -`;
   }
   if (number !== 0 && !row.startsWith(`2 ${number} `)) throw new Error(`line ${lines.length + 1}: message ${number} was meant, not ${row}`);
-  put(cellsLine(shorten({ ...cells, sheet: sheetHex(answers) })), row);
+  const fits = row[0] === '0' || used === answers.length;
+  if (!fits) refused(13, shorten({ ...cells, sheet: sheetHex(answers) }));
+  put(cellsLine(shorten({ ...cells, sheet: sheetHex(fits ? answers : answers.slice(0, used)) })), row);
   if (copies && row[0] === '0') restored(copies);
   return true;
 }
@@ -404,7 +407,7 @@ function brokenLines() {
   changed('sheet', '006200', { step: '0f', descriptor: zeros(28) + '01' });
 }
 
-// Lines at the greatest length. The sheets are valid: lists and values that nothing takes.
+// Lines at the greatest length. The sheets are valid: lists and values that nothing takes, so that the step is refused as 13 once the line is read.
 function longLines() {
   const lists = (keys) => [0, 1, 2, 3].map((i) => keys + i >> 2).map((n) => '03' + little(n, 2) + zeros(9 * n)).join('');
   const sheet = (keys, values) => byte(4 + values) + lists(keys) + ('01' + zeros(9)).repeat(values);
@@ -418,12 +421,12 @@ function longLines() {
     throw new Error(`no line of ${length} characters`);
   };
   const asks = { step: '06', object: '00' };
-  const answered = '1 0 0 1 02' + little(1, 8);
-  put(padded(asks, LONGEST - 2), answered);
-  put(padded(asks, LONGEST), answered);                                               // the longest line
+  const unread = '0 13 0 0 -';
+  put(padded(asks, LONGEST - 2), unread);
+  put(padded(asks, LONGEST), unread);                                               // the longest line
   broken(padded({ ...asks, key: zeros(9) }, LONGEST + 1));                            // one character more
   broken(padded(asks, LONGEST + 2));
-  put(padded({ ...asks, key: zeros(9) }, LONGEST - 1), answered);
+  put(padded({ ...asks, key: zeros(9) }, LONGEST - 1), unread);
   const making = cellsLine({ step: '01', value: '01' + zeros(8) });
   for (const before of [LONGEST - 1, LONGEST, LONGEST + 1, 2 * LONGEST, 5 * LONGEST + 1]) broken('-'.repeat(before) + making);   // a valid line as its rest
   broken(making.padEnd(LONGEST, ' '));

@@ -50,9 +50,11 @@ static void check(bool holds, const char *what)
 #define LENGTH(number, slice) (empty & 1u << (number) ? 0 : sizeof(slice) / sizeof(slice)[0])
 #define LEND(number, part) AT(number, lent.part), LENGTH(number, lent.part)
 
+static size_t sheet_length;
+
 static void step(void)
 {
-    demnyaluz_step(LEND(0, words), LEND(1, strings), LEND(2, step), LEND(3, sheet), LEND(4, output), lent.report);
+    demnyaluz_step(LEND(0, words), LEND(1, strings), LEND(2, step), AT(3, lent.sheet), LENGTH(3, lent.sheet) ? sheet_length : 0, LEND(4, output), lent.report);
 }
 
 static void enter_string(void)
@@ -191,14 +193,21 @@ static const struct demnyaluz_step_parts steps[] = {
 };
 enum { MADE = sizeof made / sizeof made[0], STEPS = sizeof steps / sizeof steps[0], OUTPUT = 1u << 4 };
 
+/* The sheet has its one answer, or none. */
+static void answer(bool one)
+{
+    before.sheet[0] = one;
+    sheet_length = one ? sizeof before.sheet : 1;
+}
+
 static void prepare(void)
 {
     static const char lines[] = "step object key value receiver descriptor sheet\n01 00 - 010000000000000000 - - -\n";
     static const uint16_t visits[] = {'v', 'i', 's', 'i', 't', 's'};
     memset(&before, 0xee, sizeof before);
-    before.sheet[0] = 1;
     before.sheet[1] = DEMNYALUZ_ANSWER_VALUE;
     demnyaluz_write_value(before.sheet + 2, sealed.value);
+    answer(false);
     memcpy(before.piece, lines, sizeof before.piece);
     memcpy(before.units, visits, sizeof before.units);
     demnyaluz_write_descriptor(before.descriptor, &sealed);
@@ -218,10 +227,17 @@ int main(void)
     past = block + 1;
     prepare();
     for (size_t i = 0; i < STEPS; i++) {
+        const bool asks = steps[i].code == DEMNYALUZ_CODE_GET && steps[i].object == 2;
         demnyaluz_write_step(before.step, &steps[i]);
+        answer(asks);
         compare(step, 5, "a step");
         run(step, OUTPUT, true);
         check(i + 1 < STEPS ? is_result() : is_refused(DEMNYALUZ_REFUSAL_OUTPUT_TOO_SMALL), "a step without an output");
+        answer(!asks);
+        compare(step, 5, "a step with another sheet");
+        run(step, OUTPUT, true);
+        check(is_refused(asks ? DEMNYALUZ_REFUSAL_SHEET_SPENT : DEMNYALUZ_REFUSAL_UNREAD_ANSWERS), "a sheet that does not fit");
+        check(memcmp(lent.words, before.words, sizeof lent.words) == 0, "a store that is left");
     }
     compare(enter_string, 2, "a string");
     run(enter_string, 1u << 1, true);

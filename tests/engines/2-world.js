@@ -304,7 +304,9 @@ function emptied() {
   line(0, 0, [], [], nothing);
 }
 
-// A step. `given` is a sheet's bytes, or a function that makes each answer when it is asked for; `after` adds answers that nothing asks for.
+// A step. `given` is a sheet's bytes, or a function that makes each answer when it is asked for; `after` adds answers that nothing asks for. An engine knows
+// no unread answers, so a sheet that has some is left out: a line says that it is refused as 13, and the next has the same step with the answers that were
+// read. A step that is refused for another reason keeps its number, with the answers that nothing asked for too; but 13 comes before 11.
 // True where the engine's objects are still those of the store.
 function doStep(record, given, room, after) {
   const growing = typeof given === 'function', before = counts();
@@ -314,18 +316,24 @@ function doStep(record, given, room, after) {
   const s = n === 0 ? stepOf(record) : null;
   const copies = n === 0 && s.code === 18 ? copied() : null;
   let expected = n === 0 ? perform(s, room) : refused(n), whole = true;
+  const isShort = expected.numbers === 1 << 11 && expected.outcome === 0;
   let dump = dumpStore();
   if (copies !== null && expected.outcome === 0 && dump.text !== world.dump) dump = restored(copies);
-  if (dump.sizes.reduce((sum, n) => sum + n, 0) > FULL.properties) {
-    expected = refused(7);
-    whole = takeBack(dump.sizes, valueOf(s.key));
-  } else {
-    keep(dump);
-  }
+  const isFull = dump.sizes.reduce((sum, n) => sum + n, 0) > FULL.properties;
   if (growing) {
     for (const a of after || []) if (sheet.answers.length < FULL.answers) sheet.answers.push(a);
     given = sheetBytes(sheet.answers);
     if (sheetRefusal(given, before) !== 0) throw new Error('a sheet that was made is refused');
+  }
+  if (!isFull && (expected.outcome !== 0 || isShort) && sheet.used < sheet.answers.length) {
+    line(1, room, record, given, refused(13));
+    given = sheetBytes(sheet.answers.slice(0, sheet.used));
+  }
+  if (isFull) {
+    expected = refused(7);
+    whole = takeBack(dump.sizes, valueOf(s.key));
+  } else {
+    keep(dump);
   }
   line(1, room, record, given, expected);
   return whole;

@@ -353,20 +353,20 @@ function chosenStep(style) {
   return world.objects.length > 0 && chance(4) ? spoilt(s) : s;
 }
 
-// False where the world cannot go on.
-function step(style) {
+// At most `left` calls, of which a sheet with unread answers takes two. False where the world cannot go on.
+function step(style, left) {
   const whole = stepBytes(chosenStep(style)), record = asked(chance(2) ? damaged(whole) : whole);
   const made = record[1] < world.objects.length, lists = record[0] === 14 && made, levels = (record[0] === 18 || record[0] === 19) && made;
   if (lists && walk(record[1]) > 1500) record[0] = 6;
   if (levels && levelCalls(record[0], record[1]) > 2048) { record[0] = 6; record.fill(0, 11, 20); }
   const room = lists ? someRoom(record[1]) : random(4) * random(12);
-  if (chance(3)) {
+  if (left > 1 && chance(3)) {
     const bytes = sheetBytes(Array.from({ length: random(4) }, () => (world.objects.length > 0 && chance(30) ? spoiltAnswer() : anyAnswer())));
     return doStep(record, chance(60) ? damaged(bytes) : bytes, room);
   }
   const end = chance(8) ? random(4) : FULL.answers;       // where the sheet ends too soon
   let given = 0;
-  const extra = end === FULL.answers && chance(15) ? [anyAnswer(), anyAnswer()].slice(random(2)) : [];
+  const extra = left > 1 && end === FULL.answers && chance(15) ? [anyAnswer(), anyAnswer()].slice(random(2)) : [];
   const honest = levels ? pick([75, 90, 98]) : 0;
   return doStep(record, (asks) => (given++ < end ? (chance(honest) && trueAnswer(asks)) || someAnswer(asks) : null), room, extra);
 }
@@ -440,6 +440,6 @@ function someWorld(limit) {
     if (chance(3)) doEnter(someText());
     else if (style.levels && chance(25) && end - calls > 12 && world.objects.length + 3 <= FULL.objects) { if (!levelScene()) return; }
     else if (world.objects.length > 0 && chance(5)) stepAlone();
-    else if (!step(style)) return;
+    else if (!step(style, end - calls)) return;
   }
 }

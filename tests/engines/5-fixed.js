@@ -123,7 +123,7 @@ function fixedCalls() {
   run(13, crowd, { key: string(0) }); define(last, string(0), { configurable: true }); define(last, string(1), { configurable: true });
   run(7, last); define(last, string(1), { configurable: true });
   fixedLevels(enter, run, make, makeFunction, proxy, define);
-  for (const more of [fixedFunctions, fixedFunctionAnswers, fixedFunctionRefusals, fixedValidation]) more(enter, run, make, makeFunction, proxy, define);
+  for (const more of [fixedFunctions, fixedFunctionAnswers, fixedFunctionRefusals, fixedValidation, fixedUnread]) more(enter, run, make, makeFunction, proxy, define);
 }
 
 // Steps 18 and 19.
@@ -458,4 +458,68 @@ function fixedValidation(enter, run, make, makeFunction) {
     doAlone(closed, d, []); doAlone(open, d, bytes(data));
   }
   doAlone(open, bytes({ configurable: true }), bytes({ configurable: false }));
+}
+
+// Sheets with unread answers: every code and every ending; the refusals that come before 13, and 11, which comes after it.
+function fixedUnread(enter, run, make, makeFunction, proxy, define) {
+  const yes = answered(boolean(true)), no = answered(boolean(false)), s = symbol(3), all = (n) => Array.from({ length: n }, () => yes);
+  const open = (value) => ({ value, writable: true, enumerable: true, configurable: true });
+
+  emptied();
+  const a = enter('a'), b = enter('b'), f = makeFunction(), F = callable(f), o = make(), p = proxy(o), bare = proxy(o, 0), gone = proxy(o);
+  define(o, a, { value: integer(70000), enumerable: true, writable: false, configurable: false }); define(o, s, { get: F, set: F, configurable: true });
+  run(3, gone);
+  for (const rest of [[yes], [thrown(a)], [listed([a]), described({ value: a })], [answered(F), thrown(object(p)), no]]) {
+    const more = (...answers) => answers.concat(rest);
+    // nothing is asked for: what makes, what revokes, and every method over an ordinary object, a function and a proxy without traps
+    run(1, 0, { value: NULL }, rest); run(16, 0, { value: F }, rest); run(2, o, { value: integer(2047) }, rest); run(3, proxy(o), {}, rest); run(3, gone, {}, rest);
+    for (const n of [o, f, bare]) {
+      for (const code of [4, 6, 14]) run(code, n, {}, rest);
+      for (const code of [8, 10, 13]) run(code, n, { key: a }, rest);
+      for (const value of [NULL, F]) run(5, n, { value }, rest);
+      run(9, n, { key: a, descriptor: { value: integer(4464) } }, rest); run(9, n, { key: b, descriptor: open(a) }, rest); run(13, n, { key: b }, rest);
+      run(11, n, { key: a, receiver: F }, rest); run(12, n, { key: a, value: F, receiver: named(n) }, rest); run(12, n, { key: b, value: F, receiver: named(n) }, rest);
+      for (const level of [0, 1]) run(19, n, { value: integer(level) }, rest);
+    }
+    // a result, a TypeError and a throw; a getter and a setter
+    run(11, p, { key: a, receiver: NULL }, more(answered(float(70000)))); run(11, p, { key: a, receiver: NULL }, more(answered(integer(4464)))); run(11, p, { key: a }, more(thrown(F)));
+    run(4, p, {}, more(answered(a))); run(6, p, {}, more(no)); run(8, p, { key: b }, more(answered(UNDEFINED))); run(8, p, { key: a }, more(answered(UNDEFINED)));
+    run(11, o, { key: s, receiver: NULL }, more(yes)); run(12, o, { key: s, value: a, receiver: NULL }, more(no)); run(12, o, { key: s, value: a, receiver: NULL }, more(thrown(a)));
+    for (let code = 4; code <= 14; code++) run(code, gone, { key: code > 7 && code < 14 ? a : ZERO, value: code === 5 ? NULL : ZERO }, rest);
+    // 9 keeps its number; 8 has nothing unread; 13 comes before 11
+    run(8, p, { key: a }, more(listed([a]))); run(14, p, {}, more(described({}))); run(11, p, { key: a }); run(11, p, { key: a }, []);
+    run(14, o, {}, rest, 17); run(14, o, {}, rest, 18); run(14, o, {}, rest, 0); run(14, p, {}, more(listed([s, a])), 17); run(14, p, {}, more(listed([a, s])), 18); run(14, p, {}, more(listed([b, b])), 0);
+    // 1 to 4, over the step and over the sheet
+    run(4, 99, {}, rest); run(10, o, { key: NULL }, rest); run(9, o, { key: a, descriptor: { get: F, value: NULL } }, rest); run(6, o, {}, more(answered(object(99)))); run(6, o, {}, more(answered(string(99))));
+  }
+  // as many as a sheet holds, and one too many
+  run(6, o, {}, all(FULL.answers)); run(6, p, {}, all(FULL.answers)); run(6, p, {}, all(2)); run(6, p, {}, all(1)); doStep(stepBytes({ code: 6, object: o }), [65], 0);
+  // 10: a ring of prototypes
+  const ring = make(), back = proxy(ring, 0);
+  run(5, ring, { value: object(back) }, [yes]); run(10, ring, { key: a }, [yes]); run(11, back, { key: a, receiver: NULL }, all(3)); run(8, back, { key: a }, [yes]);
+  // step 18: what it changed comes back, whatever it would have ended in; then it is changed
+  emptied();
+  const [c, d] = ['c', 'd'].map(enter);
+  for (const level of [0, 1]) {
+    const filled = (mask) => { const n = make(); define(n, c, open(integer(1))); define(n, s, open(integer(2))); return proxy(n, mask); };
+    const set = (n, answers) => { run(18, n, { value: integer(level) }, answers); run(19, n, { value: integer(level) }, mayAsk(n) ? [] : [yes]); };
+    const mayAsk = (n) => world.objects[n].proxy && world.objects[n].mask !== 0;
+    const plain = filled(0), lists = filled(1024), defines = filled(32);
+    set(plain, [yes]); set(plain, all(7));
+    set(lists, [listed([c, s, d]), no]);                                                 // 26
+    set(lists, [thrown(c), yes]); set(lists, [listed([s, c]), yes]);
+    set(defines, [no, yes]);                                                             // 32
+    set(defines, [thrown(s), answered(a)]);
+    run(18, make(), { value: integer(level) }, [thrown(c)]); run(18, makeFunction(), { value: integer(level) }, [yes, no]);
+    run(18, lists, { value: integer(level) }, [yes, no]);                                // 9
+    run(7, make(), {}, [yes]); run(7, filled(0), {}, all(2)); run(7, filled(8), {}, [no, yes]); run(7, filled(8), {}, [yes, yes]);
+  }
+  // 7: the 33rd object, the 257th property
+  while (world.objects.length < FULL.objects) make();
+  run(1, 0, { value: NULL }, [yes]); run(16, 0, { value: NULL }, all(2)); run(2, 0, { value: integer(0) }, [thrown(c)]);
+  emptied();
+  const crowd = make(), last = make();
+  for (let i = 0; i < FULL.strings; i++) doEnter('k' + i);
+  for (let i = 0; i < FULL.properties; i++) define(crowd, string(i), { configurable: true });
+  define(last, string(0), { configurable: true }, [yes]); run(12, last, { key: string(1), value: NULL, receiver: object(last) }, all(2)); define(crowd, string(0), { value: NULL }, [yes]); run(14, crowd, {}, [yes], 9 * FULL.properties);
 }

@@ -137,7 +137,7 @@ fn main() {
     let (tally, bytes) = work.unwrap().join().unwrap();
     println!("{} calls and {bytes} bytes of text in {:.1} s, no difference", tally.calls, start.elapsed().as_secs_f64());
     println!("results {}, thrown {}", tally.results, tally.thrown);
-    println!("refusals 1 to 11: {:?}", &tally.refusals[1..]);
+    println!("refusals 1 to 13, of which 12 is of texts: {:?}", &tally.refusals[1..]);
     println!("messages 1 to 32: {:?}", &tally.messages[1..]);
     println!("validations by the first test that failed, 0 (none) to 8: {:?}", tally.tests);
     println!("steps of each code: {:?}", tally.steps().collect::<Vec<_>>());

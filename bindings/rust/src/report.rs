@@ -13,7 +13,7 @@ pub const REPORT_WORDS: usize = 10;
 /// Why a call was turned back. Store, strings and output are then as they were before it, and no answer and no call is reported.
 ///
 /// ```
-/// use demnyaluz::{Failure, Refusal, Store, Traps};
+/// use demnyaluz::{Answer, Failure, Refusal, Store, Traps};
 ///
 /// let mut store = Store::new();
 /// let object = store.make_object(None)?;
@@ -21,6 +21,9 @@ pub const REPORT_WORDS: usize = 10;
 /// // the trap has no answer
 /// assert_eq!(store.is_extensible(proxy, &[]), Err(Failure::Refused(Refusal::SheetSpent)));
 /// assert_eq!(Refusal::SheetSpent.number(), 8);
+/// // nothing takes the answer
+/// let unread = store.is_extensible(object, &[Answer::Value(true.into())]);
+/// assert_eq!(unread, Err(Failure::Refused(Refusal::UnreadAnswers)));
 /// # Ok::<(), Failure>(())
 /// ```
 #[derive(Clone, Copy, PartialEq, Eq, PartialOrd, Ord, Hash, Debug)]
@@ -52,6 +55,8 @@ pub enum Refusal {
     OutputTooSmall = 11,
     /// 12: a line of text breaks its form or has more than 16,384 characters.
     BrokenLine = 12,
+    /// 13: the step ends, in a result, a TypeError or a throw, and an answer was not read. It comes after 7 to 10, and before 11.
+    UnreadAnswers = 13,
 }
 
 impl Refusal {
@@ -75,6 +80,7 @@ impl Refusal {
         Refusal::TooManyCalls,
         Refusal::OutputTooSmall,
         Refusal::BrokenLine,
+        Refusal::UnreadAnswers,
     ];
 
     /// The number: 1 for the first.
@@ -112,6 +118,7 @@ impl fmt::Display for Refusal {
             Refusal::TooManyCalls => "more than 2048 calls",
             Refusal::OutputTooSmall => "the output is too small",
             Refusal::BrokenLine => "the line breaks its form or is too long",
+            Refusal::UnreadAnswers => "the sheet has unread answers",
         })
     }
 }

@@ -83,8 +83,9 @@ impl Store {
         store
     }
 
-    /// One step, whose traps, getters and setters take the answers in their order. Only a result changes the store, but for
-    /// [`Step::SetIntegrityLevel`], of which a TypeError or a throw leaves what was changed before it.
+    /// One step, whose traps, getters and setters take the answers in their order, all of them: an answer that is not read is
+    /// [`Refusal::UnreadAnswers`]. Only a result changes the store, but for [`Step::SetIntegrityLevel`], of which a TypeError or a throw leaves what
+    /// was changed before it.
     ///
     /// ```
     /// use demnyaluz::{Answer, Step, Store, Traps};

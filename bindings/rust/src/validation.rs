@@ -1,6 +1,6 @@
 //! The tests of ValidateAndApplyPropertyDescriptor, and which of them a step fails.
 use crate::descriptor::{Property, PropertyDescriptor};
-use crate::report::{Completion, Failure, Message};
+use crate::report::{Completion, Failure, Message, Refusal, Report};
 use crate::step::{Answer, Step, Traps};
 use crate::store::Store;
 use crate::value::{ObjectId, PropertyKey, Value};
@@ -142,14 +142,25 @@ impl Store {
     #[must_use]
     pub fn failed_test(&self, step: &Step, answers: &[Answer]) -> Option<ValidationTest> {
         match step {
-            Step::DefineOwnProperty { .. } | Step::GetOwnProperty { .. } => self.clone().rejection(step, answers),
+            Step::DefineOwnProperty { .. } | Step::GetOwnProperty { .. } => {
+                let mut store = self.clone();
+                let report = store.step(step, answers);
+                store.rejection(step, report, answers)
+            }
             _ => None,
         }
     }
 
-    /// The same, by performing the step.
-    fn rejection(&mut self, step: &Step, answers: &[Answer]) -> Option<ValidationTest> {
-        match (*step, self.step(step, answers).outcome) {
+    /// A step with as many of the answers as it reads.
+    fn step_on(&mut self, step: &Step, answers: &[Answer]) -> Report {
+        let spent = Err(Failure::Refused(Refusal::SheetSpent));
+        let ended = (0..answers.len()).map(|n| self.step(step, &answers[..n])).find(|r| r.outcome != spent);
+        ended.unwrap_or_else(|| self.step(step, answers))
+    }
+
+    /// The test that failed in a step, by its report; the answers are its own, and those after them.
+    fn rejection(&mut self, step: &Step, report: Report, answers: &[Answer]) -> Option<ValidationTest> {
+        match (*step, report.outcome) {
             (Step::DefineOwnProperty { object, key, descriptor }, Ok(Completion::Value(Value::Boolean(false)))) => {
                 match self.reached(object, Traps::DEFINE_PROPERTY) {
                     Reached::Ordinary(object) => self.first_failed(object, key, &descriptor, &[]),
@@ -163,13 +174,13 @@ impl Store {
             // after its own trap's answer, a trap of the target's property
             (Step::DefineOwnProperty { object, key, .. }, Err(Failure::TypeError(Message::UnexpectedProperty))) => {
                 let target = self.reached(object, Traps::DEFINE_PROPERTY).target()?;
-                self.rejection(&Step::GetOwnProperty { object: target, key }, answers.get(1..)?)
+                self.rejection_of_property(target, key, answers.get(1..)?)
             }
             (Step::GetOwnProperty { object, key }, Err(Failure::TypeError(Message::UnexpectedProperty))) => {
                 let (answer, rest) = answers.split_first()?;
                 let target = self.reached(object, Traps::GET_OWN_PROPERTY_DESCRIPTOR).target()?;
                 // the target is asked first, and may have a trap too
-                self.rejection(&Step::GetOwnProperty { object: target, key }, rest).or_else(|| {
+                self.rejection_of_property(target, key, rest).or_else(|| {
                     let Answer::Descriptor(answered) = answer else { return None };
                     let answered = self.complete(answered).ok()?.into();
                     self.first_failed(target, key, &answered, rest)
@@ -179,12 +190,19 @@ impl Store {
         }
     }
 
+    /// The test that failed in a \[\[GetOwnProperty]] that a step makes.
+    fn rejection_of_property(&mut self, object: ObjectId, key: PropertyKey, answers: &[Answer]) -> Option<ValidationTest> {
+        let step = Step::GetOwnProperty { object, key };
+        let report = self.step_on(&step, answers);
+        self.rejection(&step, report, answers)
+    }
+
     /// The first test that fails for a descriptor over a property of the object, which is asked for the property and then for its extensibility.
     fn first_failed(&mut self, object: ObjectId, key: PropertyKey, descriptor: &PropertyDescriptor, answers: &[Answer]) -> Option<ValidationTest> {
-        let report = self.step(&Step::GetOwnProperty { object, key }, answers);
+        let report = self.step_on(&Step::GetOwnProperty { object, key }, answers);
         let rest = answers.get(report.answers as usize..)?;
         let current = report.into_property().ok()?.map(PropertyDescriptor::from);
-        let extensible = self.is_extensible(object, rest).ok()?;
+        let extensible = self.step_on(&Step::IsExtensible { object }, rest).into_boolean().ok()?;
         self.validate(extensible, descriptor, current.as_ref()).ok()?.failed
     }
 

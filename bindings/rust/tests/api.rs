@@ -142,7 +142,8 @@ fn too_many_answers_or_keys_are_refused() {
     let p = store.make_proxy(o, Traps::OWN_KEYS).unwrap();
     let answers = vec![Answer::keys([]); 65];
     assert_eq!(store.own_property_keys(p, &answers), Err(Refusal::MalformedRecord.into()));
-    assert_eq!(store.own_property_keys(p, &answers[..64]), Ok(vec![]));
+    assert_eq!(store.own_property_keys(p, &answers[..64]), Err(Refusal::UnreadAnswers.into()));
+    assert_eq!(store.own_property_keys(p, &answers[..1]), Ok(vec![]));
     assert_eq!(store.own_property_keys(p, &vec![Answer::keys([]); 1000]), Err(Refusal::MalformedRecord.into()));
     let long = Answer::Keys(vec![Value::Null; 257]);
     assert_eq!(store.own_property_keys(p, &[long]), Err(Refusal::MalformedRecord.into()));
@@ -189,8 +190,9 @@ fn refusals_have_numbers_and_texts() {
         assert_eq!(Refusal::from_number(i as u64 + 1), Some(r));
         assert!(!r.to_string().is_empty());
     }
-    assert_eq!((Refusal::from_number(0), Refusal::from_number(13)), (None, None));
+    assert_eq!((Refusal::from_number(0), Refusal::from_number(14)), (None, None));
     assert_eq!(Failure::Refused(Refusal::SheetSpent).to_string(), "refused 8: the sheet has no next answer");
+    assert_eq!(Failure::Refused(Refusal::UnreadAnswers).to_string(), "refused 13: the sheet has unread answers");
 }
 
 #[test]
@@ -423,7 +425,7 @@ fn a_rejected_step_has_the_test_that_failed() {
         // an ordinary object, and a proxy without the traps, which uses no answer
         for object in [ordinary, forwarding] {
             assert_eq!(step_and_failed_test(&mut store, &define(object, key, descriptor), &[]), ("false".into(), Some(test)));
-            assert_eq!(step_and_failed_test(&mut store, &define(object, key, descriptor), &[no()]), ("false".into(), Some(test)));
+            assert_eq!(step_and_failed_test(&mut store, &define(object, key, descriptor), &[no()]), ("refused 13".into(), None));
         }
         for object in [trapping, before_trapping] {
             // a trap that accepts it: an absent property has a message of its own
@@ -464,7 +466,8 @@ fn a_rejected_step_has_the_test_that_failed() {
         (define(ordinary, data, fields! {}), vec![], "true"),
         (define(trapping, data, fixed), vec![yes()], "true"),
         (define(outermost, data, fixed), vec![yes(), told.clone(), no()], "true"),
-        (define(outermost, data, PropertyDescriptor::fixed(4_464)), vec![no(), told_other.clone()], "false"),
+        (define(outermost, data, PropertyDescriptor::fixed(4_464)), vec![no()], "false"),
+        (define(outermost, data, PropertyDescriptor::fixed(4_464)), vec![no(), told_other.clone()], "refused 13"),
         (define(outermost, data, fixed), vec![yes(), Answer::Throw(4_464.into())], "thrown 4464"),
         (define(outermost, data, fixed), vec![yes(), told.clone(), yes()], "TypeError 5"),
         (define(outermost, data, fixed), vec![yes()], "refused 8"),
@@ -478,7 +481,9 @@ fn a_rejected_step_has_the_test_that_failed() {
         (get(trapping, data), vec![told.clone()], &fixed.to_string()),
         // the other messages 10 and other steps
         (Step::HasProperty { object: trapping, key }, vec![no()], "TypeError 10"),
-        (Step::HasProperty { object: outermost, key }, vec![no(), told_other], "TypeError 10"),
+        (Step::HasProperty { object: outermost, key }, vec![no(), told_other.clone()], "TypeError 10"),
+        (get(outermost, data), vec![told_other.clone(), told.clone(), no(), no()], "refused 13"),
+        (get(trapping, data), vec![told_other, told.clone()], "refused 13"),
         (Step::Set { object: ordinary, key, value: 4_464.into(), receiver: ordinary.into() }, vec![], "false"),
         (Step::Delete { object: ordinary, key }, vec![], "false"),
         (Step::MakeObject { prototype: None }, vec![], "o7"),
@@ -696,7 +701,8 @@ fn proxies_are_sealed_and_frozen() {
     assert_eq!((report.outcome, report.answers, report.calls), (Ok(Completion::Value(yes())), 8, 2 + (3 + 6) + 6 * 3));
     // one that says otherwise of a property
     sheet[3] = Answer::Descriptor(PropertyDescriptor { configurable: Some(true), ..frozen[1].into() });
-    assert_eq!(store.is_frozen(handled, &sheet), Err(Failure::TypeError(Message::UnexpectedProperty)));
+    assert_eq!(store.is_frozen(handled, &sheet), Err(Refusal::UnreadAnswers.into()));
+    assert_eq!(store.is_frozen(handled, &sheet[..4]), Err(Failure::TypeError(Message::UnexpectedProperty)));
     // the order of the keys is the handler's
     let mut reversed = vec![Answer::from(no()), Answer::keys(keys.iter().rev().copied())];
     reversed.extend(told().rev());
@@ -731,6 +737,8 @@ fn what_cannot_be_made_non_extensible_is_not_sealed() {
     for level in [IntegrityLevel::Sealed, IntegrityLevel::Frozen] {
         let step = Step::SetIntegrityLevel { object: p, level };
         let report = store.step(&step, &answers![no(), yes()]);
+        assert_eq!((report.outcome, report.answers, report.calls), (Err(Refusal::UnreadAnswers.into()), 0, 0));
+        let report = store.step(&step, &answers![no()]);
         assert_eq!((report.outcome, report.answers, report.calls), (Ok(Completion::Value(no())), 1, 1));
         let report = store.step(&step, &answers![yes()]);
         assert_eq!((report.outcome, report.answers, report.calls), (Err(Failure::TypeError(Message::StillExtensible)), 1, 2));
@@ -765,7 +773,10 @@ fn a_definition_that_is_rejected_is_message_32() {
         let p = store.make_proxy(inner, Traps::NONE).unwrap();
         let before = store.clone();
         let step = Step::SetIntegrityLevel { object: p, level };
-        let report = store.step(&step, &answers![yes(), no(), yes()]);
+        // an answer more, and all is as it was
+        assert_eq!(store.step(&step, &answers![yes(), no(), yes()]).outcome, Err(Refusal::UnreadAnswers.into()));
+        assert_eq!(store, before);
+        let report = store.step(&step, &answers![yes(), no()]);
         let reads = if level == IntegrityLevel::Frozen { 2 * 3 } else { 0 };
         assert_eq!((report.outcome, report.answers), (Err(Failure::TypeError(Message::DefinitionRejected)), 2));
         assert_eq!(report.calls, 3 + 3 + reads + (2 + 2) + 2);
@@ -774,7 +785,7 @@ fn a_definition_that_is_rejected_is_message_32() {
         assert_ne!(store, before);
         assert_eq!(store, expected);
         // the same with true over a property that is configurable
-        let report = store.step(&step, &answers![yes(), yes(), yes()]);
+        let report = store.step(&step, &answers![yes(), yes()]);
         assert_eq!((report.outcome, report.answers), (Err(Failure::TypeError(Message::DefinedUnexpectedConfigurable)), 2));
         assert_eq!(store, expected);
     }
@@ -799,7 +810,12 @@ fn what_was_frozen_before_a_throw_or_a_type_error_stays() {
         let inner = store.make_proxy(o, Traps::GET_OWN_PROPERTY_DESCRIPTOR).unwrap();
         let p = store.make_proxy(inner, Traps::NONE).unwrap();
         let mut expected = store.clone();
-        let report = store.step(&Step::SetIntegrityLevel { object: p, level: IntegrityLevel::Frozen }, &[whole(1).into(), second, whole(3).into()]);
+        let step = Step::SetIntegrityLevel { object: p, level: IntegrityLevel::Frozen };
+        // an answer more, and nothing stays
+        let report = store.step(&step, &[whole(1).into(), second.clone(), whole(3).into()]);
+        assert_eq!(report.outcome, Err(Refusal::UnreadAnswers.into()));
+        assert_eq!(store, expected);
+        let report = store.step(&step, &[whole(1).into(), second]);
         assert_eq!((report.outcome, report.answers), (Err(failure), 2));
         assert_eq!(properties(&mut store, o, &keys), [data(1, false, true, false), data(2, true, true, true), data(3, true, true, true)]);
         assert_eq!(store.is_extensible(o, &[]), Ok(false));
@@ -922,9 +938,11 @@ fn functions_are_numbered_among_the_objects() {
     assert_eq!(store.make_object(Some(FunctionId(0).into())), Ok(ObjectId(1)));
     assert_eq!(store.make_proxy(ObjectId(1), Traps::ALL), Ok(ObjectId(2)));
     for (n, prototype) in [(3, ObjectId(1).into()), (4, ObjectId(2).into()), (5, FunctionId(0).into()), (6, FunctionId(5).into())] {
-        // answers that are left over are only read
-        let report = store.step(&Step::MakeFunction { prototype: Some(prototype) }, &answers![yes(), Value::from(FunctionId(0))]);
-        assert_eq!(told(&report), made(n));
+        // nothing reads answers
+        let step = Step::MakeFunction { prototype: Some(prototype) };
+        let report = store.step(&step, &answers![yes(), Value::from(FunctionId(0))]);
+        assert_eq!(told(&report), (Err(Refusal::UnreadAnswers.into()), 0, 0));
+        assert_eq!(told(&store.step(&step, &[])), made(n));
         assert_eq!(store.get_prototype_of(FunctionId(n), &[]), Ok(Some(prototype)));
     }
     for n in [0, 3, 4, 5, 6] {
@@ -983,7 +1001,12 @@ fn functions_are_operands_as_objects_are() {
         let codes: HashSet<u8> = steps(o, o.into(), parent).iter().map(Step::code).collect();
         assert_eq!(codes, (4..=14).chain([18, 19]).collect());
         for (on_object, on_function) in steps(o, o.into(), parent).into_iter().zip(steps(f.into(), f.into(), parent)) {
-            let answers = answers![Value::from(0.5)];
+            // the getter alone asks for an answer
+            let asks = matches!(on_object, Step::Get { key, .. } if key == SymbolId(4).into());
+            let one = answers![Value::from(0.5)].to_vec();
+            let (answers, other) = if asks { (one, vec![]) } else { (vec![], one) };
+            let refused = Err(if asks { Refusal::SheetSpent } else { Refusal::UnreadAnswers }.into());
+            assert_eq!((store.step(&on_object, &other).outcome, store.step(&on_function, &other).outcome), (refused.clone(), refused));
             let expected = store.step(&on_object, &answers);
             assert!(expected.outcome.is_ok(), "{on_object}: {expected}");
             assert_eq!(store.step(&on_function, &answers), expected, "{on_function}");
@@ -1674,6 +1697,7 @@ fn enums_that_grow_are_not_exhaustive() {
             | R::TooManyCalls
             | R::OutputTooSmall
             | R::BrokenLine
+            | R::UnreadAnswers
     )));
     use Message as M;
     assert!(M::ALL.iter().all(|m| named!(

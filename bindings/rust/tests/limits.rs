@@ -298,18 +298,101 @@ fn answers_and_keys() {
     make(&mut pair);
     proxy(&mut pair, 0, 1024);
     let empty = || Answer::Keys(vec![]);
-    result(run(&mut pair, &step(14, 1, NONE, NONE), &vec![empty(); 64]));
+    refused(run(&mut pair, &step(14, 1, NONE, NONE), &vec![empty(); 64]), 13);
     refused(run(&mut pair, &step(14, 1, NONE, NONE), &vec![empty(); 65]), 1);
     let keys = |n: u64| Answer::Keys((0..n).map(Value::Symbol).collect());
     let Outcome::Result(Completion::Keys(listed)) = run(&mut pair, &step(14, 1, NONE, NONE), &[keys(256)]).outcome else { panic!() };
     assert_eq!(listed.len(), 256);
     refused(run(&mut pair, &step(14, 1, NONE, NONE), &[keys(257)]), 1);
     // the longest sheet
-    assert_eq!(result(run(&mut pair, &step(14, 1, NONE, NONE), &vec![keys(256); 64])).answers, 1);
+    refused(run(&mut pair, &step(14, 1, NONE, NONE), &vec![keys(256); 64]), 13);
     let sheet = sheet_bytes(&[keys(256)]);
     result(pair.step(&step(14, 1, NONE, NONE), &sheet, 9 * 256).report);
     refused(pair.step(&step(14, 1, NONE, NONE), &sheet, 9 * 256 - 1).report, 11);
     result(pair.step(&step(14, 0, NONE, NONE), &[0], 0).report);
+    // an unread answer comes before too small an output
+    let sheet = sheet_bytes(&[keys(256), empty()]);
+    refused(pair.step(&step(14, 1, NONE, NONE), &sheet, 9 * 256 - 1).report, 13);
+    refused(pair.step(&step(14, 1, NONE, NONE), &sheet, 9 * 256).report, 13);
+}
+
+#[test]
+fn as_many_answers_as_a_sheet_holds() {
+    let fixed = Descriptor::data(Value::Integer32(70_000), false, true, false);
+    let mut pair = Pair::new();
+    make(&mut pair);
+    for n in 0..62 {
+        result(run(&mut pair, &define(0, Value::Symbol(n), fixed), &[]));
+    }
+    result(run(&mut pair, &step(7, 0, NONE, NONE), &[]));
+    proxy(&mut pair, 0, 2047);
+    let is_frozen = step(19, 1, NONE, Value::Integer32(1));
+    let mut answers = vec![Answer::Value(Value::Boolean(false)), Answer::Keys((0..62).map(Value::Symbol).collect())];
+    answers.resize(64, Answer::Descriptor(fixed));
+    assert_eq!(result(run(&mut pair, &is_frozen, &answers)).answers, 64);
+    refused(run(&mut pair, &is_frozen, &answers[..63]), 8);
+    // false once the first is told, and all the others are unread
+    answers[0] = Answer::Value(Value::Boolean(true));
+    assert!(matches!(run(&mut pair, &is_frozen, &answers).outcome, Outcome::Refused(13)));
+    assert!(matches!(run(&mut pair, &is_frozen, &answers[..1]).outcome, Outcome::TypeError(5)));
+}
+
+/// Whatever a step would end in, an unread answer refuses it; what is refused before keeps its number.
+#[test]
+fn unread_answers() {
+    let spare = [Answer::Value(Value::Null), Answer::Throw(Value::Undefined), Answer::Keys(vec![]), Answer::Descriptor(Descriptor::default())];
+    for spare in &spare {
+        let mut pair = Pair::new();
+        make(&mut pair);
+        proxy(&mut pair, 0, 2047);
+        result(run(&mut pair, &define(0, Value::Symbol(0), Descriptor::data(Value::Integer32(70_000), false, true, false)), &[]));
+        let level = Value::Integer32(1);
+        // steps that ask for nothing
+        for (code, key, value) in [
+            (1, NONE, Value::Null),
+            (16, NONE, Value::Null),
+            (2, NONE, Value::Integer32(0)),
+            (5, NONE, Value::Null),
+            (18, NONE, level),
+            (19, NONE, level),
+        ]
+        .into_iter()
+        .chain([4, 6, 7, 14].map(|code| (code, NONE, NONE)))
+        .chain([8, 9, 10, 11, 12, 13].map(|code| (code, Value::Symbol(0), NONE)))
+        {
+            let before = pair.words.clone();
+            refused(run(&mut pair, &step(code, 0, key, value), std::slice::from_ref(spare)), 13);
+            assert_eq!(pair.words, before, "code {code}");
+        }
+        refused(run(&mut pair, &step(3, 1, NONE, NONE), std::slice::from_ref(spare)), 13);
+        // a result, a TypeError and a throw, with the answer that each reads
+        let get = step(11, 1, Value::Symbol(0), NONE);
+        for (first, refusal) in [
+            (Answer::Value(Value::Integer32(70_000)), 13),
+            (Answer::Value(Value::Integer32(4_464)), 13),
+            (Answer::Throw(Value::Null), 13),
+            (Answer::Keys(vec![]), 9),
+        ] {
+            refused(run(&mut pair, &get, &[first.clone(), spare.clone()]), refusal);
+            refused(run(&mut pair, &get, &[first, spare.clone(), spare.clone()]), refusal);
+        }
+        refused(run(&mut pair, &get, &[]), 8);
+        // 2 and 3 come before, and so does 7
+        refused(run(&mut pair, &step(6, 9, NONE, NONE), std::slice::from_ref(spare)), 2);
+        refused(run(&mut pair, &step(3, 0, NONE, NONE), std::slice::from_ref(spare)), 3);
+        while pair.world.objects.len() < 32 {
+            make(&mut pair);
+        }
+        for code in [1, 16] {
+            refused(run(&mut pair, &step(code, 0, NONE, Value::Null), std::slice::from_ref(spare)), 7);
+        }
+        // what step 18 wrote comes back
+        let before = pair.words.clone();
+        refused(run(&mut pair, &step(18, 0, NONE, level), std::slice::from_ref(spare)), 13);
+        assert_eq!(pair.words, before);
+        result(run(&mut pair, &step(18, 0, NONE, level), &[]));
+        assert_ne!(pair.words, before);
+    }
 }
 
 /// -0 is not +0, 1 is 1.0, and all NaNs are alike: over a fixed value, and through a get trap.

@@ -256,7 +256,7 @@ fn rows_that_do_not_belong_to_the_calls_are_errors() {
         (format!("{ROWS}01 0 1 0 0 -\n"), 0, malformed(1, "object", "01 0 1 0 0 -", "expected a decimal number as line, found '01'")),
         (format!("{ROWS}1 +1 0 0 0 -\n"), 0, malformed(1, "object", "1 +1 0 0 0 -", "expected a decimal number as outcome, found '+1'")),
         (format!("{ROWS}1 4 0 0 0 -\n"), 0, malformed(1, "object", "1 4 0 0 0 -", "expected outcome 0 to 3, found 4")),
-        (format!("{ROWS}1 0 13 0 0 -\n"), 0, malformed(1, "object", "1 0 13 0 0 -", "expected the number of a refusal, found 13")),
+        (format!("{ROWS}1 0 14 0 0 -\n"), 0, malformed(1, "object", "1 0 14 0 0 -", "expected the number of a refusal, found 14")),
         (format!("{ROWS}1 2 33 0 0 -\n"), 0, malformed(1, "object", "1 2 33 0 0 -", "expected the number of a message, found 33")),
         (format!("{ROWS}1 0 7 0 1 -\n"), 0, malformed(1, "object", "1 0 7 0 1 -", "expected no answers and no calls with a refusal, found 0 and 1")),
         (format!("{ROWS}1 0 7 65 1 -\n"), 0, malformed(1, "object", "1 0 7 65 1 -", "expected at most 64 answers, found 65")),

@@ -1,9 +1,8 @@
 -- The steps of the proved rows are accepted, and those by every method over an ordinary object with room. Assumes nothing.
 use Prim.Native.Nat.{ℕ, _*_, _≤_}
-use mathlib.Core.Path.{_≡_, refl, ap, _∙_}
-use mathlib.Core.Bool.{Bool, true, false, not}
-use mathlib.Core.Option.{none}
-use mathlib.Core.List.{List}
+use mathlib.Core.Path.{_≡_, refl, ap, subst}
+use mathlib.Core.Bool.{true, false, not}
+use mathlib.Core.List.{List, []}
 use lib.ListN.{length}
 use borrow.Author.Tests.{lt-ltb, le-leb}
 use Rattle.value.specs.declared.PropertyKey.{PropertyKey}
@@ -15,15 +14,17 @@ use Rattle.internal_methods.specs.Monad.{Answer, State, state, Out, done, M, pu
 use Rattle.internal_methods.specs.Methods.{Written}
 use Rattle.internal_methods.specs.Ordinary.{isFull}
 use Rattle.internal_methods.proofs.OrdinaryRuns.{Completes, own-run, prototype-run, extensible-run, keys-run, setPrototypeOf-completes, preventExtensions-completes, delete-completes, defineOwnProperty-completes, hasProperty-completes, get-completes, set-completes}
+use Rattle.internal_methods.proofs.Longer.{Suffix, same, left}
 use Rattle.record.specs.Bytes.{valueSize}
 use Rattle.record.specs.Sheet.{sheetOf}
-use Rattle.steps.specs.Operation.{Operation}
-use Rattle.steps.specs.Sequence.{written}
+use Rattle.steps.specs.Operation.{Operation, asked}
+use Rattle.steps.specs.Sequence.{Ran, written}
 use Rattle.steps.specs.Perform.{Result, ownResult, boolean, maximumCalls, Run, once, reading, writing, perform}
-use Rattle.steps.specs.Response.{Effect}
-use Rattle.steps.specs.Step.{contextOf, outputHolds, completed, ran}
+use Rattle.steps.specs.Step.{contextOf, outputHolds, ran}
 use Rattle.demands.specs.Accepts.{rowRuns, acceptedAll, Plain, OnPlain, by-getPrototypeOf, by-setPrototypeOf, by-isExtensible, by-preventExtensions, by-getOwnProperty, by-defineOwnProperty, by-hasProperty, by-get, by-set, by-delete, by-ownPropertyKeys, PlainAccepted}
-use Rattle.steps.proofs.Steps.{step-is}
+use Rattle.steps.proofs.Sequences.{joined}
+use Rattle.steps.proofs.Lifted.{perform-longer}
+use Rattle.steps.proofs.Steps.{step-done}
 
 -- The proved rows ---------------------------------------------------------------------------
 
@@ -81,11 +82,16 @@ module _ (ω : World) (o : ℕ) (k : PropertyKey) (plain : Plain ω o k) (output
   fits by-delete = writes output _ _ (delete-completes (contextOf ω) o (plain .object) (plain .found) a 2046 2046 k)
   fits by-ownPropertyKeys = reads output _ _ _ (keys-run (contextOf ω) o (plain .object) (plain .found) a 2047 2047) (le-leb _ _ large)
 
+-- of no answers none are left
+empty-left : {l : List Answer} → Suffix l [] → l ≡ []
+empty-left same = refl
+
 -- every method over an ordinary object with room ends in a result, in any world
 pub plain-accepted : (ω : World) (bytes sheet output : List ℕ) → PlainAccepted ω bytes sheet output
 unfolding ran
 plain-accepted ω bytes sheet output = record {
-  accepts = λ o k passes plain on large.
+  accepts = λ o k passes empty plain on large.
       let f = fits ω o k plain output (sheetOf sheet) large on in
-      (f .given, ap (λ (x : Effect). x .response .ending) (step-is ω bytes sheet output none _ passes (f .is)) ∙ ap (λ (b : Bool). completed ω (sheetOf sheet) output (f .store) (f .given) (f .rest) b .response .ending) (f .holds));
+      let rest = subst (λ (x : Ran Result). Suffix (left (joined (x .1) (x .0))) (sheetOf sheet)) (f .is) (perform-longer maximumCalls (contextOf ω) (asked bytes) .shrinks (state (sheetOf sheet) maximumCalls)) in
+      (f .given, step-done ω bytes sheet output _ _ _ passes (f .is) (empty-left (subst (Suffix (f .rest .answers)) empty rest)) (f .holds));
 }

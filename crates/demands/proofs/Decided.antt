@@ -11,26 +11,27 @@ use lib.ListN.{length}
 use borrow.Author.Tests.{ltb-false, leb-true, leb-false, le-leb, lt-leb, le-ltb}
 use Rattle.text.specs.Strings.{Entry, entering, numberOf, enter, maximumLength, maximumStrings}
 use Rattle.text.specs.Strings as entry
-use Rattle.store.specs.Store.{Store, World}
+use Rattle.store.specs.Store.{Store, World, maximumProperties}
 use Rattle.internal_methods.specs.declared.Failure.{Failure}
-use Rattle.internal_methods.specs.declared.Failure.the-variants.{Refused, TypeError}
+use Rattle.internal_methods.specs.declared.Failure.the-variants.{Refused, TypeError, Thrown}
 use Rattle.internal_methods.specs.Monad.{Answer, State, state, Out, failed, done}
 use Rattle.internal_methods.proofs.StoreClosed.{Closed}
 use Rattle.internal_methods.proofs.Budget as met
-use Rattle.internal_methods.proofs.Longer.{Suffix, spent-reads-all}
+use Rattle.internal_methods.proofs.Longer.{Suffix, spent-reads-all, unread-free}
 use Rattle.internal_methods.proofs.Longer as longer
+use Rattle.record.specs.Bytes.{byteAt}
 use Rattle.record.specs.Sheet.{sheetOf}
 use Rattle.record.specs.Tests.{firstFailing}
 use Rattle.steps.specs.Operation.{Level, setIntegrityLevel, asked}
 use Rattle.steps.specs.Sequence.{Ran}
 use Rattle.steps.specs.Perform.{Result, maximumCalls, perform}
-use Rattle.steps.specs.Response.{Ending, refused, result, typeError, Effect}
-use Rattle.steps.specs.Step.{contextOf, recordTests, refusing, withStore, completed, endedWith, ran, step, callsMade}
+use Rattle.steps.specs.Response.{Ending, refused, result, typeError, thrown, Effect}
+use Rattle.steps.specs.Step.{contextOf, recordTests, refusing, outputHolds, withStore, responding, unread, ended, ran, runWith, step, callsMade}
 use Rattle.steps.specs.StringEntry.{enterString}
 use Rattle.steps.specs.Run.{Call, worldAt}
-use Rattle.demands.specs.Refusals.{Refusal, inadmissible, full, spent, unreadable, exhausted, short, Accepted, by-result, by-typeError, by-throw, MayWrite, Unless, otherwise, LeftOf, leftIn, StepDecided, EntryRefusal, long, EntryDecided}
+use Rattle.demands.specs.Refusals.{Accepted, by-result, by-typeError, by-throw, endingOf, leftIn, leaving, Refusal, inadmissible, full, spent, unreadable, exhausted, short, MayWrite, Unless, otherwise, LeftOf, StepDecided, EntryRefusal, long, EntryDecided}
 use Rattle.demands.specs.Refusals as refusal
-use Rattle.steps.proofs.Made.{names-made}
+use Rattle.steps.proofs.Made.{names-made, sheet-counted}
 use Rattle.steps.proofs.Sequences.{joined, settled, Once, performs-once}
 use Rattle.steps.proofs.Performs.{Fails, Performs, crowded, method, rejected, performs}
 use Rattle.steps.proofs.Lifted.{perform-longer}
@@ -72,6 +73,36 @@ left-is : (σ : Store) (x : Out Result) → longer.left (joined σ x) ≡ leftIn
 left-is σ (failed f s) = refl
 left-is σ (done r s) = refl
 
+-- the same end of a run, with and without the store
+left-unjoined : (others : List Answer) (σ τ : Store) (x y : Out Result) → joined σ x ≡ longer.leaving others (joined τ y) → x ≡ leaving others y
+left-unjoined others σ τ (failed f s) (failed g t) e =
+    let i : _≡_ {A = Out (Result × Store)} (failed f s) (failed g (state others (t .calls))) = e in
+    let p : f ≡ g = cc in
+    let q : s ≡ state others (t .calls) = cc in
+    rw (p, q)
+left-unjoined others σ τ (failed f s) (done r t) e = absurd (false≢true cc)
+left-unjoined others σ τ (done r s) (failed g t) e = absurd (false≢true cc)
+left-unjoined others σ τ (done r s) (done l t) e =
+    let i : _≡_ {A = Out (Result × Store)} (done (r, σ) s) (done (l, τ) (state others (t .calls))) = e in
+    let p : _≡_ {A = Result × Store} (r, σ) (l, τ) = cc in
+    let q : s ≡ state others (t .calls) = cc in
+    rw (ap (λ (x : Result × Store). x .0) p, q)
+
+not-spent : (σ : Store) (x : Out Result) (t : State) → Accepted (endingOf x) → joined σ x ≡ failed (Refused 8) t → ⊥
+not-spent σ (failed (TypeError n) s) t a e = false≢true cc
+not-spent σ (failed (Thrown v) s) t a e = false≢true cc
+not-spent σ (done r s) t a e = false≢true cc
+
+-- where a run ended, the answers left are unread
+unread-left : (x : Out Result) → Accepted (endingOf x) → unread x ≡ leftIn x
+unread-left (failed (TypeError n) s) a = refl
+unread-left (failed (Thrown v) s) a = refl
+unread-left (done r s) a = refl
+
+left-leaving : (others : List Answer) (x : Out Result) → leftIn (leaving others x) ≡ others
+left-leaving others (failed f s) = refl
+left-leaving others (done r s) = refl
+
 spent-met : (ω : World) (s : State) → Fails (contextOf ω) (Refused 8) s → s .answers ≡ []
 spent-met ω s (method τ (met.spent e)) = e
 
@@ -92,6 +123,19 @@ module _ (ω : World) (bytes sheet output : List ℕ) (closed : Closed (ω .stor
   errs n s (method τ (met.error m i j)) = by-typeError n i (le-trans j (le-suc 31))
   errs n s rejected = by-typeError 32 (omega arith) (le-refl 32)
 
+  -- an end with unread answers
+  unread-refusal : (a : Answer) (rest : List Answer) → firstFailing (recordTests ω bytes sheet) ≡ none → Accepted (endingOf (ran ω bytes sheet .0)) → leftIn (ran ω bytes sheet .0) ≡ a ∷ rest
+      → Refusal ω bytes sheet output 13
+  unfolding ran
+  unread-refusal a rest p accepted e =
+      let m = settled (perform maximumCalls (contextOf ω) (asked bytes)) in
+      let x = perform maximumCalls (contextOf ω) (asked bytes) .run (state (sheetOf sheet) maximumCalls) in
+      let left : longer.left (joined (x .1) (x .0)) ≡ a ∷ rest = left-is (x .1) (x .0) ∙ e in
+      let split = suffix-left (subst (λ (l : List Answer). Suffix l (sheetOf sheet)) left (perform-longer maximumCalls (contextOf ω) (asked bytes) .shrinks (state (sheetOf sheet) maximumCalls))) in
+      refusal.unread (split .taken) a rest p (sym (split .splits)) accepted (λ others. left-unjoined others (runWith ω bytes maximumProperties (split .taken ++ others) maximumCalls .1) (x .1) (runWith ω bytes maximumProperties (split .taken ++ others) maximumCalls .0) (x .0)
+      (unread-free m (perform-longer maximumCalls (contextOf ω) (asked bytes)) (split .taken) maximumCalls a rest (joined (x .1) (x .0)) (ap (λ (l : List Answer). m .run (state l maximumCalls)) (split .splits)) left
+      (λ t q. not-spent (x .1) (x .0) t accepted q) others))
+
   abbrev ending : Ending
   ending = step ω bytes sheet output .response .ending
 
@@ -99,10 +143,26 @@ module _ (ω : World) (bytes sheet output : List ℕ) (closed : Closed (ω .stor
   ends-in : {x : Out Result} {σ : Store} → ran ω bytes sheet ≡ (x, σ) → ran ω bytes sheet .0 ≡ x
   ends-in e = ap (λ (y : Ran Result). y .0) e
 
+  -- every answer was read
+  abbrev Consumed : Effect → Type 0
+  Consumed e = (leftIn (ran ω bytes sheet .0) ≡ []) × (e .response .answers ≡ byteAt sheet 0)
+
+  consumed : (s : State) (e : Ending) → firstFailing (recordTests ω bytes sheet) ≡ none → leftIn (ran ω bytes sheet .0) ≡ s .answers → s .answers ≡ []
+      → (leftIn (ran ω bytes sheet .0) ≡ []) × (responding e (sheetOf sheet) s .answers ≡ byteAt sheet 0)
+  consumed s e p l u = (l ∙ u, rw u (omega (arith, sheet-counted ω bytes sheet p)))
+
+  -- how a run ended that left answers unread
+  ended-unread : (x : Out Result) (a : Answer) (rest : List Answer) → firstFailing (recordTests ω bytes sheet) ≡ none → ran ω bytes sheet .0 ≡ x → unread x ≡ a ∷ rest
+      → Accepted (endingOf x) × (leftIn x ≡ a ∷ rest)
+  ended-unread (failed (Refused n) s) a rest p e u = absurd (false≢true cc)
+  ended-unread (failed (TypeError n) s) a rest p e u = (errs n s (ran-fails ω bytes sheet closed p _ s e), u)
+  ended-unread (failed (Thrown v) s) a rest p e u = (by-throw v, u)
+  ended-unread (done r s) a rest p e u = (by-result r, u)
+
   -- how the step ended, by demand 1's conditions
   data Shape : Effect → Type 0 where
     refuses : {n : ℕ} → Refusal ω bytes sheet output n → Shape (refusing n ω output)
-    accepts : {e : Effect} → Accepted (e .response .ending) → Unless (MayWrite (asked bytes) (e .response .ending)) (e .world ≡ ω)
+    accepts : {e : Effect} → Accepted (e .response .ending) → Consumed e → Unless (MayWrite (asked bytes) (e .response .ending)) (e .world ≡ ω)
         → Unless ((r : Result) × (e .response .ending ≡ result r)) (e .output ≡ output) → e .world .strings ≡ ω .strings → Shape e
 
   -- the store that a failure leaves is the one before, but for step 18
@@ -118,10 +178,11 @@ module _ (ω : World) (bytes sheet output : List ℕ) (closed : Closed (ω .stor
   shaped : {x : Effect} → Ends ω bytes sheet output x → Shape x
   shaped (how.inadmissible p) = refuses (inadmissible p)
   shaped (how.refuses {n = n} {s = s} p e) = refuses (met-refusal n s p (ends-in e) (ran-fails ω bytes sheet closed p _ s (ends-in e)))
-  shaped (how.errs {n = n} {s = s} {σ = σ} p e) = accepts (errs n s (ran-fails ω bytes sheet closed p _ s (ends-in e))) (failing _ s σ _ e (λ _ _ q. refusal.MayWrite.by-typeError n q)) (otherwise refl) refl
-  shaped (how.throws {v = v} {s = s} {σ = σ} p e) = accepts (by-throw v) (failing _ s σ _ e (λ _ _ q. refusal.MayWrite.by-throw v q)) (otherwise refl) refl
-  shaped (how.short p e h) = refuses (short p (ends-in e) h)
-  shaped (how.results {r = r} p e h) = accepts (by-result r) (Unless.is (refusal.MayWrite.by-result r)) (Unless.is (r, refl)) refl
+  shaped (how.errs {n = n} {s = s} {σ = σ} p e u) = accepts (errs n s (ran-fails ω bytes sheet closed p _ s (ends-in e))) (consumed s (typeError n) p (ap leftIn (ends-in e)) u) (failing _ s σ _ e (λ _ _ q. refusal.MayWrite.by-typeError n q)) (otherwise refl) refl
+  shaped (how.throws {v = v} {s = s} {σ = σ} p e u) = accepts (by-throw v) (consumed s (thrown v) p (ap leftIn (ends-in e)) u) (failing _ s σ _ e (λ _ _ q. refusal.MayWrite.by-throw v q)) (otherwise refl) refl
+  shaped (how.leaves {a = a} {rest = rest} p e) = let (accepted, l) = ended-unread _ a rest p refl e in refuses (unread-refusal a rest p accepted l)
+  shaped (how.short p e u h) = refuses (short p (ends-in e) u h)
+  shaped (how.results {r = r} {s = s} p e u h) = accepts (by-result r) (consumed s (result r) p (ap leftIn (ends-in e)) u) (Unless.is (refusal.MayWrite.by-result r)) (Unless.is (r, refl)) refl
 
   shape : Shape (step ω bytes sheet output)
   shape = shaped (ends ω bytes sheet output)
@@ -130,8 +191,20 @@ module _ (ω : World) (bytes sheet output : List ℕ) (closed : Closed (ω .stor
   ended-in q = ap (λ (x : Effect). x .response .ending) q
 
   -- a run by its end
-  run-ends : (x : Out Result) → firstFailing (recordTests ω bytes sheet) ≡ none → ran ω bytes sheet .0 ≡ x → step ω bytes sheet output ≡ endedWith ω (sheetOf sheet) output (ran ω bytes sheet .1) x
-  run-ends x p e = step-is ω bytes sheet output none _ p refl ∙ ap (endedWith ω (sheetOf sheet) output (ran ω bytes sheet .1)) e
+  run-ends : (x : Out Result) → firstFailing (recordTests ω bytes sheet) ≡ none → ran ω bytes sheet .0 ≡ x → step ω bytes sheet output ≡ ended ω (sheetOf sheet) output (x, ran ω bytes sheet .1)
+  run-ends x p e = step-is ω bytes sheet output none _ p refl ∙ ap (λ (y : Out Result). ended ω (sheetOf sheet) output (y, ran ω bytes sheet .1)) e
+
+  unread-ended : (x : Out Result) (σ : Store) (a : Answer) (rest : List Answer) → unread x ≡ a ∷ rest → ended ω (sheetOf sheet) output (x, σ) .response .ending ≡ refused 13
+  unread-ended x σ a rest e = rw e
+
+  short-ended : (r : Result) (s : State) (σ : Store) → s .answers ≡ [] → outputHolds r output ≡ false → ended ω (sheetOf sheet) output (done r s, σ) .response .ending ≡ refused 11
+  short-ended r s σ e h = rw (e, h)
+
+  -- the answers that were not used remain
+  remain : {a : Answer} {rest : List Answer} (used : List Answer) → sheetOf sheet ≡ used ++ (a ∷ rest)
+      → runWith ω bytes maximumProperties (used ++ (a ∷ rest)) maximumCalls .0 ≡ leaving (a ∷ rest) (ran ω bytes sheet .0) → leftIn (ran ω bytes sheet .0) ≡ a ∷ rest
+  unfolding ran
+  remain {a} {rest} used q h = ap (λ (l : List Answer). leftIn (runWith ω bytes maximumProperties l maximumCalls .0)) q ∙ (ap leftIn h ∙ left-leaving (a ∷ rest) (ran ω bytes sheet .0))
 
   -- a condition that holds refuses the step
   refused-by : (n : ℕ) → Refusal ω bytes sheet output n → ending ≡ refused n
@@ -141,27 +214,33 @@ module _ (ω : World) (bytes sheet output : List ℕ) (closed : Closed (ω .stor
   refused-by n (spent p e h) = ended-in (run-ends _ p e)
   refused-by n (unreadable used a r p q u e h) = ended-in (run-ends _ p e)
   refused-by n (exhausted p z h) = let (t, e) = exhausted-ran ω bytes sheet (h 1 (omega arith)) in ended-in (run-ends _ p e)
-  refused-by n (short {r = r} {s = s} p e h) = ended-in (run-ends _ p e ∙ ap (completed ω (sheetOf sheet) output (ran ω bytes sheet .1) r s) h)
+  refused-by n (refusal.unread used a rest p q accepted h) =
+      ended-in (run-ends _ p refl) ∙ unread-ended (ran ω bytes sheet .0) (ran ω bytes sheet .1) a rest (unread-left (ran ω bytes sheet .0) accepted ∙ remain used q (h (a ∷ rest)))
+  refused-by n (short {r = r} {s = s} p e u h) = ended-in (run-ends _ p e) ∙ short-ended r s (ran ω bytes sheet .1) u h
 
   only-by : (n : ℕ) (x : Effect) → Shape x → x .response .ending ≡ refused n → Refusal ω bytes sheet output n × (x ≡ refusing n ω output)
   only-by n x (refuses {n = m} r) h = let q : m ≡ n = refused-is m n h in (subst (Refusal ω bytes sheet output) q r, ap (λ (i : ℕ). refusing i ω output) q)
-  only-by n x (accepts a u o s) h = absurd (not-accepted n _ h a)
+  only-by n x (accepts a c u o s) h = absurd (not-accepted n _ h a)
 
   accepted-else : (x : Effect) → Shape x → ((n : ℕ) → Refusal ω bytes sheet output n → ⊥) → Accepted (x .response .ending)
   accepted-else x (refuses {n = m} r) none-holds = absurd (none-holds m r)
-  accepted-else x (accepts a u o s) none-holds = a
+  accepted-else x (accepts a c u o s) none-holds = a
 
   unchanged-in : (x : Effect) → Shape x → Unless (MayWrite (asked bytes) (x .response .ending)) (x .world ≡ ω)
   unchanged-in x (refuses r) = otherwise refl
-  unchanged-in x (accepts a u o s) = u
+  unchanged-in x (accepts a c u o s) = u
 
   unwritten-in : (x : Effect) → Shape x → Unless ((r : Result) × (x .response .ending ≡ result r)) (x .output ≡ output)
   unwritten-in x (refuses r) = otherwise refl
-  unwritten-in x (accepts a u o s) = o
+  unwritten-in x (accepts a c u o s) = o
 
   strings-in : (x : Effect) → Shape x → x .world .strings ≡ ω .strings
   strings-in x (refuses r) = refl
-  strings-in x (accepts a u o s) = s
+  strings-in x (accepts a c u o s) = s
+
+  consumed-in : (x : Effect) → Shape x → Accepted (x .response .ending) → Consumed x
+  consumed-in x (refuses {n = n} r) a = absurd (not-accepted n _ refl a)
+  consumed-in x (accepts a c u o s) _ = c
 
   abbrev later : List Answer → Ran Result
   later more = perform maximumCalls (contextOf ω) (asked bytes) .run (state (sheetOf sheet ++ more) maximumCalls)
@@ -180,6 +259,7 @@ module _ (ω : World) (bytes sheet output : List ℕ) (closed : Closed (ω .stor
     unchanged = unchanged-in _ shape;
     unwritten = unwritten-in _ shape;
     strings = strings-in _ shape;
+    consumes = consumed-in _ shape;
     reads = λ e p more. all-read e p more;
     depth = λ p n h. ran-depth ω bytes sheet closed p n h;
   }

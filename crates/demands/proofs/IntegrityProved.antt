@@ -3,7 +3,7 @@ use Prim.Native.Nat.{ℕ, zero, suc, _+_, _*_, _-_, _≤_}
 use native.Mathlib.Omega.{arith}
 use mathlib.Core.Path.{_≡_, refl, sym, ap, _∙_, subst}
 use mathlib.Core.Bool.{Bool, true, false, not, cond, _&&_, _||_, false≢true, true≢false}
-use mathlib.Core.Option.{none, some}
+use mathlib.Core.Option.{some}
 use mathlib.Core.List.{List, [], _∷_}
 use lib.ListN.{length}
 use borrow.Author.Tests.{eq-eqb}
@@ -46,10 +46,9 @@ use Rattle.steps.specs.SetIntegrityLevel
 use Rattle.steps.specs.TestIntegrityLevel.{isLoose, testProperties}
 use Rattle.steps.specs.TestIntegrityLevel
 use Rattle.steps.specs.Perform.{Result, boolean, once, inTurn, over, perform, maximumCalls}
-use Rattle.steps.specs.Response.{Effect}
 use Rattle.steps.specs.Step.{contextOf, ran, step}
 use Rattle.demands.specs.Integrity.{IsFixed, HasLevel, covers, IntegrityHolds}
-use Rattle.steps.proofs.Steps.{step-is, ends, resulted}
+use Rattle.steps.proofs.Steps.{step-done, ends, resulted}
 use Rattle.steps.proofs.Performed.{boolean-is}
 use Rattle.steps.proofs.Sequences.{Led, Leads, leads-pure, leads-fails, leads-reads, leads-writes, leads-bind, leads-if, meets-ensured}
 
@@ -497,21 +496,21 @@ integrity-holds ω bytes sheet output = record {
       let d = resulted (boolean true) (ends ω bytes sheet output) ending in
       let runs : perform maximumCalls (contextOf ω) (setIntegrityLevel o level) .run (state (sheetOf sheet) maximumCalls) ≡ (Out.done (boolean true) (d .rest), d .store) = ap (λ (x : Operation). perform maximumCalls (contextOf ω) x .run (state (sheetOf sheet) maximumCalls)) (sym asks) ∙ d .runs in
       subst (λ (υ : World). HasLevel level (υ .store) o) (sym (d .world)) (perform-sets maximumCalls (contextOf ω) o level r found _ (d .rest) (d .store) runs);
-  succeeds = λ o level r found passes asks fits.
+  succeeds = λ o level r found passes empty asks fits.
       let ks = ordinaryOwnPropertyKeys (ω .strings) (ω .store) o in
       let m = maximumCalls - (2 + spent (contextOf ω) o level (sheetOf sheet) 2046 ks) in
       let counts : suc (suc (spent (contextOf ω) o level (sheetOf sheet) 2046 ks + m)) ≡ maximumCalls = omega (arith, fits, spent-few (contextOf ω) o level (sheetOf sheet) 2046 ks) in
       let s = perform-succeeds (contextOf ω) o level (sheetOf sheet) 2046 r found m in
       let runs : ran ω bytes sheet ≡ (Out.done (boolean true) (state (sheetOf sheet) m), s .0) = ap (λ (x : Operation). perform maximumCalls (contextOf ω) x .run (state (sheetOf sheet) maximumCalls)) asks
       ∙ (ap (λ (i : ℕ). perform maximumCalls (contextOf ω) (setIntegrityLevel o level) .run (state (sheetOf sheet) i)) (sym counts) ∙ s .1) in
-      ap (λ (x : Effect). x .response .ending) (step-is ω bytes sheet output none _ passes runs);
+      step-done ω bytes sheet output _ _ _ passes runs empty refl;
   means = λ o level r found asks ending.
       let d = resulted (boolean true) (ends ω bytes sheet output) ending in
       perform-means maximumCalls (contextOf ω) o level r found _ (d .rest) (d .store) (ap (λ (x : Operation). perform maximumCalls (contextOf ω) x .run (state (sheetOf sheet) maximumCalls)) (sym asks) ∙ d .runs);
-  tells = λ o level tested has covered passes asks fits.
+  tells = λ o level tested has covered passes empty asks fits.
       let m = maximumCalls - (2 + length (ordinaryOwnPropertyKeys (ω .strings) (ω .store) o)) in
       let counts : suc (suc (length (ordinaryOwnPropertyKeys (ω .strings) (ω .store) o) + m)) ≡ maximumCalls = omega (arith, fits) in
       let runs : ran ω bytes sheet ≡ (Out.done (boolean true) (state (sheetOf sheet) m), ω .store) = ap (λ (x : Operation). perform maximumCalls (contextOf ω) x .run (state (sheetOf sheet) maximumCalls)) asks
       ∙ (ap (λ (i : ℕ). perform maximumCalls (contextOf ω) (testIntegrityLevel o tested) .run (state (sheetOf sheet) i)) (sym counts) ∙ perform-tells (contextOf ω) o level tested has covered (sheetOf sheet) 2047 m) in
-      ap (λ (x : Effect). x .response .ending) (step-is ω bytes sheet output none _ passes runs);
+      step-done ω bytes sheet output _ _ _ passes runs empty refl;
 }

@@ -3,7 +3,7 @@ use Prim.Native.Nat.{ℕ, _<_, zero-le}
 use mathlib.Core.Path.{_≡_, refl, sym, ap, _∙_, subst}
 use mathlib.Core.Bool.{Bool, true, false, not, _&&_, Bool·beq, false≢true}
 use mathlib.Core.Option.{none, some}
-use mathlib.Core.List.{List}
+use mathlib.Core.List.{List, []}
 use lib.Dec.{ltb}
 use lib.ListN.{length}
 use borrow.Author.Tests.{ltb-true, lt-ltb}
@@ -102,10 +102,10 @@ module _ (ω : World) where
       sym j ∙ (ap (λ (z : Bool). result.value (named z (length (ω .store .objects)))) (sym (function-new (ω .store) y b)) ∙ ap (λ (τ : Store). result.value (nameOf τ (length (ω .store .objects)))) k)
   object-named r t σ (MakesOut.crowded e) i = not-made i
 
-  made-ends : (answers : List Answer) (output : List ℕ) {s : State} {x : Ran Result} → MakesOut (contextOf ω) maximumCalls s x → length (ω .store .objects) < maximumObjects
+  made-ends : (answers : List Answer) (output : List ℕ) {s : State} {x : Ran Result} → s .answers ≡ [] → MakesOut (contextOf ω) maximumCalls s x → length (ω .store .objects) < maximumObjects
       → (r : Result) × (ended ω answers output x .response .ending ≡ ending.result r)
-  made-ends answers output (MakesOut.made y b e) h = (_, refl)
-  made-ends answers output (MakesOut.crowded e) h = absurd (false≢true (sym e ∙ lt-ltb _ _ h))
+  made-ends answers output u (MakesOut.made y b e) h = (result.value (named b (length (ω .store .objects))), rw u)
+  made-ends answers output u (MakesOut.crowded e) h = absurd (false≢true (sym e ∙ lt-ltb _ _ h))
 
   function-made : (v : Value) (s : State) (r : Result) (t : State) (σ : Store) → perform maximumCalls (contextOf ω) (makeFunction v) .run s ≡ (Out.done r t, σ)
       → (r ≡ result.value (value.Function (length (ω .store .objects)))) × IsFunction σ (length (ω .store .objects)) v
@@ -122,8 +122,8 @@ module _ (ω : World) where
 pub object-made : (ω : World) (bytes sheet output : List ℕ) → ObjectMade ω bytes sheet output
 unfolding ran
 object-made ω bytes sheet output = record {
-  succeeds = λ m p h.
-      let (r, e) = made-ends ω (sheetOf sheet) output (perform-makes (contextOf ω) maximumCalls maximumProperties (asked bytes) m (state (sheetOf sheet) maximumCalls)) h in
+  succeeds = λ m p u h.
+      let (r, e) = made-ends ω (sheetOf sheet) output u (perform-makes (contextOf ω) maximumCalls maximumProperties (asked bytes) m (state (sheetOf sheet) maximumCalls)) h in
       (r, ap (λ (x : Effect). x .response .ending) (step-is ω bytes sheet output none _ p refl) ∙ e);
   named = λ r m e.
       let d = resulted r (ends ω bytes sheet output) e in

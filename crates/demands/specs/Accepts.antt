@@ -18,6 +18,7 @@ use Rattle.store.specs.declared.Object.the-variants.{Ordinary}
 use Rattle.store.specs.Store.{World, lookup, own, maximumProperties}
 use Rattle.store.specs.OwnKeys.{ordinaryOwnPropertyKeys}
 use Rattle.record.specs.Bytes.{valueSize}
+use Rattle.record.specs.Sheet.{sheetOf}
 use Rattle.record.specs.Tests.{firstFailing}
 use Rattle.steps.specs.Operation.{Operation, getPrototypeOf, setPrototypeOf, isExtensible, preventExtensions, getOwnProperty, defineOwnProperty, hasProperty, get, set, delete, ownPropertyKeys, asked}
 use Rattle.steps.specs.Perform.{Result}
@@ -71,7 +72,7 @@ pub data OnPlain (o : ℕ) (k : PropertyKey) : Operation → Type 0 where
   by-delete : OnPlain o k (delete o k)
   by-ownPropertyKeys : OnPlain o k (ownPropertyKeys o)
 
--- a step by one of them, whose records pass their tests and whose output holds the object's keys, ends in a result
+-- a step by one of them, whose records pass their tests, whose sheet is empty and whose output holds the object's keys, ends in a result
 pub record PlainAccepted (ω : World) (bytes sheet output : List ℕ) : Type 0 where
-  pub accepts : (o : ℕ) (k : PropertyKey) → firstFailing (recordTests ω bytes sheet) ≡ none → Plain ω o k → OnPlain o k (asked bytes)
+  pub accepts : (o : ℕ) (k : PropertyKey) → firstFailing (recordTests ω bytes sheet) ≡ none → sheetOf sheet ≡ [] → Plain ω o k → OnPlain o k (asked bytes)
       → valueSize * length (ordinaryOwnPropertyKeys (ω .strings) (ω .store) o) ≤ length output → (r : Result) × (step ω bytes sheet output .response .ending ≡ result r)

@@ -3,7 +3,7 @@ use Prim.Native.Nat.{ℕ, _+_, _*_, _≤_}
 use mathlib.Core.Path.{_≡_}
 use mathlib.Core.Bool.{Bool, true, false}
 use mathlib.Core.Option.{none, some}
-use mathlib.Core.List.{List}
+use mathlib.Core.List.{List, []}
 use lib.ListN.{length}
 use Rattle.value.specs.declared.PropertyKey.{PropertyKey}
 use Rattle.property.specs.declared.Property.{Property}
@@ -13,6 +13,7 @@ use Rattle.store.specs.declared.OrdinaryObject.{OrdinaryObject}
 use Rattle.store.specs.declared.Object.the-variants.{Ordinary}
 use Rattle.store.specs.Store.{Store, World, lookup, own}
 use Rattle.store.specs.OwnKeys.{ordinaryOwnPropertyKeys}
+use Rattle.record.specs.Sheet.{sheetOf}
 use Rattle.record.specs.Tests.{firstFailing}
 use Rattle.steps.specs.Operation.{Level, sealed, frozen, setIntegrityLevel, testIntegrityLevel, asked}
 use Rattle.steps.specs.Perform.{boolean, maximumCalls}
@@ -44,14 +45,14 @@ pub record IntegrityHolds (ω : World) (bytes sheet output : List ℕ) : Type 0 
   -- step 18 that answers true on an ordinary object leaves it with the level
   pub sets : (o : ℕ) (level : Level) (r : OrdinaryObject) → lookup (ω .store) o ≡ some (Ordinary r) → asked bytes ≡ setIntegrityLevel o level
       → step ω bytes sheet output .response .ending ≡ result (boolean true) → HasLevel level (step ω bytes sheet output .world .store) o
-  -- and it answers true, as far as calls reach: it makes two, and at most four for each key
-  pub succeeds : (o : ℕ) (level : Level) (r : OrdinaryObject) → lookup (ω .store) o ≡ some (Ordinary r) → firstFailing (recordTests ω bytes sheet) ≡ none
+  -- and it answers true if its sheet is empty, as far as calls reach: it makes two, and at most four for each key
+  pub succeeds : (o : ℕ) (level : Level) (r : OrdinaryObject) → lookup (ω .store) o ≡ some (Ordinary r) → firstFailing (recordTests ω bytes sheet) ≡ none → sheetOf sheet ≡ []
       → asked bytes ≡ setIntegrityLevel o level → 2 + 4 * length (ordinaryOwnPropertyKeys (ω .strings) (ω .store) o) ≤ maximumCalls
       → step ω bytes sheet output .response .ending ≡ result (boolean true)
   -- step 19 that answers true for an ordinary object found it with the level
   pub means : (o : ℕ) (level : Level) (r : OrdinaryObject) → lookup (ω .store) o ≡ some (Ordinary r) → asked bytes ≡ testIntegrityLevel o level
       → step ω bytes sheet output .response .ending ≡ result (boolean true) → HasLevel level (ω .store) o
-  -- and it answers true for an object with the level, as far as calls reach: it makes two, and one for each key
-  pub tells : (o : ℕ) (level tested : Level) → HasLevel level (ω .store) o → covers level tested ≡ true → firstFailing (recordTests ω bytes sheet) ≡ none
+  -- and it answers true for an object with the level if its sheet is empty, as far as calls reach: it makes two, and one for each key
+  pub tells : (o : ℕ) (level tested : Level) → HasLevel level (ω .store) o → covers level tested ≡ true → firstFailing (recordTests ω bytes sheet) ≡ none → sheetOf sheet ≡ []
       → asked bytes ≡ testIntegrityLevel o tested → 2 + length (ordinaryOwnPropertyKeys (ω .strings) (ω .store) o) ≤ maximumCalls
       → step ω bytes sheet output .response .ending ≡ result (boolean true)

@@ -4,7 +4,7 @@ use mathlib.Core.Path.{_≡_}
 use mathlib.Core.Logic.{_↔_}
 use mathlib.Core.Bool.{true, _&&_}
 use mathlib.Core.Option.{none, some}
-use mathlib.Core.List.{List}
+use mathlib.Core.List.{List, []}
 use lib.ListN.{length}
 use Rattle.value.specs.declared.Value.{Value}
 use Rattle.value.specs.declared.Value.the-variants.{Function}
@@ -13,6 +13,7 @@ use Rattle.store.specs.declared.OrdinaryObject.{OrdinaryObject}
 use Rattle.store.specs.declared.Object.{Object}
 use Rattle.store.specs.declared.Object.the-variants.{Ordinary}
 use Rattle.store.specs.Store.{Store, World, lookup, isFunction, nameOf, maximumObjects}
+use Rattle.record.specs.Sheet.{sheetOf}
 use Rattle.record.specs.Tests.{isMade, isKnown, firstFailing}
 use Rattle.steps.specs.Operation.{makeFunction, makesObject, asked}
 use Rattle.steps.specs.Perform.{Result, value}
@@ -31,8 +32,8 @@ pub record IsFunction (σ : Store) (n : ℕ) (prototype : Value) : Type 0 where
 
 -- a step that makes an object, from any world
 pub record ObjectMade (ω : World) (bytes sheet output : List ℕ) : Type 0 where
-  -- it ends in a result, if its records pass and there is room
-  pub succeeds : makesObject (asked bytes) ≡ true → firstFailing (recordTests ω bytes sheet) ≡ none → length (ω .store .objects) < maximumObjects
+  -- it ends in a result, if its records pass, its sheet is empty and there is room
+  pub succeeds : makesObject (asked bytes) ≡ true → firstFailing (recordTests ω bytes sheet) ≡ none → sheetOf sheet ≡ [] → length (ω .store .objects) < maximumObjects
       → (r : Result) × (step ω bytes sheet output .response .ending ≡ result r)
   -- its result is the name of the next number
   pub named : (r : Result) → makesObject (asked bytes) ≡ true → step ω bytes sheet output .response .ending ≡ result r

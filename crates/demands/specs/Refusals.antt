@@ -2,24 +2,46 @@
 use Prim.Native.Nat.{ℕ, suc, _+_, _-_, _≤_, _<_}
 use mathlib.Core.Path.{_≡_}
 use mathlib.Core.Logic.{_↔_}
-use mathlib.Core.Bool.{Bool, true, false}
-use mathlib.Core.Option.{Option, none, some}
+use mathlib.Core.Bool.{true, false}
+use mathlib.Core.Option.{none, some}
 use mathlib.Core.List.{List, [], _∷_, _++_}
-use lib.Dec.{ltb}
 use lib.ListN.{length}
 use Rattle.value.specs.declared.Value.{Value}
 use Rattle.text.specs.Strings.{numberOf, maximumLength, maximumStrings}
 use Rattle.store.specs.Store.{Store, World, maximumObjects, maximumProperties}
-use Rattle.internal_methods.specs.declared.Failure.the-variants.{Refused, Thrown}
+use Rattle.internal_methods.specs.declared.Failure.the-variants.{Refused, TypeError, Thrown}
 use Rattle.internal_methods.specs.Monad.{Answer, throw, State, state, Out, failed, done}
 use Rattle.internal_methods.specs.Readable.{Reading, isUnreadable}
+use Rattle.record.specs.Bytes.{byteAt}
 use Rattle.record.specs.Sheet.{sheetOf}
 use Rattle.record.specs.Tests.{firstFailing}
 use Rattle.steps.specs.Operation.{Level, Operation, setIntegrityLevel, makesObject, asked}
 use Rattle.steps.specs.Perform.{Result, boolean, maximumCalls, perform}
-use Rattle.steps.specs.Response.{Ending, refused, result, typeError, thrown, Response, Effect}
+use Rattle.steps.specs.Response.{Ending, refused, result, typeError, thrown}
 use Rattle.steps.specs.Step.{contextOf, recordTests, outputHolds, refusing, ran, runWith, callsMade, step}
 use Rattle.steps.specs.StringEntry.{enterString}
+
+-- a result, a TypeError by one of the 32 messages, or a throw
+pub data Accepted : Ending → Type 0 where
+  by-result : (r : Result) → Accepted (result r)
+  by-typeError : (n : ℕ) → 1 ≤ n → n ≤ 32 → Accepted (typeError n)
+  by-throw : (v : Value) → Accepted (thrown v)
+
+-- how a run ends, and the answers left then
+abbrev pub endingOf : Out Result → Ending
+endingOf (failed (Refused n) s) = refused n
+endingOf (failed (TypeError n) s) = typeError n
+endingOf (failed (Thrown v) s) = thrown v
+endingOf (done r s) = result r
+
+abbrev pub leftIn : Out Result → List Answer
+leftIn (failed f s) = s .answers
+leftIn (done r s) = s .answers
+
+-- the same end, with these answers left
+abbrev pub leaving : List Answer → Out Result → Out Result
+leaving rest (failed f s) = failed f (state rest (s .calls))
+leaving rest (done r s) = done r (state rest (s .calls))
 
 -- the refusals of docs/REFERENCE.md, by their numbers: each condition says why
 pub data Refusal (ω : World) (bytes sheet output : List ℕ) : ℕ → Type 0 where
@@ -40,14 +62,13 @@ pub data Refusal (ω : World) (bytes sheet output : List ℕ) : ℕ → Type 0 w
   -- 10: no call is left, and with any larger budget the same step makes more than 2,048
   exhausted : firstFailing (recordTests ω bytes sheet) ≡ none → callsMade maximumCalls (ran ω bytes sheet .0) ≡ maximumCalls
       → ((more : ℕ) → 0 < more → maximumCalls < callsMade (maximumCalls + more) (runWith ω bytes maximumProperties (sheetOf sheet) (maximumCalls + more) .0)) → Refusal ω bytes sheet output 10
-  -- 11: the keys take 9 bytes each, and the output has fewer
-  short : {r : Result} {s : State} → firstFailing (recordTests ω bytes sheet) ≡ none → ran ω bytes sheet .0 ≡ done r s → outputHolds r output ≡ false → Refusal ω bytes sheet output 11
-
--- a result, a TypeError by one of the 32 messages, or a throw
-pub data Accepted : Ending → Type 0 where
-  by-result : (r : Result) → Accepted (result r)
-  by-typeError : (n : ℕ) → 1 ≤ n → n ≤ 32 → Accepted (typeError n)
-  by-throw : (v : Value) → Accepted (thrown v)
+  -- 13: the run ends, and answers remain unread: whatever stands in their place, or nothing, the same step ends the same
+  unread : (used : List Answer) (a : Answer) (rest : List Answer) → firstFailing (recordTests ω bytes sheet) ≡ none → sheetOf sheet ≡ used ++ (a ∷ rest)
+      → Accepted (endingOf (ran ω bytes sheet .0))
+      → ((others : List Answer) → runWith ω bytes maximumProperties (used ++ others) maximumCalls .0 ≡ leaving others (ran ω bytes sheet .0)) → Refusal ω bytes sheet output 13
+  -- 11: every answer was read, the keys take 9 bytes each, and the output has fewer
+  short : {r : Result} {s : State} → firstFailing (recordTests ω bytes sheet) ≡ none → ran ω bytes sheet .0 ≡ done r s → s .answers ≡ [] → outputHolds r output ≡ false
+      → Refusal ω bytes sheet output 11
 
 -- what changes the store: a result, or a TypeError or a throw of step 18, which wrote before it
 pub data MayWrite (asks : Operation) : Ending → Type 0 where
@@ -65,11 +86,6 @@ pub record LeftOf (rest answers : List Answer) : Type 0 where
   pub taken : List Answer
   pub splits : taken ++ rest ≡ answers
 
--- the answers left where a run ended
-abbrev pub leftIn : Out Result → List Answer
-leftIn (failed f s) = s .answers
-leftIn (done r s) = s .answers
-
 -- what demand 1 says of one step
 pub record StepDecided (ω : World) (bytes sheet output : List ℕ) : Type 0 where
   -- the refusal is n exactly if the condition numbered n holds and none before it does
@@ -84,6 +100,8 @@ pub record StepDecided (ω : World) (bytes sheet output : List ℕ) : Type 0 whe
   pub unwritten : Unless ((r : Result) × (step ω bytes sheet output .response .ending ≡ result r)) (step ω bytes sheet output .output ≡ output)
   -- no step changes the strings
   pub strings : step ω bytes sheet output .world .strings ≡ ω .strings
+  -- an accepted step has read every answer, and reports as many as the sheet counts in its first byte
+  pub consumes : Accepted (step ω bytes sheet output .response .ending) → (leftIn (ran ω bytes sheet .0) ≡ []) × (step ω bytes sheet output .response .answers ≡ byteAt sheet 0)
   -- the sheet is spent only once all of it is read: with a longer one, whatever comes, all these answers are used
   pub reads : {s : State} → ran ω bytes sheet .0 ≡ failed (Refused 8) s → firstFailing (recordTests ω bytes sheet) ≡ none → (more : List Answer)
       → LeftOf (leftIn (perform maximumCalls (contextOf ω) (asked bytes) .run (state (sheetOf sheet ++ more) maximumCalls) .0)) more

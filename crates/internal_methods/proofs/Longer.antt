@@ -1,9 +1,12 @@
 -- What a longer list of answers changes: nothing, unless a method runs out of answers. Assumes nothing.
-use Prim.Native.Nat.{ℕ, zero, suc}
-use mathlib.Core.Path.{_≡_, refl, subst}
+use Prim.Native.Nat.{ℕ, zero, suc, _≤_}
+use native.Mathlib.Nat.{le-refl, le-suc, le-trans, not-suc-le-self}
+use native.Mathlib.Omega.{arith}
+use mathlib.Core.Path.{_≡_, refl, sym, ap, _∙_, subst}
 use mathlib.Core.Bool.{Bool, true, false}
 use mathlib.Core.Option.{Option, none, some}
 use mathlib.Core.List.{List, [], _∷_, _++_}
+use lib.ListN.{length, length-append}
 use Rattle.value.specs.declared.PropertyKey.{PropertyKey}
 use Rattle.property.specs.declared.OwnProperty.{OwnProperty}
 use Rattle.property.specs.declared.OwnProperty.the-variants.{Absent, Present}
@@ -32,6 +35,19 @@ pub suffix-trans : {a b c : List Answer} → Suffix a b → Suffix b c → Suffi
 suffix-trans h same = h
 suffix-trans h (more i) = more (suffix-trans h i)
 
+suffix-length : {a b : List Answer} → Suffix a b → length a ≤ length b
+suffix-length same = le-refl _
+suffix-length (more h) = le-trans (suffix-length h) (le-suc _)
+
+-- the answers after the first
+abbrev pub rest : List Answer → List Answer
+rest [] = []
+rest (x ∷ a) = a
+
+suffix-rest : {a : List Answer} (b : List Answer) → Suffix a (rest b) → Suffix a b
+suffix-rest [] h = h
+suffix-rest (x ∷ b) h = more h
+
 abbrev pub extended : List Answer → State → State
 extended x s = state (s .answers ++ x) (s .calls)
 
@@ -40,11 +56,16 @@ abbrev pub left : {A : Type 0} → Out A → List Answer
 left (Out.failed f t) = t .answers
 left (Out.done a t) = t .answers
 
--- how a run ends, and how it ends with the answers x after those that it has
+-- the same end, with these answers left
+abbrev pub leaving : {A : Type 0} → List Answer → Out A → Out A
+leaving x (Out.failed f t) = Out.failed f (state x (t .calls))
+leaving x (Out.done a t) = Out.done a (state x (t .calls))
+
+-- how a run ends, and how it ends with the answers x after those that it has; one that was spent reads the next of them
 pub data Follows (x : List Answer) {A : Type 0} : Out A → Out A → Type 0 where
   done : {a : A} {t : State} → Follows x (Out.done a t) (Out.done a (extended x t))
   failed : {f : Failure} {t : State} → Follows x (Out.failed f t) (Out.failed f (extended x t))
-  spent : {t : State} {o : Out A} → t .answers ≡ [] → Suffix (left o) x → Follows x (Out.failed (Refused 8) t) o
+  spent : {t : State} {o : Out A} → t .answers ≡ [] → Suffix (left o) (rest x) → Follows x (Out.failed (Refused 8) t) o
 
 pub record Longer {A : Type 0} (m : M A) : Type 0 where
   pub follows : (x : List Answer) (s : State) → Follows x (m .run s) (m .run (extended x s))
@@ -102,15 +123,15 @@ module _ {A : Type 0} {k : M A} where
   longer-throwAny none h = longer-bind (longer-pure _) (λ _. h refl)
   longer-throwAny (some n) h = longer-thrown k _
 
-ask-shrinks : (n : ℕ) (a : List Answer) → Suffix (left (answered n a)) a
-ask-shrinks n [] = same
-ask-shrinks n (Answer.value v ∷ a) = more same
-ask-shrinks n (Answer.descriptor d ∷ a) = more same
-ask-shrinks n (Answer.keys ks ∷ a) = more same
-ask-shrinks n (Answer.throw v ∷ a) = more same
+ask-takes : (n : ℕ) (a : List Answer) → Suffix (left (answered n a)) (rest a)
+ask-takes n [] = same
+ask-takes n (Answer.value v ∷ a) = same
+ask-takes n (Answer.descriptor d ∷ a) = same
+ask-takes n (Answer.keys ks ∷ a) = same
+ask-takes n (Answer.throw v ∷ a) = same
 
 ask-follows : (x : List Answer) (n : ℕ) (a : List Answer) → Follows x (answered n a) (answered n (a ++ x))
-ask-follows x n [] = spent refl (ask-shrinks n x)
+ask-follows x n [] = spent refl (ask-takes n x)
 ask-follows x n (Answer.value v ∷ a) = done
 ask-follows x n (Answer.descriptor d ∷ a) = done
 ask-follows x n (Answer.keys ks ∷ a) = done
@@ -120,7 +141,7 @@ pub longer-ask : Longer ask
 unfolding ask
 longer-ask = record {
   follows = λ x s. ask-follows x (s .calls) (s .answers);
-  shrinks = λ s. ask-shrinks (s .calls) (s .answers);
+  shrinks = λ s. suffix-rest (s .answers) (ask-takes (s .calls) (s .answers));
 }
 
 tick-shrinks : (a : List Answer) (n : ℕ) → Suffix (left (counted a n)) a
@@ -211,7 +232,7 @@ methods-longer n c = methods-by (longer-relation c)
     (record { reads = longer-fails _; writes = longer-fails _ })
     (record { reading = λ o _ f g. longer-dispatch (c .store) o f g; writing = λ o _ f g. longer-dispatch (c .store) o f g }) n
 
--- The consequence
+-- The consequences
 
 module _ {A : Type 0} (m : M A) (h : Longer m) (s : State) where
   -- a run that ends so ends as it does, or uses up its answers, with any answers after them
@@ -224,4 +245,29 @@ module _ {A : Type 0} (m : M A) (h : Longer m) (s : State) where
     where
       go : {o : Out A} → Follows x (Out.failed (Refused 8) t) o → Suffix (left o) x
       go failed = rw empty same
-      go (spent e h) = h
+      go (spent e h) = suffix-rest x h
+
+nothing-before : (a x : List Answer) → a ++ x ≡ x → a ≡ []
+nothing-before [] x e = refl
+nothing-before (y ∷ a) x e =
+    let z : length ((y ∷ a) ++ x) ≡ length x = ap length e in
+    absurd (not-suc-le-self (length x) (omega (arith, z, length-append (y ∷ a) x)))
+
+module _ {A : Type 0} (m : M A) (h : Longer m) (used : List Answer) (n : ℕ) where
+  -- what a run left it has not read: whatever stands in its place, the run ends the same
+  pub unread-free : (a : Answer) (x : List Answer) (o : Out A) → m .run (state (used ++ (a ∷ x)) n) ≡ o → left o ≡ a ∷ x → ((t : State) → o ≡ Out.failed (Refused 8) t → ⊥)
+      → (others : List Answer) → m .run (state (used ++ others) n) ≡ leaving others o
+  unread-free a x o e l unspent others = go (h .follows (a ∷ x) (state used n)) refl e
+    where
+      done-again : {b : A} {t : State} {q : Out A} → t .answers ≡ [] → Follows others (Out.done b t) q → q ≡ Out.done b (state others (t .calls))
+      done-again i done = rw i
+
+      failed-again : {f : Failure} {t : State} {q : Out A} → t .answers ≡ [] → (f ≡ Refused 8 → ⊥) → Follows others (Out.failed f t) q → q ≡ Out.failed f (state others (t .calls))
+      failed-again i j failed = rw i
+      failed-again i j (spent k s) = absurd (j refl)
+
+      go : {p q : Out A} → Follows (a ∷ x) p q → m .run (state used n) ≡ p → q ≡ o → m .run (state (used ++ others) n) ≡ leaving others o
+      go done i j = done-again (nothing-before _ _ (ap left j ∙ l)) (ends-follow m h (state used n) _ i others) ∙ ap (leaving others) j
+      go (failed {t = t}) i j = failed-again (nothing-before _ _ (ap left j ∙ l)) (λ k. unspent _ (sym j ∙ ap (λ (g : Failure). Out.failed g (extended (a ∷ x) t)) k)) (ends-follow m h (state used n) _ i others)
+          ∙ ap (leaving others) j
+      go (spent k s) i j = absurd (not-suc-le-self (length x) (suffix-length (subst (λ (y : List Answer). Suffix y x) (ap left j ∙ l) s)))

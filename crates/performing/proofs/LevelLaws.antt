@@ -1,37 +1,35 @@
 -- The end of a step that seals or freezes. Assumes nothing.
 use Prim.Native.Nat.{ℕ}
-use mathlib.Core.Path.{_≡_, refl, sym, ap, _∙_}
-use mathlib.Core.Bool.{Bool, true, false, false≢true}
+use mathlib.Core.Path.{_≡_, refl, ap, _∙_}
+use mathlib.Core.Bool.{Bool, false}
 use mathlib.Core.List.{List, [], _∷_}
 use types.Run.{OneOf, miss}
 use denote.Enum.Declared.{tagOf}
 use Rattle.value.specs.declared.Value.the-variants.{Boolean}
 use Rattle.store.specs.Store.{Store}
-use Rattle.store.specs.Words.{storeOf, worldOf}
-use Rattle.store_write.specs.Write.{Committed}
-use Rattle.internal_methods.specs.declared.Failure.{Failure}
-use Rattle.internal_methods.specs.declared.Failure.the-variants.{Refused, TypeError, Thrown}
-use Rattle.internal_methods.proofs.Failure.{the-type}
-use Rattle.internal_methods.specs.Monad.{State, failed, done}
+use Rattle.store.specs.Words.{worldOf}
 use Rattle.internal_methods.specs.Methods.{Context}
 use Rattle.internal_methods.specs.Internal.{methods}
 use Rattle.record.specs.Sheet.{sheetOf}
 use Rattle.calls.specs.declared.Progress.{Progress}
-use Rattle.calls.specs.Outs.{stateOf}
+use Rattle.calls.specs.declared.BooleanOut.{BooleanOut}
+use Rattle.calls.specs.declared.BooleanOut.the-variants.{Failed, Done}
+use Rattle.calls.specs.Outs.{stateOf, outBoolean}
 use Rattle.steps.specs.declared.Completion.the-variants.{Value}
 use Rattle.steps.specs.declared.Outcome.{Outcome}
 use Rattle.steps.specs.declared.Outcome.the-variants as outcome
+use Rattle.steps.proofs.Outcome.{the-type}
 use Rattle.steps.specs.declared.Report.{Report}
 use Rattle.steps.specs.Operation.{Level, setIntegrityLevel}
 use Rattle.steps.specs.Sequence.{Ran}
 use Rattle.steps.specs.Sequence as sequence
 use Rattle.steps.specs.SetIntegrityLevel
 use Rattle.steps.specs.Perform.{Result, boolean, inTurn, over, perform, maximumCalls}
-use Rattle.steps.specs.Response.{reportOf, refusal}
 use Rattle.steps.specs.Step.{ended}
-use Rattle.reporting.specs.Reports.{start, failureResponse, completionReport}
-use Rattle.reporting.specs.Memory.{Shown, shown, shownBy, WordsAfter}
-use Rattle.reporting.proofs.EndLaws.{isRefused}
+use Rattle.reporting.specs.Reports.{start, performedReport}
+use Rattle.reporting.specs.Memory.{Shown, shown, shownBy}
+use Rattle.reporting.proofs.EndLaws.{WordsLeft, fails-shown, completes-shown, isRefused}
+use Rattle.performing.specs.Results.{booleanResult}
 
 module _ (words cells sheet : List ℕ) (c : Context) (o : ℕ) (level : Level) (s : Progress) (e : s ≡ start sheet) (after : List ℕ) where
   -- 7.3.15, from the step's beginning
@@ -48,29 +46,19 @@ module _ (words cells sheet : List ℕ) (c : Context) (o : ℕ) (level : Level) 
   unfolding perform inTurn sequence._>>=_
   is-told output x h = ap (toldOf output) (h ∙ ap run e)
 
-  pub level-refused : (n : ℕ) (t : State) (σ : Store) (r : Report) → (failed (Refused n) t, σ) ≡ run s → r ≡ reportOf (refusal n) → after ≡ words
-      → (output : List ℕ) → shown r after cells output ≡ told output
-  unfolding sequence.next
-  level-refused n t σ r h q w output = rw (q, w) (is-told output (failed (Refused n) t, σ) h)
-
-  pub level-failed : (f : Failure) (t : State) (r : Report) → isRefused f ≡ false → (failed f t, storeOf after) ≡ run s → r ≡ reportOf (failureResponse (sheetOf sheet) f t)
-      → (output : List ℕ) → shown r after cells output ≡ told output
-  unfolding sequence.next
-  level-failed (Refused n) t r i h q output = absurd (false≢true (sym i))
-  level-failed (TypeError n) t r i h q output = rw q (is-told output (failed (TypeError n) t, storeOf after) h)
-  level-failed (Thrown v) t r i h q output = rw q (is-told output (failed (Thrown v) t, storeOf after) h)
-
-  pub level-done : (b : Bool) (t : State) (r : Report) → (done b t, storeOf after) ≡ run s → r ≡ completionReport (sheetOf sheet) (Value (Boolean b)) t
+  -- the words are those from before, or those that the run left, by the report
+  pub level-shown : (out : BooleanOut) (σ : Store) (r : Report) → (outBoolean sheet out, σ) ≡ run s → r ≡ performedReport sheet (booleanResult out) → WordsLeft (r .outcome) words after σ
       → (output : List ℕ) → shown r after cells output ≡ told output
   unfolding sequence.next sequence.pure
-  level-done b t r h q output = rw q (is-told output (done b t, storeOf after) h)
+  level-shown (Failed f t) σ r h q w output = rw q (fails-shown words cells output (sheetOf sheet) after σ f (stateOf sheet t) (rw q at w)) ∙ is-told output _ h
+  level-shown (Done b t) σ r h q w output = rw q (completes-shown words cells output (sheetOf sheet) after σ (Value (Boolean b)) (stateOf sheet t) refl (rw q at w)) ∙ is-told output _ h
 
--- the words after a result
-pub level-words : (words after : List ℕ) → Committed words after → (b : Bool) (o : Outcome) → o ≡ outcome.Result (Value (Boolean b)) → WordsAfter true o words after
-level-words words after c b o q = rw q (record { committed = c; one = λ i. absurd (false≢true (sym i)) })
+-- an outcome of the other three kinds is no refusal
+pub not-refused : (o : Outcome) → OneOf (1 ∷ 2 ∷ 3 ∷ []) (tagOf the-type o) → isRefused o ≡ false
+not-refused (outcome.Refused n) h = absurd (miss (1 ∷ 2 ∷ 3 ∷ []) 0 tt h)
+not-refused (outcome.Result c) h = refl
+not-refused (outcome.TypeError n) h = refl
+not-refused (outcome.Thrown v) h = refl
 
--- a failure of the other two kinds is no refusal
-pub not-refused : (f : Failure) → OneOf (1 ∷ 2 ∷ []) (tagOf the-type f) → isRefused f ≡ false
-not-refused (Refused n) h = absurd (miss (1 ∷ 2 ∷ []) 0 tt h)
-not-refused (TypeError n) h = refl
-not-refused (Thrown v) h = refl
+pub refused-left : (words after : List ℕ) (σ : Store) (o : Outcome) (n : ℕ) → o ≡ outcome.Refused n → after ≡ words → WordsLeft o words after σ
+refused-left words after σ o n e h = rw e h

@@ -13,6 +13,7 @@ use Rattle.value.specs.declared.KeyResult.the-variants.{Key, NotKey}
 use Rattle.value.specs.Answers.{keyResult}
 use Rattle.steps.specs.Operation.{keyOrFirst}
 use Rattle.value.specs.declared.Value.{Value}
+use Rattle.value.specs.declared.Value.the-variants as language
 use Rattle.property.specs.declared.OwnProperty.{OwnProperty}
 use Rattle.property.specs.declared.OwnProperty.the-variants.{Absent, Present}
 use Rattle.store.specs.Store.{Store}
@@ -30,12 +31,13 @@ use Rattle.calls.specs.declared.WriteOut.the-variants as write
 use Rattle.calls.specs.Outs.{stateOf, outValue, outBoolean, outOwnProperty, outWrite, Fitting}
 use Rattle.steps.specs.Perform.{once, reading, writing, ownResult}
 use Rattle.steps.specs.Perform as result
+use Rattle.steps.specs.declared.Completion.the-variants as completion
 use Rattle.steps.specs.declared.Report.{Report}
 use Rattle.steps.specs.Step.{ended}
 use Rattle.reporting.specs.Performed.{Taken, outPerformed}
 use Rattle.reporting.specs.Reports.{performedReport}
 use Rattle.reporting.specs.Memory.{shown, shownBy}
-use Rattle.reporting.proofs.EndLaws.{failing}
+use Rattle.reporting.proofs.EndLaws.{failing, completing}
 use Rattle.performing.specs.Results.{isReading, valueResult, booleanResult, ownPropertyResult, writeResult}
 
 -- the report of an operation that writes nothing shows its end
@@ -43,21 +45,21 @@ module _ (words cells sheet : List ℕ) (s : State) (r : Report) where
   pub value-told : (m : M Value) (out : ValueOut) → outValue sheet out ≡ m .run s → r ≡ performedReport sheet (valueResult out)
       → (output : List ℕ) → shown r words cells output ≡ shownBy (ended (worldOf words cells) (sheetOf sheet) output (once (storeOf words) (reading (storeOf words) result.value m) .run s))
   unfolding once pure next _>>=_
-  value-told m (value.Failed f t) e q output = rw (sym e, q) (sym (failing words cells sheet output f (stateOf sheet t)))
-  value-told m (value.Done v t) e q output = rw (sym e, q)
+  value-told m (value.Failed f t) e q output = rw (sym e, q) (failing words cells sheet output f (stateOf sheet t))
+  value-told m (value.Done v t) e q output = rw (sym e, q) (completing words cells sheet output (completion.Value v) (stateOf sheet t) refl)
 
   pub boolean-told : (m : M Bool) (out : BooleanOut) → outBoolean sheet out ≡ m .run s → r ≡ performedReport sheet (booleanResult out)
       → (output : List ℕ) → shown r words cells output ≡ shownBy (ended (worldOf words cells) (sheetOf sheet) output (once (storeOf words) (reading (storeOf words) result.boolean m) .run s))
   unfolding once pure next _>>=_
-  boolean-told m (boolean.Failed f t) e q output = rw (sym e, q) (sym (failing words cells sheet output f (stateOf sheet t)))
-  boolean-told m (boolean.Done b t) e q output = rw (sym e, q)
+  boolean-told m (boolean.Failed f t) e q output = rw (sym e, q) (failing words cells sheet output f (stateOf sheet t))
+  boolean-told m (boolean.Done b t) e q output = rw (sym e, q) (completing words cells sheet output (completion.Value (language.Boolean b)) (stateOf sheet t) refl)
 
   pub own-told : (m : M OwnProperty) (out : OwnPropertyOut) → outOwnProperty sheet out ≡ m .run s → r ≡ performedReport sheet (ownPropertyResult out)
       → (output : List ℕ) → shown r words cells output ≡ shownBy (ended (worldOf words cells) (sheetOf sheet) output (once (storeOf words) (reading (storeOf words) ownResult m) .run s))
   unfolding once pure next _>>=_
-  own-told m (own.Failed f t) e q output = rw (sym e, q) (sym (failing words cells sheet output f (stateOf sheet t)))
-  own-told m (own.Done Absent t) e q output = rw (sym e, q)
-  own-told m (own.Done (Present p) t) e q output = rw (sym e, q)
+  own-told m (own.Failed f t) e q output = rw (sym e, q) (failing words cells sheet output f (stateOf sheet t))
+  own-told m (own.Done Absent t) e q output = rw (sym e, q) (completing words cells sheet output completion.Absent (stateOf sheet t) refl)
+  own-told m (own.Done (Present p) t) e q output = rw (sym e, q) (completing words cells sheet output (completion.Descriptor p) (stateOf sheet t) refl)
 
 -- what an operation that may write leaves to be reported
 module _ (words sheet : List ℕ) (s : State) where

@@ -3,12 +3,9 @@ use crate::MAXIMUM_PROPERTIES;
 use crate::creation;
 use crate::reads;
 use byte_records::value_record;
-use calls::BooleanOut;
-use internal_methods::Failure;
 use reporting::MAXIMUM_CALLS;
-use steps::Completion;
+use steps::Outcome;
 use steps::Report;
-use value::Value;
 ghost use mathlib.Core.Path.{_≡_};
 ghost use mathlib.Core.Bool.{true};
 ghost use mathlib.Core.List.{List};
@@ -45,7 +42,7 @@ pub fn set_level(words: &mut [u64], strings: &[u16], sheet: &[u8], o: u64, froze
     let mut before = [0u64; 1635];
     store_write::copy_words(&mut before, words);
     let s = reporting::start(sheet);
-    match integrity::set_integrity_level(
+    let out = integrity::set_integrity_level(
         words,
         strings,
         MAXIMUM_PROPERTIES,
@@ -54,17 +51,15 @@ pub fn set_level(words: &mut [u64], strings: &[u16], sheet: &[u8], o: u64, froze
         frozen,
         MAXIMUM_CALLS,
         s,
-    ) {
-        BooleanOut::Failed(f, t) => match f {
-            Failure::Refused(n) => {
-                store_write::copy_words(words, &before);
-                reporting::refused(n)
-            }
-            _ => reporting::failed(sheet, f, t),
-        },
-        BooleanOut::Done(b, t) => {
-            reporting::completed(sheet, Completion::Value(Value::Boolean(b)), t)
+    );
+    let report = reads::boolean_result(sheet, out);
+    let outcome = report.outcome;
+    match outcome {
+        Outcome::Refused(_) => {
+            store_write::copy_words(words, &before);
+            report
         }
+        _ => report,
     }
 }
 

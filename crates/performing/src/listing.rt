@@ -27,7 +27,7 @@ ghost use Rattle.steps.specs.Step.{ended};
 ghost use Rattle.reporting.specs.Reports.{start};
 ghost use Rattle.reporting.specs.Memory.{shown, shownBy};
 
-// Refusal 11, or the keys in the output.
+// Refusal 13 or 11, or the keys in the output.
 fn write_out(
     words: &[u64],
     strings: &[u16],
@@ -40,6 +40,9 @@ fn write_out(
     requires { ⌜ Readable (now words) (now strings) × ((isSheet (now sheet) ≡ true) × (Loadable (now sheet) found × (256 ≤ length (now keys)))) ⌝ }
     ensures { λ r. ⌜ shown r (now (words .entry)) (now (strings .entry)) (now (output .exit)) ≡ shownBy (ended (worldOf (now (words .entry)) (now (strings .entry))) (sheetOf (now (sheet .entry))) (now (output .entry)) (done (result.keys (listedKeys (now (sheet .entry)) (stringsOf (now (strings .entry))) (storeOf (now (words .entry))) found)) (stateOf (now (sheet .entry)) s), storeOf (now (words .entry)))) ⌝ }
 {
+    if 0 < s.left {
+        return reporting::refused(13);
+    }
     let n = loading::load_list(words, strings, sheet, found, keys);
     if 9 * n <= output.len() {
         key_bytes::write_keys(keys, n, output);

@@ -1,2 +1,3 @@
 pub mod RoundTrip
 pub mod RefusalLaws
+pub mod SheetLength

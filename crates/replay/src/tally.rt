@@ -20,7 +20,10 @@ const DIFFERENCES: u64 = 110;
 
 const MESSAGE_COUNT: u64 = 32;
 
+// Refusals 1 to 11, and 13; 12 is of a line of a text, which no call is.
 const REFUSAL_COUNT: u64 = 11;
+
+const UNREAD: u64 = 13;
 
 fn place(at: u64) -> usize
     ensures { λ r. ⌜ r < 128 ⌝ }
@@ -92,6 +95,10 @@ fn missing(tally: &[u64; 128], a: u64, n: u64) -> u64
     zeros
 }
 
+fn missing_refusals(tally: &[u64; 128]) -> u64 {
+    missing(tally, REFUSALS, REFUSAL_COUNT) + missing(tally, REFUSALS + UNREAD - 1, 1)
+}
+
 fn print_message(tally: &[u64; 128], n: u64)
     requires { ⌜ n < 33 ⌝ }
 {
@@ -125,6 +132,7 @@ fn print_refusals(tally: &[u64; 128]) {
         print_refusal(tally, n);
         n += 1;
     }
+    print_refusal(tally, UNREAD);
 }
 
 pub fn print_tally(tally: &[u64; 128]) {
@@ -144,7 +152,7 @@ pub fn print_tally(tally: &[u64; 128]) {
     print(b"\n");
     io::print_decimal(1, missing(tally, 0, MESSAGE_COUNT));
     print(b" messages and ");
-    io::print_decimal(1, missing(tally, REFUSALS, REFUSAL_COUNT));
+    io::print_decimal(1, missing_refusals(tally));
     print_count(b" refusals missing\n", tally, CALLS);
     print_count(b" calls, ", tally, DIFFERENCES);
     print(b" differences\n");

@@ -13,13 +13,12 @@ ghost use Prim.Native.Nat.{_<_, _-_};
 ghost use lib.ListN.{length};
 ghost use Rattle.store.specs.Words.{isStore};
 ghost use Rattle.record.specs.Sheet.{sheetOf, isSheet};
-ghost use Rattle.sheet.specs.Next.{answersFrom};
 ghost use Rattle.calls.specs.Outs.{stateOf};
 ghost use Rattle.steps.specs.Perform.{maximumCalls};
 ghost use Rattle.steps.specs.Response.{reportOf, refusal};
 ghost use Rattle.reporting.specs.Memory.{isMemory};
 ghost use Rattle.reporting.specs.Performed.{Taken};
-ghost use Rattle.reporting.specs.Reports.{start, failureResponse, completionReport, performedReport, Finished};
+ghost use Rattle.reporting.specs.Reports.{start, endedReport, failureReport, completionReport, performedReport, Finished};
 
 pub mod report_words;
 
@@ -53,19 +52,6 @@ pub fn start(sheet: &[u8]) -> Progress
     }
 }
 
-// The answers used so far.
-fn answers_used(sheet: &[u8], s: Progress) -> u64
-    requires { ⌜ isSheet (now sheet) ≡ true ⌝ }
-    ensures { λ r. ⌜ r ≡ length (sheetOf (now (sheet .entry))) - length (answersFrom (now (sheet .entry)) (s .at) (s .left)) ⌝ }
-{
-    let all = bits::wide(sheet[0]) as usize;
-    let left = s.left;
-    if left < all {
-        return (all - left) as u64;
-    }
-    0
-}
-
 // The calls made so far.
 fn calls_made(s: Progress) -> u64
     ensures { λ r. ⌜ r ≡ maximumCalls - s .calls ⌝ }
@@ -87,22 +73,29 @@ pub fn refused(n: u64) -> Report
     }
 }
 
+// Refusal 13 if an answer is left; otherwise all that the sheet counts were used.
+fn ended(sheet: &[u8], outcome: Outcome, s: Progress) -> Report
+    requires { ⌜ isSheet (now sheet) ≡ true ⌝ }
+    ensures { λ r. ⌜ r ≡ endedReport (sheetOf (now (sheet .entry))) outcome (stateOf (now (sheet .entry)) s) ⌝ }
+{
+    if 0 < s.left {
+        return refused(13);
+    }
+    Report {
+        outcome,
+        answers: bits::wide(sheet[0]),
+        calls: calls_made(s),
+    }
+}
+
 pub fn failed(sheet: &[u8], f: Failure, s: Progress) -> Report
     requires { ⌜ isSheet (now sheet) ≡ true ⌝ }
-    ensures { λ r. ⌜ r ≡ reportOf (failureResponse (sheetOf (now (sheet .entry))) f (stateOf (now (sheet .entry)) s)) ⌝ }
+    ensures { λ r. ⌜ r ≡ failureReport (sheetOf (now (sheet .entry))) f (stateOf (now (sheet .entry)) s) ⌝ }
 {
     match f {
         Failure::Refused(n) => refused(n),
-        Failure::TypeError(n) => Report {
-            outcome: Outcome::TypeError(n),
-            answers: answers_used(sheet, s),
-            calls: calls_made(s),
-        },
-        Failure::Thrown(v) => Report {
-            outcome: Outcome::Thrown(v),
-            answers: answers_used(sheet, s),
-            calls: calls_made(s),
-        },
+        Failure::TypeError(n) => ended(sheet, Outcome::TypeError(n), s),
+        Failure::Thrown(v) => ended(sheet, Outcome::Thrown(v), s),
     }
 }
 
@@ -110,14 +103,10 @@ pub fn completed(sheet: &[u8], c: Completion, s: Progress) -> Report
     requires { ⌜ isSheet (now sheet) ≡ true ⌝ }
     ensures { λ r. ⌜ r ≡ completionReport (sheetOf (now (sheet .entry))) c (stateOf (now (sheet .entry)) s) ⌝ }
 {
-    Report {
-        outcome: Outcome::Result(c),
-        answers: answers_used(sheet, s),
-        calls: calls_made(s),
-    }
+    ended(sheet, Outcome::Result(c), s)
 }
 
-// The one write is made here, once the result stands.
+// The one write is made here, once the result stands and no answer is left.
 pub fn finish(words: &mut [u64], sheet: &[u8], p: Performed) -> Report
     requires { ⌜ (isSheet (now sheet) ≡ true) × ((isStore (now words) ≡ true) × Taken (now words) p) ⌝ }
     ensures { λ r. ⌜ r ≡ performedReport (now (sheet .entry)) p ⌝ }
@@ -126,8 +115,11 @@ pub fn finish(words: &mut [u64], sheet: &[u8], p: Performed) -> Report
     match p {
         Performed::Failed(f, s) => failed(sheet, f, s),
         Performed::Done(c, w, s) => {
-            store_write::commit(words, w);
-            completed(sheet, c, s)
+            if s.left == 0 {
+                store_write::commit(words, w);
+                return completed(sheet, c, s);
+            }
+            refused(13)
         }
     }
 }

@@ -1,6 +1,6 @@
 -- The answers of a sheet that is well formed are those that the reader tells. Assumes nothing.
 use Prim.Native.Nat.{ℕ, zero, suc}
-use mathlib.Core.Path.{_≡_, refl, sym, ap}
+use mathlib.Core.Path.{_≡_, refl, ap}
 use mathlib.Core.Bool.{Bool, true, false, _&&_}
 use mathlib.Core.List.{List, _∷_}
 use lib.Dec.{leb, ltb}
@@ -35,6 +35,3 @@ module _ (b : List ℕ) (h : isSheet b ≡ true) where
   sheet-from =
       let (_, more) = and-true (ltb 0 (length b)) (leb (byteAt b 0) maximumAnswers && areAnswersAt b 1 (byteAt b 0)) h in
       from-same b 1 (byteAt b 0) (and-true (leb (byteAt b 0) maximumAnswers) (areAnswersAt b 1 (byteAt b 0)) more .1)
-
-  pub sheet-length : length (sheetOf b) ≡ byteAt b 0
-  sheet-length = rw (sym sheet-from) (from-length b 1 (byteAt b 0))

@@ -21,9 +21,11 @@ use Rattle.internal_methods.specs.Monad.{Answer}
 use Rattle.internal_methods.proofs.StoreClosed.{Made, MadeValue, MadeObject, Closed, closed-object, closed-after}
 use Rattle.internal_methods.proofs.Budget.{MadeAnswer, MadeAnswers, nil, cons}
 use Rattle.record.specs.declared.Step.{Step}
+use Rattle.record.specs.Bytes.{byteAt}
 use Rattle.record.specs.Tests.{isMade, failing, firstFailing}
 use Rattle.record.specs.Step.{stepOf, makesOrdinary, usesObject, stepPasses, areObjectsMade, unless}
 use Rattle.record.specs.Sheet.{sheetOf, answerPasses, sheetPasses}
+use Rattle.record.proofs.SheetLength.{sheet-length}
 use Rattle.steps.specs.Operation.{Operation, makeObject, makeProxy, revoke, getPrototypeOf, setPrototypeOf, isExtensible, preventExtensions, getOwnProperty, defineOwnProperty, hasProperty, get, set, delete, ownPropertyKeys, makeFunction, setIntegrityLevel, testIntegrityLevel, keyOrFirst, byCode, operationOf, asked}
 use Rattle.steps.specs.Step.{countsOf, recordTests}
 
@@ -147,6 +149,16 @@ names-made ω bytes sheet h =
     let (_, h₅) = passed _ _ _ h₄ in
     let (answers, h₆) = passed _ _ _ h₅ in
     record { operation = operation-made ω (stepOf bytes) objects; answers = answers-made ω (sheetOf sheet) answers }
+
+-- and the sheet has as many answers as its first byte says
+pub sheet-counted : (ω : World) (bytes sheet : List ℕ) → firstFailing (recordTests ω bytes sheet) ≡ none → length (sheetOf sheet) ≡ byteAt sheet 0
+sheet-counted ω bytes sheet h =
+    let (_, h₁) = passed _ _ _ h in
+    let (_, h₂) = passed _ _ _ h₁ in
+    let (_, h₃) = passed _ _ _ h₂ in
+    let (_, h₄) = passed _ _ _ h₃ in
+    let (formed, h₅) = passed _ _ _ h₄ in
+    sheet-length sheet formed
 
 -- As many objects --------------------------------------------------------------------
 

@@ -13,7 +13,7 @@ use Rattle.record.specs.Bytes.{valueSize, valueBytes}
 use Rattle.record.proofs.RoundTrip.{length-value}
 use Rattle.steps.specs.Response.{Effect}
 use Rattle.steps.specs.Step.{keysBytes, outputAfterEnding, step}
-use Rattle.steps.proofs.Steps.{Ends, inadmissible, refuses, errs, throws, short, results, ends}
+use Rattle.steps.proofs.Steps.{Ends, inadmissible, refuses, errs, throws, leaves, short, results, ends}
 
 -- the front of a list, and what is behind it
 front : {A : Type 0} (n : ℕ) (l m : List A) → length l ≡ n → take n (l ++ m) ≡ l
@@ -52,7 +52,8 @@ output-is ω bytes sheet output = go (ends ω bytes sheet output)
     go : {x : Effect} → Ends ω bytes sheet output x → x .output ≡ outputAfterEnding (x .response .ending) output
     go (inadmissible p) = refl
     go (refuses p e) = refl
-    go (errs p e) = refl
-    go (throws p e) = refl
-    go (short p e h) = refl
-    go (results p e h) = refl
+    go (errs p e u) = refl
+    go (throws p e u) = refl
+    go (leaves p e) = refl
+    go (short p e u h) = refl
+    go (results p e u h) = refl

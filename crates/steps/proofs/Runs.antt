@@ -34,7 +34,7 @@ pub data Crowded (ω : World) (bytes sheet : List ℕ) : Type 0 where
       → length (τ .properties) ≡ suc (length (ω .store .properties)) → Crowded ω bytes sheet
 
 -- 9: the last answer taken cannot be read, and a throw in its place ends the run
-pub record Unread (ω : World) (bytes sheet : List ℕ) (s : State) : Type 0 where
+pub record Unreadable (ω : World) (bytes sheet : List ℕ) (s : State) : Type 0 where
   pub used : List Answer
   pub last : Answer
   pub asked-for : Reading
@@ -132,15 +132,15 @@ module _ (ω : World) (bytes sheet : List ℕ) where
       by-operation false m true w = absurd (of-turns (perform-fits (contextOf ω) maximumCalls (asked bytes) w from) e)
 
   -- 9, by the last answer
-  pub nine : (s : State) → ran ω bytes sheet .0 ≡ failed (Refused 9) s → Unread ω bytes sheet s
+  pub nine : (s : State) → ran ω bytes sheet .0 ≡ failed (Refused 9) s → Unreadable ω bytes sheet s
   unfolding ran
   nine s e = of-end (perform-reader maximumCalls (contextOf ω) (asked bytes) .ended from) (joined-failed _ _ _ _ e)
     where
-      of-end : {x : Out (Result × Store)} → Ended (settled (perform maximumCalls (contextOf ω) (asked bytes))) from x → x ≡ failed (Refused 9) s → Unread ω bytes sheet s
+      of-end : {x : Out (Result × Store)} → Ended (settled (perform maximumCalls (contextOf ω) (asked bytes))) from x → x ≡ failed (Refused 9) s → Unreadable ω bytes sheet s
       of-end (reader.done used q h) g = absurd (false≢true cc)
       of-end (reader.unreadable {t} used a r u q h) g =
           let i : t ≡ s = cc in
-          subst (Unread ω bytes sheet) i (record { used = used; last = a; asked-for = r; splits = q; unreadable = u; throws = λ v. failed-joined _ _ _ _ (h v (t .answers)) })
+          subst (Unreadable ω bytes sheet) i (record { used = used; last = a; asked-for = r; splits = q; unreadable = u; throws = λ v. failed-joined _ _ _ _ (h v (t .answers)) })
       of-end (reader.other {f} h) g = let i : f ≡ Refused 9 = cc in absurd (false≢true (sym h ∙ ap isNine i))
 
   -- 10, by larger budgets

@@ -4,7 +4,7 @@ use native.Mathlib.Omega.{arith}
 use mathlib.Core.Path.{_≡_, refl, ap, _∙_, subst}
 use mathlib.Core.Bool.{Bool, true, false, false≢true}
 use mathlib.Core.Option.{Option, none, some}
-use mathlib.Core.List.{List, []}
+use mathlib.Core.List.{List, [], _∷_}
 use Rattle.text.specs.Strings.{Strings, Entry, enter}
 use Rattle.text.specs.Strings as entry
 use Rattle.value.specs.declared.Value.{Value}
@@ -17,20 +17,21 @@ use Rattle.record.specs.Tests.{firstFailing}
 use Rattle.steps.specs.Sequence.{Ran}
 use Rattle.steps.specs.Perform.{Result, value, maximumCalls}
 use Rattle.steps.specs.Response.{Ending, refused, result, typeError, thrown, Effect}
-use Rattle.steps.specs.Step.{recordTests, outputHolds, outputAfter, withStore, refusing, responding, completed, ended, ran, tested, step}
+use Rattle.steps.specs.Step.{recordTests, outputHolds, outputAfter, withStore, refusing, responding, completed, unread, refusingUnread, ended, ran, tested, step}
 use Rattle.steps.specs.StringEntry.{enterString, entered}
 
 -- Why a step ended as it did, with all that it answered and left
 pub data Ends (ω : World) (bytes sheet output : List ℕ) : Effect → Type 0 where
   inadmissible : {n : ℕ} → firstFailing (recordTests ω bytes sheet) ≡ some n → Ends ω bytes sheet output (refusing n ω output)
   refuses : {n : ℕ} {s : State} {σ : Store} → firstFailing (recordTests ω bytes sheet) ≡ none → ran ω bytes sheet ≡ (failed (Refused n) s, σ) → Ends ω bytes sheet output (refusing n ω output)
-  errs : {n : ℕ} {s : State} {σ : Store} → firstFailing (recordTests ω bytes sheet) ≡ none → ran ω bytes sheet ≡ (failed (TypeError n) s, σ)
+  errs : {n : ℕ} {s : State} {σ : Store} → firstFailing (recordTests ω bytes sheet) ≡ none → ran ω bytes sheet ≡ (failed (TypeError n) s, σ) → s .answers ≡ []
       → Ends ω bytes sheet output (record { response = responding (typeError n) (sheetOf sheet) s; world = withStore ω σ; output = output })
-  throws : {v : Value} {s : State} {σ : Store} → firstFailing (recordTests ω bytes sheet) ≡ none → ran ω bytes sheet ≡ (failed (Thrown v) s, σ)
+  throws : {v : Value} {s : State} {σ : Store} → firstFailing (recordTests ω bytes sheet) ≡ none → ran ω bytes sheet ≡ (failed (Thrown v) s, σ) → s .answers ≡ []
       → Ends ω bytes sheet output (record { response = responding (thrown v) (sheetOf sheet) s; world = withStore ω σ; output = output })
-  short : {r : Result} {s : State} {σ : Store} → firstFailing (recordTests ω bytes sheet) ≡ none → ran ω bytes sheet ≡ (done r s, σ) → outputHolds r output ≡ false
+  leaves : {a : Answer} {rest : List Answer} → firstFailing (recordTests ω bytes sheet) ≡ none → unread (ran ω bytes sheet .0) ≡ a ∷ rest → Ends ω bytes sheet output (refusing 13 ω output)
+  short : {r : Result} {s : State} {σ : Store} → firstFailing (recordTests ω bytes sheet) ≡ none → ran ω bytes sheet ≡ (done r s, σ) → s .answers ≡ [] → outputHolds r output ≡ false
       → Ends ω bytes sheet output (refusing 11 ω output)
-  results : {r : Result} {s : State} {σ : Store} → firstFailing (recordTests ω bytes sheet) ≡ none → ran ω bytes sheet ≡ (done r s, σ) → outputHolds r output ≡ true
+  results : {r : Result} {s : State} {σ : Store} → firstFailing (recordTests ω bytes sheet) ≡ none → ran ω bytes sheet ≡ (done r s, σ) → s .answers ≡ [] → outputHolds r output ≡ true
       → Ends ω bytes sheet output (record { response = responding (result r) (sheetOf sheet) s; world = withStore ω σ; output = outputAfter r output })
 
 module _ (ω : World) (bytes sheet output : List ℕ) where
@@ -44,30 +45,41 @@ module _ (ω : World) (bytes sheet output : List ℕ) where
   unfolding step
   ends = by-tests (firstFailing (recordTests ω bytes sheet)) refl
     where
-      by-room : (r : Result) (s : State) (σ : Store) (b : Bool) → outputHolds r output ≡ b → firstFailing (recordTests ω bytes sheet) ≡ none → ran ω bytes sheet ≡ (done r s, σ)
+      by-room : (r : Result) (s : State) (σ : Store) (b : Bool) → outputHolds r output ≡ b → firstFailing (recordTests ω bytes sheet) ≡ none → ran ω bytes sheet ≡ (done r s, σ) → s .answers ≡ []
           → Ends ω bytes sheet output (completed ω (sheetOf sheet) output σ r s b)
-      by-room r s σ false h p e = short p e h
-      by-room r s σ true h p e = results p e h
+      by-room r s σ false h p e q = short p e q h
+      by-room r s σ true h p e q = results p e q h
+
+      by-unread : (l : List Answer) {x : Effect} → unread (ran ω bytes sheet .0) ≡ l → firstFailing (recordTests ω bytes sheet) ≡ none → (l ≡ [] → Ends ω bytes sheet output x)
+          → Ends ω bytes sheet output (refusingUnread ω output l x)
+      by-unread [] e p h = h refl
+      by-unread (a ∷ rest) e p h = leaves p e
 
       by-run : (x : Out Result) (σ : Store) → ran ω bytes sheet ≡ (x, σ) → firstFailing (recordTests ω bytes sheet) ≡ none → Ends ω bytes sheet output (ended ω (sheetOf sheet) output (x, σ))
       by-run (failed (Refused n) s) σ e p = refuses p e
-      by-run (failed (TypeError n) s) σ e p = errs p e
-      by-run (failed (Thrown v) s) σ e p = throws p e
-      by-run (done r s) σ e p = by-room r s σ (outputHolds r output) refl p e
+      by-run (failed (TypeError n) s) σ e p = by-unread (s .answers) (ap (λ (x : Ran Result). unread (x .0)) e) p (λ q. errs p e q)
+      by-run (failed (Thrown v) s) σ e p = by-unread (s .answers) (ap (λ (x : Ran Result). unread (x .0)) e) p (λ q. throws p e q)
+      by-run (done r s) σ e p = by-unread (s .answers) (ap (λ (x : Ran Result). unread (x .0)) e) p (λ q. by-room r s σ (outputHolds r output) refl p e q)
 
       by-tests : (t : Option ℕ) → firstFailing (recordTests ω bytes sheet) ≡ t → Ends ω bytes sheet output (tested ω (sheetOf sheet) output (ran ω bytes sheet) t)
       by-tests (some n) p = inadmissible p
       by-tests none p = by-run (ran ω bytes sheet .0) (ran ω bytes sheet .1) refl p
+
+  -- a run that is done, with every answer read and room in the output
+  pub step-done : (r : Result) (s : State) (σ : Store) → firstFailing (recordTests ω bytes sheet) ≡ none → ran ω bytes sheet ≡ (done r s, σ) → s .answers ≡ [] → outputHolds r output ≡ true
+      → step ω bytes sheet output .response .ending ≡ result r
+  step-done r s σ p e u h = rw (step-is none (done r s, σ) p e, u, h)
 
   -- what holds of the store before a step, and of the store that its run left, holds of the store after it
   pub kept-by : (P : Store → Type 0) → P (ω .store) → (firstFailing (recordTests ω bytes sheet) ≡ none → P (ran ω bytes sheet .1))
       → {x : Effect} → Ends ω bytes sheet output x → P (x .world .store)
   kept-by P h f (inadmissible p) = h
   kept-by P h f (refuses p e) = h
-  kept-by P h f (errs p e) = subst (λ (x : Ran Result). P (x .1)) e (f p)
-  kept-by P h f (throws p e) = subst (λ (x : Ran Result). P (x .1)) e (f p)
-  kept-by P h f (short p e q) = h
-  kept-by P h f (results p e q) = subst (λ (x : Ran Result). P (x .1)) e (f p)
+  kept-by P h f (errs p e u) = subst (λ (x : Ran Result). P (x .1)) e (f p)
+  kept-by P h f (throws p e u) = subst (λ (x : Ran Result). P (x .1)) e (f p)
+  kept-by P h f (leaves p e) = h
+  kept-by P h f (short p e u q) = h
+  kept-by P h f (results p e u q) = subst (λ (x : Ran Result). P (x .1)) e (f p)
 
 -- the step was run to this result, and left this world
 pub record Resulted (ω : World) (bytes sheet : List ℕ) (x : Effect) (r : Result) : Type 0 where
@@ -80,10 +92,11 @@ pub record Resulted (ω : World) (bytes sheet : List ℕ) (x : Effect) (r : Resu
 pub resulted : {ω : World} {bytes sheet output : List ℕ} {x : Effect} (r : Result) → Ends ω bytes sheet output x → x .response .ending ≡ result r → Resulted ω bytes sheet x r
 resulted r (inadmissible {n = n} p) h = let g : refused n ≡ result r = h in absurd (false≢true cc)
 resulted r (refuses {n = n} p e) h = let g : refused n ≡ result r = h in absurd (false≢true cc)
-resulted r (errs {n = n} p e) h = let g : typeError n ≡ result r = h in absurd (false≢true cc)
-resulted r (throws {v = v} p e) h = let g : thrown v ≡ result r = h in absurd (false≢true cc)
-resulted r (short p e q) h = let g : refused 11 ≡ result r = h in absurd (false≢true cc)
-resulted r (results {r = a} {s = s} {σ = σ} p e q) h =
+resulted r (errs {n = n} p e u) h = let g : typeError n ≡ result r = h in absurd (false≢true cc)
+resulted r (throws {v = v} p e u) h = let g : thrown v ≡ result r = h in absurd (false≢true cc)
+resulted r (leaves p e) h = let g : refused 13 ≡ result r = h in absurd (false≢true cc)
+resulted r (short p e u q) h = let g : refused 11 ≡ result r = h in absurd (false≢true cc)
+resulted r (results {r = a} {s = s} {σ = σ} p e u q) h =
     let g : result a ≡ result r = h in
     let i : a ≡ r = cc in
     record { store = σ; rest = s; runs = e ∙ ap (λ (y : Result). (done y s, σ)) i; world = refl; passes = p }

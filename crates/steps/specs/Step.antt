@@ -97,8 +97,20 @@ endedWith ω answers output σ (failed (TypeError n) s) = record { response = re
 endedWith ω answers output σ (failed (Thrown v) s) = record { response = responding (thrown v) answers s; world = withStore ω σ; output = output }
 endedWith ω answers output σ (done r s) = completed ω answers output σ r s (outputHolds r output)
 
+-- the answers that a run has not read where it ended; a run that is refused has not ended
+abbrev pub unread : Out Result → List Answer
+unread (failed (Refused n) s) = []
+unread (failed (TypeError n) s) = s .answers
+unread (failed (Thrown v) s) = s .answers
+unread (done r s) = s .answers
+
+-- refusal 13, before 11: answers are unread
+abbrev pub refusingUnread : World → List ℕ → List Answer → Effect → Effect
+refusingUnread ω output [] e = e
+refusingUnread ω output (a ∷ rest) e = refusing 13 ω output
+
 abbrev pub ended : World → List Answer → List ℕ → Ran Result → Effect
-ended ω answers output x = endedWith ω answers output (x .1) (x .0)
+ended ω answers output x = refusingUnread ω output (unread (x .0)) (endedWith ω answers output (x .1) (x .0))
 
 -- the run of a step whose records passed their tests
 unfoldable pub ran : World → List ℕ → List ℕ → Ran Result

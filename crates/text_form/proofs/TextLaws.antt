@@ -46,14 +46,15 @@ module _ (ω : World) where
   numbers : (bytes sheet : List ℕ) → Below 12 (recordTests ω bytes sheet)
   numbers bytes sheet = (omega arith, (omega arith, (omega arith, (omega arith, (omega arith, (omega arith, (omega arith, tt)))))))
 
-  step-below : (bytes sheet output : List ℕ) (n : ℕ) → Refusal ω bytes sheet output n → n < 12
-  step-below bytes sheet output n (refusal.inadmissible e) = first-below 12 (recordTests ω bytes sheet) (numbers bytes sheet) n e
-  step-below bytes sheet output n (refusal.crowded p m h) = omega arith
-  step-below bytes sheet output n (refusal.full p l r h) = omega arith
-  step-below bytes sheet output n (refusal.spent p e h) = omega arith
-  step-below bytes sheet output n (refusal.unreadable used a r p q u e h) = omega arith
-  step-below bytes sheet output n (refusal.exhausted p e h) = omega arith
-  step-below bytes sheet output n (refusal.short p e h) = omega arith
+  step-other : (bytes sheet output : List ℕ) (n : ℕ) → Refusal ω bytes sheet output n → n ≡ 12 → ⊥
+  step-other bytes sheet output n (refusal.inadmissible e) i = omega (arith, i, first-below 12 (recordTests ω bytes sheet) (numbers bytes sheet) n e)
+  step-other bytes sheet output n (refusal.crowded p m h) i = omega (arith, i)
+  step-other bytes sheet output n (refusal.full p l r h) i = omega (arith, i)
+  step-other bytes sheet output n (refusal.spent p e h) i = omega (arith, i)
+  step-other bytes sheet output n (refusal.unreadable used a r p q u e h) i = omega (arith, i)
+  step-other bytes sheet output n (refusal.exhausted p e h) i = omega (arith, i)
+  step-other bytes sheet output n (refusal.unread used a rest p q e h) i = omega (arith, i)
+  step-other bytes sheet output n (refusal.short p e u h) i = omega (arith, i)
 
   entry-below : (units : List ℕ) (n : ℕ) → EntryRefusal ω units n → n < 12
   entry-below units n (refusal.EntryRefusal.long h) = omega arith
@@ -62,7 +63,7 @@ module _ (ω : World) where
   module _ (decides : (bytes sheet output : List ℕ) → StepDecided ω bytes sheet output) where
     not-twelve : (c : Call) → effect ω c .response .ending ≡ refused 12 → ⊥
     unfolding effect
-    not-twelve (step bytes sheet output) h = let l : 12 < 12 = step-below bytes sheet output 12 (decides bytes sheet output .refuses 12 .0 h) in omega arith
+    not-twelve (step bytes sheet output) h = step-other bytes sheet output 12 (decides bytes sheet output .refuses 12 .0 h) refl
     not-twelve (enter units) h = let l : 12 < 12 = entry-below units 12 (entry-decided ω units .refuses 12 .0 h) in omega arith
 
     line-decided : (columns line : List ℕ) → LineDecided ω columns line

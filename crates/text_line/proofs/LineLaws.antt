@@ -19,7 +19,7 @@ use Rattle.steps.specs.Step.{keysBytes, outputHolds, outputAfter, step}
 use Rattle.steps.specs.StringEntry.{enterString}
 use Rattle.steps.specs.Run.{Call, effect}
 use Rattle.steps.specs.Run as call
-use Rattle.steps.proofs.Steps.{Ends, inadmissible, refuses, errs, throws, short, results, ends, EntryEnds, enters, entry-ends}
+use Rattle.steps.proofs.Steps.{Ends, inadmissible, refuses, errs, throws, leaves, short, results, ends, EntryEnds, enters, entry-ends}
 use Rattle.steps.proofs.Steps as entry
 use Rattle.steps.proofs.Outputs.{length-keys}
 use Rattle.reporting.specs.Memory.{Shown, shown, shownBy, isMemory, Stepped, StringEntered}
@@ -52,10 +52,11 @@ record Told (x : Effect) : Type 0 where
 step-told : {ω : World} {bytes sheet output : List ℕ} {x : Effect} → length output ≤ 2304 → Ends ω bytes sheet output x → Told x
 step-told l (inadmissible p) = record { held = tt; bytes = refl }
 step-told l (refuses p e) = record { held = tt; bytes = refl }
-step-told l (errs p e) = record { held = tt; bytes = refl }
-step-told l (throws p e) = record { held = tt; bytes = refl }
-step-told l (short p e h) = record { held = tt; bytes = refl }
-step-told {output = output} l (results {r = r} p e h) = let t = result-told r output l h in record { held = t .0; bytes = t .1 }
+step-told l (errs p e u) = record { held = tt; bytes = refl }
+step-told l (throws p e u) = record { held = tt; bytes = refl }
+step-told l (leaves p e) = record { held = tt; bytes = refl }
+step-told l (short p e u h) = record { held = tt; bytes = refl }
+step-told {output = output} l (results {r = r} p e u h) = let t = result-told r output l h in record { held = t .0; bytes = t .1 }
 
 entry-told : {ω : World} {units : List ℕ} {x : Effect} → EntryEnds ω units x → Told x
 entry-told (entry.refuses e) = record { held = tt; bytes = refl }

@@ -43,7 +43,8 @@ impl Report {
     }
 }
 
-/// What a step leaves: its report, what the sheet lacked where it was refused as 8, and the last test of validation that failed in its course.
+/// What a step leaves: its report, what the sheet lacked where it was refused as 8, and the last test of validation that failed in its course, where it
+/// was not refused.
 pub struct Stepped {
     pub report: Report,
     pub wanted: Option<Wanted>,
@@ -63,16 +64,17 @@ pub fn step(world: &mut World, bytes: &[u8], sheet: &[u8], output: &mut [u8]) ->
         Err(n) => return Stepped { report: Report::refused(n), wanted: None, failed: None },
     };
     let mut run = Run { world: world.clone(), answers, used: 0, calls: 0, wanted: None, failed: None };
-    let mut ended = perform(&mut run, &step);
-    if let Ok(Completion::Keys(keys)) = &ended {
-        if output.len() < 9 * keys.len() {
-            ended = Err(Stop::Refused(11));
-        }
-    }
+    let ended = perform(&mut run, &step);
+    let ended = match ended {
+        Err(Stop::Refused(n)) => Err(Stop::Refused(n)),
+        _ if run.used < run.answers.len() => Err(Stop::Refused(13)),
+        Ok(Completion::Keys(keys)) if output.len() < 9 * keys.len() => Err(Stop::Refused(11)),
+        ended => ended,
+    };
     let outcome = match ended {
         Err(Stop::Refused(n)) => {
             let wanted = run.wanted.map(|asked| Wanted { asked, world: run.world });
-            return Stepped { report: Report::refused(n), wanted, failed: run.failed };
+            return Stepped { report: Report::refused(n), wanted, failed: None };
         }
         Err(Stop::TypeError(n)) => Outcome::TypeError(n),
         Err(Stop::Thrown(v)) => Outcome::Thrown(v),

@@ -6,10 +6,10 @@ returns : tie.Need-returns
 returns c = rw (c .before .before .f .given .1) (c .refused .ensures)
 
 returns-2 : tie.Need-returns-2
-returns-2 c = rw (c .before .before .before .f2 .given .1, c .before .answers-used .ensures, c .calls-made .ensures)
+returns-2 c = rw (c .before .before .f2 .given .1) (c .ended .ensures)
 
 returns-3 : tie.Need-returns-3
-returns-3 c = rw (c .before .before .before .f3 .given .1, c .before .answers-used2 .ensures, c .calls-made2 .ensures)
+returns-3 c = rw (c .before .before .f3 .given .1) (c .ended2 .ensures)
 
 pub failed-spec : {M : Type 1} → statement M
 failed-spec =
@@ -19,9 +19,7 @@ failed-spec =
     (λ c κs. search needs)
     (λ c. search needs)
     (λ c κs. search needs)
-    (λ c κs. search needs)
     (λ c. search needs)
-    (λ c κs. search needs)
     (λ c κs. search needs)
     returns
     returns-2
