@@ -331,7 +331,7 @@ fn as_many_answers_as_a_sheet_holds() {
     answers.resize(64, Answer::Descriptor(fixed));
     assert_eq!(result(run(&mut pair, &is_frozen, &answers)).answers, 64);
     refused(run(&mut pair, &is_frozen, &answers[..63]), 8);
-    // false once the first is told, and all the others are unread
+    // a first answer that is not so ends the step in TypeError 5, and all the others are unread
     answers[0] = Answer::Value(Value::Boolean(true));
     assert!(matches!(run(&mut pair, &is_frozen, &answers).outcome, Outcome::Refused(13)));
     assert!(matches!(run(&mut pair, &is_frozen, &answers[..1]).outcome, Outcome::TypeError(5)));
