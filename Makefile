@@ -65,7 +65,7 @@ vectors: lib
 
 # Calls performed by the engines that are installed, on their own objects, against our own: CALLS on each, from SEED.
 SEED = 1
-CALLS = 240000
+CALLS = 256000
 engines:
 	rt check replay
 	for engine in node gjs jsc; do if command -v $$engine > /dev/null; then sh tests/engines.sh $$engine $(SEED) $(CALLS) || exit 1; fi; done
@@ -73,7 +73,7 @@ engines:
 # A smaller part of the same, on node alone: of fewer calls the rarest messages may be missing.
 engine-check:
 	rt check replay
-	sh tests/engines.sh node 7 60000
+	sh tests/engines.sh node 7 64000
 
 # Whether the comparison notices a change in each part of an expectation. It needs python3.
 engine-damage:
@@ -94,10 +94,10 @@ lib:
 	mkdir -p target/lib
 	cp target/staticlib/libdemnyaluz.a target/lib/libdemnyaluz.a
 
-# The library through its header, by five C programs, one of them as C++ too and one under valgrind too. It needs gcc, g++ and valgrind, which is not
+# The library through its header, by six C programs, one of them as C++ too and one under valgrind too. It needs gcc, g++ and valgrind, which is not
 # asked for undefined values: it takes the sign of a word for undefined where other bits of the word are padding. The library has no other names.
 c-test: lib
-	for program in sealed functions text records null; do \
+	for program in sealed functions page text records null; do \
 		gcc -Wall -Wextra -Wpedantic -Werror -std=c11 -O1 -fsanitize=undefined -fno-sanitize-recover=undefined -Iinclude \
 			-o target/lib/$$program tests/c/$$program.c target/lib/libdemnyaluz.a && target/lib/$$program || exit 1; \
 	done
@@ -118,7 +118,7 @@ bindings: lib
 example: lib
 	cd bindings/rust && cargo run --quiet --offline --example sealed
 
-# A million random and mutated records and sheets through the C interface, each held against the plain implementation.
+# A million random and mutated records, sheets and pages through the C interface, each held against the plain implementation.
 COUNT = 1000000
 fuzz: lib
 	cd bindings/rust && cargo run --quiet --release --offline --example fuzz -- $(COUNT) $(SEED)

@@ -15,6 +15,8 @@ struct memory {
 static struct memory memory;
 static uint64_t open_words[DEMNYALUZ_STORE_WORDS]; /* the store before a turn that can be done but once */
 static bool is_copied;                             /* whether each turn begins with it */
+static uint8_t page[DEMNYALUZ_PAGE_BYTES];
+static bool is_page; /* whether a turn is a page of object 0, and no step */
 
 /* A data descriptor with all its fields. */
 static struct demnyaluz_descriptor descriptor(uint8_t booleans, int32_t integer) {
@@ -53,6 +55,10 @@ static struct sheet descriptor_answer(struct demnyaluz_descriptor d) {
 static void run(const struct step *s, const struct sheet *sheet) {
     demnyaluz_step(memory.words, DEMNYALUZ_STORE_WORDS, memory.strings, DEMNYALUZ_STRING_CELLS, s->bytes, DEMNYALUZ_STEP_BYTES, sheet->bytes,
                    sheet->size, memory.output, DEMNYALUZ_OUTPUT_BYTES, memory.report);
+}
+
+static void put_page(void) {
+    demnyaluz_page(memory.words, DEMNYALUZ_STORE_WORDS, memory.strings, DEMNYALUZ_STRING_CELLS, 0, page, DEMNYALUZ_PAGE_BYTES, memory.report);
 }
 
 /* A step that must end in a result. */
@@ -163,6 +169,17 @@ static int prepare(const char *work, struct step steps[2], struct sheet sheets[2
         steps[0] = level(is_copied ? DEMNYALUZ_CODE_SET_INTEGRITY_LEVEL : DEMNYALUZ_CODE_TEST_INTEGRITY_LEVEL);
         return 1;
     }
+    if (strncmp(work, "page-", 5) == 0) {
+        int properties = atoi(strchr(work, '-') + 1);
+        for (int i = 0; i < properties; i++) must(define((uint64_t)i, OPEN, i), empty);
+        is_page = true;
+        put_page();
+        if (memory.report[DEMNYALUZ_REPORT_DETAIL] != (uint64_t)DEMNYALUZ_PAGE_LINE * (uint64_t)(properties + 1)) {
+            fputs("a page is not there\n", stderr);
+            exit(1);
+        }
+        return 1;
+    }
     return 0;
 }
 
@@ -171,8 +188,14 @@ int main(int count, char **words) {
     static struct sheet sheets[2];
     int each = count == 3 ? prepare(words[1], steps, sheets) : 0;
     if (each == 0) {
-        fputs("usage: cost get|get-hop|get-trap|get-forwarded|descriptor-trap|extensible-trap|define-delete|keys-trap|freeze-N|isFrozen-N TURNS\n", stderr);
+        fputs("usage: cost WORK TURNS, where WORK is get, get-hop, get-trap, get-forwarded, descriptor-trap, extensible-trap, define-delete, keys-trap,\n"
+              "freeze-N, isFrozen-N or page-N\n",
+              stderr);
         return 2;
+    }
+    if (is_page) {
+        for (long turn = atol(words[2]); turn > 0; turn--) put_page();
+        return 0;
     }
     memcpy(open_words, memory.words, sizeof open_words);
     for (int i = 0; i < each; i++) must(steps[i], sheets[i]);

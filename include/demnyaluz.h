@@ -9,7 +9,8 @@
  * memory may run at the same time in different threads, calls that share memory which one of them writes may not.
  *   words     the store: DEMNYALUZ_STORE_WORDS words of 64 bits
  *   strings   the table of strings: DEMNYALUZ_STRING_CELLS cells of 16 bits
- *   output    where the keys of an [[OwnPropertyKeys]] result go, 9 bytes each; DEMNYALUZ_OUTPUT_BYTES hold every list
+ *   output    where the keys of an [[OwnPropertyKeys]] result go, 9 bytes each, or a page; DEMNYALUZ_OUTPUT_BYTES hold every list of keys,
+ *             DEMNYALUZ_PAGE_BYTES every page
  *   report    ten words
  *   test      one word
  * Memory that is all zeros is an empty store and an empty table; demnyaluz_empty_store and demnyaluz_empty_strings make memory of any content so.
@@ -27,7 +28,7 @@
  *   sheet       a count of answers (one byte, 0 to 64), then the answers: a tag, then a value, a descriptor, or a list, which is a count
  *               (two bytes, at most 256) and values. Each call of a trap, a getter or a setter takes the next answer.
  *
- * What the memory holds is read through steps. How it is laid out today, which later versions may change:
+ * What the memory holds is read through steps and pages. How it is laid out today, which later versions may change:
  *   words     0 objects made, 1 properties, 2 marks: bit o is set where object o is a function; from 3 on 32 objects of 3 words: 0 or 1 (not
  *             extensible, extensible), then the kind and payload of the prototype; or 2 or 3 (a proxy, a revoked one), then target and traps;
  *             from 99 on 256 key words: owner + 64 * string, or owner + 32 + 64 * symbol; from 355 on 256 properties of 5 words: flags, then
@@ -54,6 +55,8 @@ enum {
     DEMNYALUZ_DESCRIPTOR_BYTES = 29,
     DEMNYALUZ_STEP_BYTES = 58,
     DEMNYALUZ_OUTPUT_BYTES = 2304,
+    DEMNYALUZ_PAGE_LINE = 47,       /* a line of a page, its line feed counted */
+    DEMNYALUZ_PAGE_BYTES = 12079,   /* the longest page: the names and 256 properties */
     DEMNYALUZ_LONGEST_MESSAGE = 90, /* the longest text */
     DEMNYALUZ_TEXT_STATE = 10,      /* words */
     DEMNYALUZ_TEXT_LINE = 16384,    /* the longest line, its line feed not counted */
@@ -162,7 +165,7 @@ enum demnyaluz_report_word {
     DEMNYALUZ_REPORT_ANSWERS = 2, /* used */
     DEMNYALUZ_REPORT_CALLS = 3,   /* of internal methods, the first included */
     DEMNYALUZ_REPORT_FORM = 4,
-    DEMNYALUZ_REPORT_DETAIL = 5,  /* the flags of a property, or how many keys there are */
+    DEMNYALUZ_REPORT_DETAIL = 5,  /* the flags of a property, how many keys there are, or how many bytes a page has */
     DEMNYALUZ_REPORT_KIND = 6,    /* of the value, a thrown one too, or of a property's value or getter */
     DEMNYALUZ_REPORT_PAYLOAD = 7,
     DEMNYALUZ_REPORT_SETTER_KIND = 8,
@@ -182,7 +185,8 @@ enum demnyaluz_form {
     DEMNYALUZ_FORM_VALUE = 1,
     DEMNYALUZ_FORM_PROPERTY = 2,
     DEMNYALUZ_FORM_ABSENT = 3,
-    DEMNYALUZ_FORM_KEYS = 4
+    DEMNYALUZ_FORM_KEYS = 4,
+    DEMNYALUZ_FORM_PAGE = 5
 };
 
 /* The flags of a property. WARNING: these are not the bits of a descriptor, DEMNYALUZ_FIELD_*. */
@@ -195,9 +199,9 @@ enum demnyaluz_flag {
 
 enum demnyaluz_refusal {
     DEMNYALUZ_REFUSAL_MALFORMED_RECORD = 1,    /* a wrong length, code, kind, mask, level, count or boolean, or a nonzero unused or absent part */
-    DEMNYALUZ_REFUSAL_OBJECT_NEVER_MADE = 2,   /* by the object's number, or by a value of kind 7 or 8 */
+    DEMNYALUZ_REFUSAL_OBJECT_NEVER_MADE = 2,   /* by the object's number, of a step or a page, or by a value of kind 7 or 8 */
     DEMNYALUZ_REFUSAL_UNUSABLE_PART = 3,       /* a string not entered or too long, a symbol above 255, a function as kind 7 or another object as
-                                                  kind 8, a kind or an object that its step cannot use */
+                                                  kind 8, a kind or an object that its step cannot use, a proxy for a page */
     DEMNYALUZ_REFUSAL_UNUSABLE_DESCRIPTOR = 4, /* mixed, or its get or set neither undefined nor a function */
     DEMNYALUZ_REFUSAL_INCOMPLETE_CURRENT = 5,  /* the current descriptor is generic or lacks a field that its kind needs */
     DEMNYALUZ_REFUSAL_DIFFERENT_KINDS = 6,     /* to be merged: one data, one accessor */
@@ -205,7 +209,7 @@ enum demnyaluz_refusal {
     DEMNYALUZ_REFUSAL_SHEET_SPENT = 8,
     DEMNYALUZ_REFUSAL_UNREADABLE_ANSWER = 9,   /* of another form than is asked for, or an object or a function for a descriptor or for keys */
     DEMNYALUZ_REFUSAL_TOO_MANY_CALLS = 10,     /* a 2,049th */
-    DEMNYALUZ_REFUSAL_OUTPUT_TOO_SMALL = 11,
+    DEMNYALUZ_REFUSAL_OUTPUT_TOO_SMALL = 11,   /* for the keys of a result, or for a page */
     DEMNYALUZ_REFUSAL_BROKEN_LINE = 12,        /* of a text, tested before 1 */
     DEMNYALUZ_REFUSAL_UNREAD_ANSWERS = 13      /* the step ends with answers that nothing took; after 7 to 10, before 11 */
 };
@@ -298,6 +302,7 @@ struct demnyaluz_report {
     struct demnyaluz_value value;       /* DEMNYALUZ_FORM_VALUE */
     struct demnyaluz_property property; /* DEMNYALUZ_FORM_PROPERTY */
     uint64_t keys;                      /* DEMNYALUZ_FORM_KEYS: how many are in the output */
+    uint64_t page_bytes;                /* DEMNYALUZ_FORM_PAGE: how many are in the output */
 };
 
 static inline struct demnyaluz_value demnyaluz_make_value(uint8_t kind, uint64_t payload)
@@ -388,6 +393,7 @@ static inline struct demnyaluz_report demnyaluz_read_report(const uint64_t words
     report.property.get = report.property.accessor ? first : none;
     report.property.set = report.property.accessor ? second : none;
     report.keys = report.form == DEMNYALUZ_FORM_KEYS ? words[DEMNYALUZ_REPORT_DETAIL] : 0;
+    report.page_bytes = report.form == DEMNYALUZ_FORM_PAGE ? words[DEMNYALUZ_REPORT_DETAIL] : 0;
     return report;
 }
 
@@ -408,14 +414,28 @@ static inline struct demnyaluz_descriptor demnyaluz_property_descriptor(struct d
 
 /*
  * One step. Traps, getters and setters take the sheet's answers in their order, all of them: a step that ends with unread answers is refused as
- * 13. A sheet without answers is one zero byte. The keys of a result of code 14 are written from the output's start on, 9 bytes each; nothing
- * else writes the output.
+ * 13. A sheet without answers is one zero byte. The keys of a result of code 14 are written from the output's start on, 9 bytes each; no other
+ * step writes the output.
  */
 void demnyaluz_step(uint64_t *words, size_t words_length, const uint16_t *strings, size_t strings_length, const uint8_t *step, size_t step_length,
                     const uint8_t *sheet, size_t sheet_length, uint8_t *output, size_t output_length, uint64_t report[DEMNYALUZ_REPORT_WORDS]);
 
 /* A string is entered, as code units; an equal one has its number already. Answers the string; refused as 3 (too long) or 7 (no room). */
 void demnyaluz_enter_string(uint16_t *strings, size_t strings_length, const uint16_t *units, size_t units_length, uint64_t report[DEMNYALUZ_REPORT_WORDS]);
+
+/*
+ * The property page of an ordinary object or a function, as text at the output's start: a line of the columns' names, then a line for each own
+ * property, in the order of the own keys. Every line has 46 characters and a line feed: four columns, one space between two.
+ *   key            4: s for a string or y for a symbol, and its number in three decimal digits
+ *   ecw            3: e, c and w where the property is enumerable, configurable and writable, else a dot; a dash as an accessor's writable
+ *   value or get  18: the 9 bytes of the value or of the getter, each as two digits, 0 to 9 and a to f
+ *   set           18: those of the setter, or spaces for data
+ * A name has spaces on its right up to its column's width. Reports how many bytes were written, DEMNYALUZ_PAGE_LINE for each line; the bytes after
+ * them stay, and no zero byte is written. Refused as 2 (a number never made), 3 (a proxy) or 11 (an output that cannot hold all of the page).
+ * Neither store nor table changes.
+ */
+void demnyaluz_page(const uint64_t *words, size_t words_length, const uint16_t *strings, size_t strings_length, uint64_t object, uint8_t *output,
+                    size_t output_length, uint64_t report[DEMNYALUZ_REPORT_WORDS]);
 
 /* CompletePropertyDescriptor by itself: the property. Store and table say which numbers there are, and which are functions. Refused as 1 to 4. */
 void demnyaluz_complete(const uint64_t *words, size_t words_length, const uint16_t *strings, size_t strings_length, const uint8_t *descriptor,

@@ -326,6 +326,115 @@ DAMAGES += [(f"test {n} of kind {kind} told as {m}", "completion", ended(n, kind
             for n in range(9) for kind in (4, 5) if (n, kind) != (1, 5) for m in sorted({(n + 1) % 9, 0} - {n})]
 
 
+# Property pages: a line of names and a line for each property, 47 bytes each.
+def page(test=lambda line: True):
+    return lambda line: line.kind == 7 and line.outcome == 1 and test(line)
+
+
+def page_size(line):
+    return int.from_bytes(line.bytes[line.completion + 1:line.completion + 3], "little")
+
+
+def page_refused(n, test=lambda line: True):
+    return lambda line: line.kind == 7 and line.outcome == 0 and line.numbers == 1 << n and test(line)
+
+
+# Where the first line of a page stands whose text passes.
+def row(test):
+    def find(line):
+        starts = range(line.output + 47, line.output + page_size(line), 47) if page()(line) else []
+        return next((at for at in starts if test(line.bytes[at:at + 47].decode())), None)
+    return find
+
+
+# A text in the place of what stands at a column of the line.
+def retold(find, column, text):
+    def change(line):
+        at = find(line) + column
+        line.bytes[at:at + len(text)] = text.encode()
+    return change
+
+
+def retelling(name, test, column, text):
+    find = row(lambda cells: test(cells) and cells[column:column + len(text)] != text)
+    return f"a page: {name}", "output", find, retold(find, column, text)
+
+
+def swap_rows(line):
+    o = line.output + 47
+    line.bytes[o:o + 94] = line.bytes[o + 47:o + 94] + line.bytes[o:o + 47]
+
+
+def recount(n):
+    def change(line):
+        line.bytes[line.completion + 1:line.completion + 3] = (page_size(line) + n).to_bytes(2, "little")
+    return change
+
+
+def cut_record(line):
+    line.bytes[3] = 7
+    del line.bytes[9]
+
+
+def is_data(cells):
+    return cells[7] != "-"
+
+
+def is_accessor(cells):
+    return cells[7] == "-"
+
+
+def any_row(cells):
+    return True
+
+
+DAMAGES += [
+    *[(f"a page: the names, character {i}", "output", page(), flip(lambda l, i=i: l.output + i, 1)) for i in (0, 3, 4, 5, 7, 8, 9, 20, 26, 27, 28, 45, 46)],
+    retelling("a string told as a symbol", lambda c: c[0] == "s", 0, "y"), retelling("a symbol told as a string", lambda c: c[0] == "y", 0, "s"),
+    *[retelling(f"digit {i} of a key", any_row, i, d) for i in (1, 2, 3) for d in "19"],
+    retelling("key 10", lambda c: c[:4] == "s010", 0, "s10 "), retelling("key 255", lambda c: c[:4] == "y255", 0, "y055"),
+    *[retelling(f"a space at {i}", any_row, i, "0") for i in (4, 8, 27)],
+    retelling("the end of a line", any_row, 46, " "),
+    retelling("enumerable", lambda c: c[5] == "e", 5, "."), retelling("not enumerable", lambda c: c[5] == ".", 5, "e"),
+    retelling("configurable", lambda c: c[6] == "c", 6, "."), retelling("not configurable", lambda c: c[6] == ".", 6, "c"),
+    retelling("writable", lambda c: c[7] == "w", 7, "."), retelling("not writable", lambda c: c[7] == ".", 7, "w"),
+    retelling("data told as an accessor", is_data, 7, "-"), retelling("an accessor told as not writable", is_accessor, 7, "."),
+    *[retelling(f"a value of kind {kind} told as the next", lambda c, kind=kind: is_data(c) and c[9:11] == f"0{kind}", 10, f"{(kind + 1) % 9}") for kind in range(9)],
+    *[retelling(f"digit {i} of a value", is_data, 9 + i, "5") for i in range(18)],
+    retelling("Integer32 1 told as Float64", lambda c: c[9:27] == "030100000000000000", 9, "04000000000000f03f"),
+    retelling("Float64 1 told as Integer32", lambda c: c[9:27] == "04000000000000f03f", 9, "030100000000000000"),
+    retelling("-0 told as 0", lambda c: c[9:27] == "040000000000000080", 9, "040000000000000000"),
+    retelling("a NaN told as the one that was handed in", lambda c: c[9:27] == "04000000000000f87f", 9, "04010000000000f0ff"),
+    retelling("a digit as a capital", lambda c: is_data(c) and c[26] == "f", 26, "F"),
+    *[retelling(f"digit {i} of a getter", is_accessor, 9 + i, "7") for i in (0, 1, 2, 3, 16, 17)],
+    *[retelling(f"digit {i} of a setter", is_accessor, 28 + i, "7") for i in (0, 1, 2, 3, 16, 17)],
+    retelling("a getter that is absent told as spaces", lambda c: is_accessor(c) and c[9:27] == "0" * 18, 9, " " * 18),
+    retelling("a setter that is absent told as spaces", lambda c: is_accessor(c) and c[28:46] == "0" * 18, 28, " " * 18),
+    retelling("no setter of a data property told as undefined", is_data, 28, "0" * 18),
+    *[retelling(f"space {i} of a data property", is_data, 28 + i, "0") for i in (0, 9, 17)],
+    ("a page: the order of lines", "output", page(lambda l: page_size(l) > 94), swap_rows),
+    ("a page: its last digit", "output", page(lambda l: page_size(l) == 12079), flip(lambda l: l.output + 12077, 1)),
+    ("a page: its last byte", "output", page(lambda l: page_size(l) == 12079), flip(lambda l: l.output + 12078, 1)),
+    ("a page: the byte after it", "output", page(lambda l: l.room > page_size(l)), flip(lambda l: l.output + page_size(l), 1)),
+    ("a page: the last byte of its output", "output", page(lambda l: l.room > page_size(l) + 1), flip(lambda l: l.store - 1, 1)),
+    *[(f"a page: {n:+} bytes", "completion", page(), recount(n)) for n in (1, -1, 47, -47, 256)],
+    ("a page: its count told as one of keys", "completion", page(), flip(lambda l: l.completion, 2)),
+    ("a page: an answer more", "answers", page(), flip(lambda l: l.begin + 5, 1)),
+    ("a page told as refused", "outcome", page(), flip(lambda l: l.begin, 1)),
+    ("a page told as a throw", "outcome", page(), flip(lambda l: l.begin, 2)),
+    ("a page: a property of the store", "store", page(lambda l: any(l.keys)), flip(lambda l: entry(l) + 2, 8)),
+    ("a page: how many strings there are", "store", page(), flip(lambda l: l.store, 1)),
+    ("a function's page", "output", page(lambda l: l.marks[l.record[0]] == 1 and page_size(l) > 47), flip(lambda l: l.output + 47 + 26, 1)),
+    *[(f"a page: refusal {n} told as {m}", "number", page_refused(n), renumbered(m)) for n in (2, 3, 11) for m in (1, 2, 3, 8, 11, 13) if n != m],
+    *[(f"a page: refusal {n} told as a result", "outcome", page_refused(n), flip(lambda l: l.begin, 1)) for n in (2, 3, 11)],
+    *[(f"a page: refusal {n}, byte {at} of the output", "output", page_refused(n, lambda l: l.room > 0), flip(lambda l, at=at: range(l.output, l.store)[at], 1)) for n in (2, 3, 11) for at in (0, -1)],
+    *[(f"a page: refusal {n}, a property of the store", "store", page_refused(n, lambda l: any(l.keys)), flip(lambda l: entry(l) + 2, 8)) for n in (2, 3, 11)],
+    ("a page: a huge number told as a proxy's", "number", page_refused(2, lambda l: any(l.record[4:])), renumbered(3)),
+    ("a page: a huge number told as a result", "outcome", page_refused(2, lambda l: any(l.record[4:])), flip(lambda l: l.begin, 1)),
+    ("a page: a number of seven bytes", "outcome", page(), cut_record),
+]
+
+
 def replay(lines):
     text = "".join(line + "\n" for line in lines)
     return subprocess.run([REPLAY], input=text, capture_output=True, text=True, check=True).stdout.splitlines()

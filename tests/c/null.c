@@ -62,6 +62,13 @@ static void enter_string(void)
     demnyaluz_enter_string(LEND(0, strings), LEND(1, units), lent.report);
 }
 
+static uint64_t object;
+
+static void page(void)
+{
+    demnyaluz_page(LEND(0, words), LEND(1, strings), object, LEND(2, output), lent.report);
+}
+
 static void complete(void)
 {
     demnyaluz_complete(LEND(0, words), LEND(1, strings), LEND(2, descriptor), lent.report);
@@ -242,6 +249,13 @@ int main(void)
     compare(enter_string, 2, "a string");
     run(enter_string, 1u << 1, true);
     check(is_result() && lent.report[DEMNYALUZ_REPORT_KIND] == DEMNYALUZ_KIND_STRING, "the empty string");
+    static const uint64_t refusals[] = {DEMNYALUZ_REFUSAL_OUTPUT_TOO_SMALL, DEMNYALUZ_REFUSAL_OUTPUT_TOO_SMALL, DEMNYALUZ_REFUSAL_UNUSABLE_PART,
+                                        DEMNYALUZ_REFUSAL_OUTPUT_TOO_SMALL, DEMNYALUZ_REFUSAL_OBJECT_NEVER_MADE};
+    for (object = 0; object < sizeof refusals / sizeof refusals[0]; object++) {
+        compare(page, 3, "a page");
+        run(page, 1u << 2, true);
+        check(is_refused(refusals[object]), "a page without an output");
+    }
     compare(complete, 3, "completing");
     extensible = false;
     compare(validate, 4, "validating, not extensible");

@@ -58,6 +58,12 @@ static bool is_no_property(struct demnyaluz_property p)
     return !p.accessor && !p.writable && !p.enumerable && !p.configurable && is_none(p.value) && is_none(p.get) && is_none(p.set);
 }
 
+/* How many keys and how many bytes of a page there are. */
+static bool is_counted(struct demnyaluz_report report, uint64_t keys, uint64_t page_bytes)
+{
+    return report.keys == keys && report.page_bytes == page_bytes;
+}
+
 /* Each byte of a step, all of them different. */
 static void layouts(void)
 {
@@ -141,7 +147,7 @@ static void property(uint64_t symbol, bool accessor, bool writable, bool enumera
     check(report.outcome == DEMNYALUZ_OUTCOME_RESULT && report.form == DEMNYALUZ_FORM_PROPERTY && report.calls == 1, "a property read");
     check(p.accessor == accessor && p.writable == writable && p.enumerable == enumerable && p.configurable == configurable, "its booleans");
     check(report_words[DEMNYALUZ_REPORT_DETAIL] == (accessor ? 1u : 0u) + (writable ? 2u : 0u) + (enumerable ? 4u : 0u) + (configurable ? 8u : 0u), "its flags");
-    check(is_none(report.value) && report.keys == 0, "nothing beside it");
+    check(is_none(report.value) && is_counted(report, 0, 0), "nothing beside it");
     if (accessor)
         check(is_none(p.value) && p.get.kind == DEMNYALUZ_KIND_FUNCTION && p.get.payload == 1 && p.set.kind == DEMNYALUZ_KIND_FUNCTION && p.set.payload == 2,
               "its functions");
@@ -162,14 +168,19 @@ static void forms(void)
 {
     struct demnyaluz_step_parts parts = no_parts(DEMNYALUZ_CODE_OWN_PROPERTY_KEYS);
     struct demnyaluz_report report = run_alone(parts);
-    check(report.form == DEMNYALUZ_FORM_KEYS && report.keys == 12 && is_none(report.value) && is_no_property(report.property), "keys");
+    check(report.form == DEMNYALUZ_FORM_KEYS && is_counted(report, 12, 0) && is_none(report.value) && is_no_property(report.property), "keys");
     for (uint64_t i = 0; i < report.keys; i++)
         check(is_same(demnyaluz_read_value(output + DEMNYALUZ_VALUE_BYTES * i), demnyaluz_make_value(DEMNYALUZ_KIND_SYMBOL, i)), "a key");
+
+    demnyaluz_page(MEMORY, 0, output, sizeof output, report_words);
+    report = demnyaluz_read_report(report_words);
+    check(report.outcome == DEMNYALUZ_OUTCOME_RESULT && report.number == 0 && report.answers == 0 && report.calls == 0, "a page");
+    check(report.form == DEMNYALUZ_FORM_PAGE && is_counted(report, 0, 13 * 47) && is_none(report.value) && is_no_property(report.property), "its lines");
 
     parts = no_parts(DEMNYALUZ_CODE_GET_OWN_PROPERTY);
     parts.key = demnyaluz_make_value(DEMNYALUZ_KIND_SYMBOL, 99);
     report = run_alone(parts);
-    check(report.form == DEMNYALUZ_FORM_ABSENT && report.keys == 0 && is_none(report.value) && is_no_property(report.property), "absence");
+    check(report.form == DEMNYALUZ_FORM_ABSENT && is_counted(report, 0, 0) && is_none(report.value) && is_no_property(report.property), "absence");
 
     parts = no_parts(DEMNYALUZ_CODE_MAKE_PROXY);
     parts.value = demnyaluz_from_integer32(DEMNYALUZ_TRAP(DEMNYALUZ_CODE_GET));
@@ -182,13 +193,13 @@ static void forms(void)
     parts.key = demnyaluz_make_value(DEMNYALUZ_KIND_SYMBOL, 0);
     report = run(parts, sheet, sizeof sheet);
     check(report.outcome == DEMNYALUZ_OUTCOME_THROWN && report.form == DEMNYALUZ_FORM_VALUE && report.answers == 1 && report.number == 0, "a throw");
-    check(demnyaluz_to_number(report.value) == -1 && report.keys == 0 && is_no_property(report.property), "what was thrown");
+    check(demnyaluz_to_number(report.value) == -1 && is_counted(report, 0, 0) && is_no_property(report.property), "what was thrown");
     sheet[1] = DEMNYALUZ_ANSWER_VALUE;
     report = run(parts, sheet, sizeof sheet);
     check(report.outcome == DEMNYALUZ_OUTCOME_TYPE_ERROR && report.number == DEMNYALUZ_MESSAGE_GOT_UNEXPECTED_DATA && report.answers == 1
               && report.calls == 2,
           "a TypeError");
-    check(report.form == DEMNYALUZ_FORM_NOTHING && report.keys == 0 && is_none(report.value) && is_no_property(report.property), "nothing else");
+    check(report.form == DEMNYALUZ_FORM_NOTHING && is_counted(report, 0, 0) && is_none(report.value) && is_no_property(report.property), "nothing else");
     report = run(parts, sheet, 0);
     check(report.outcome == DEMNYALUZ_OUTCOME_REFUSED && report.number == DEMNYALUZ_REFUSAL_MALFORMED_RECORD && report.answers == 0 && report.calls == 0,
           "a refusal");
@@ -232,7 +243,7 @@ int main(void)
     for (uint64_t number = 1; number <= 2; number++) {
         const struct demnyaluz_report report = run_alone(making);
         check(report.outcome == DEMNYALUZ_OUTCOME_RESULT && report.form == DEMNYALUZ_FORM_VALUE && report.answers == 0 && report.calls == 0, "a function made");
-        check(is_same(report.value, demnyaluz_make_value(DEMNYALUZ_KIND_FUNCTION, number)) && report.keys == 0 && is_no_property(report.property),
+        check(is_same(report.value, demnyaluz_make_value(DEMNYALUZ_KIND_FUNCTION, number)) && is_counted(report, 0, 0) && is_no_property(report.property),
               "its number among the objects");
     }
     uint64_t symbol = 0;

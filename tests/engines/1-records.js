@@ -7,21 +7,22 @@
 // It prints a line for each call, in hexadecimal. Numbers are little-endian; the parts stand without gaps:
 //
 //     head          kind (1), room (2), record length (2), sheet length (2), expectation length (2)
-//     record        kind 1: a step, 2: a string's code units (2 bytes each), 3 to 6: a descriptor
+//     record        kind 1: a step, 2: a string's code units (2 bytes each), 3 to 6: a descriptor, 7: an object's number (8)
 //     sheet         kind 1: the answer sheet; 4 to 6: the current descriptor, none for an absent property
 //     expectation   outcome (1): 0 refused, 1 result, 2 TypeError, 3 throw
 //                   numbers (4): bit n is set where refusal or message n would be right, bit 0 for message 32; the engine's text may
 //                   fit several messages
 //                   answers used (1)
-//                   completion: its length (2), then 1 a value, 2 a property, 3 absence, 4 and how many keys (2), or 5 yes or no, the
-//                   number of the first test that fails (1, 0 where none does), and the property or absence after it
+//                   completion: its length (2), then 1 a value, 2 a property, 3 absence, 4 and how many keys (2), 5 yes or no, the
+//                   number of the first test that fails (1, 0 where none does), and the property or absence after it, or 6 and how
+//                   many bytes of a page (2)
 //                   the output after the call: room bytes, each 0xee before it
 //                   the store after the call: how many strings (2), how many objects (1), then each object: 2 for a proxy, or
 //                   callable (0 or 1), extensible (0 or 1), the prototype, how many own keys (2), and in their order kind, number and
 //                   property
 //
 // Kinds: 0 empties store and strings, 1 a step, 2 the entering of a string, 3 completing, 4 and 5 validating on a target that is
-// not and that is extensible, 6 merging. A value is its kind and nothing (undefined, null), 1 byte (boolean, string, symbol, object,
+// not and that is extensible, 6 merging, 7 a property page. A value is its kind and nothing (undefined, null), 1 byte (boolean, string, symbol, object,
 // function), or 8: a number is always written as kind 4 and the bits of its Float64, a NaN as 0x7ff8000000000000, so that
 // equal bytes are SameValue. A property is flags (accessor 1, writable 2, enumerable 4, configurable 8), then value, or get and set.
 'use strict';

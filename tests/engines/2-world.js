@@ -6,8 +6,8 @@ const symbolNumber = new Map(SYMBOLS.map((s, n) => [s, n]));
 const refusal8 = { refusal: 8 }, refusal9 = { refusal: 9 };
 
 // The answers of the call that runs. `grow`, where it is there, makes the next answer for whoever asks, after the given ones. `rejected` is the first
-// preventExtensions or defineProperty trap that answered false, and how many answers were used then.
-const newSheet = (answers, grow) => ({ answers, used: 0, grow, rejected: null });
+// preventExtensions or defineProperty trap that answered false, and how many answers were used then. `asked`: the traps that were asked, and 'function'.
+const newSheet = (answers, grow) => ({ answers, used: 0, grow, rejected: null, asked: [] });
 let sheet = newSheet([], null);
 
 function next(asks) {
@@ -16,6 +16,7 @@ function next(asks) {
     if (made === null) throw refusal8;
     sheet.answers.push(made);
   }
+  sheet.asked.push(asks.trap);
   return sheet.answers[sheet.used++];
 }
 
@@ -31,7 +32,7 @@ const madeObject = (callable, prototype) => (callable ? callableObject(prototype
 let world;
 
 function newWorld() {
-  world = { objects: [], numbers: new Map(), strings: [], stringNumber: new Map() };
+  world = { objects: [], numbers: new Map(), strings: [], stringNumber: new Map(), representations: [] };
   keep(dumpStore());
 }
 
@@ -285,6 +286,37 @@ function keep(dump) {
   world.sizes = dump.sizes;
 }
 
+// Representations ----------------------------------------------------------------------
+//
+// A page shows whether a number was stored as Integer32 or as Float64, which an engine does not tell. So beside each object stands, by key, the record of the
+// number that was stored last. Lists in which every number has one representation would need none of this; but no page would then tell a definition that
+// replaces a number by an equal one of the other representation from one that leaves it.
+
+// The ordinary object, or the function, at the end of the targets.
+function baseOf(o) {
+  let at = world.objects[o];
+  while (at.proxy) at = world.objects[at.target];
+  return at.it;
+}
+
+// The number that a step hands in for a property, and where it would be stored: in the ordinary object at the end of the targets. Null where there is none,
+// and where the property that is there is fixed: a definition that is accepted leaves it as it is.
+function givenNumber(s) {
+  const value = s.code === 9 ? s.descriptor.value : s.code === 12 && s.receiver[0] > 6 ? s.value : undefined;
+  if (value === undefined || (value[0] !== 3 && value[0] !== 4)) return null;
+  const it = baseOf(s.code === 9 ? s.object : payload(s.receiver)), key = valueOf(s.key), p = Reflect.getOwnPropertyDescriptor(it, key);
+  if (p !== undefined && p.writable === false && !p.configurable) return null;
+  return { o: world.numbers.get(it), key, record: value[0] === 3 ? value : bytesOf(valueOf(value)) };
+}
+
+// Whether step 9 or 12 ended in a definition that the ordinary object accepted: any other true is the answer of a trap, or a setter's.
+const isStored = (expected) => expected.completion === '01' + valueText(true) && !['defineProperty', 'set', 'function'].some((trap) => sheet.asked.includes(trap));
+
+function keepRepresentation({ o, key, record }) {
+  const records = world.representations[o] || (world.representations[o] = new Map());
+  records.set(key, record);
+}
+
 // Lines -------------------------------------------------------------------------------
 
 let calls = 0;
@@ -314,7 +346,7 @@ function doStep(record, given, room, after) {
   if (n === 0 && !growing) n = sheetRefusal(given, before);
   sheet = newSheet(n === 0 && !growing ? sheetOf(given) : [], growing ? given : null);
   const s = n === 0 ? stepOf(record) : null;
-  const copies = n === 0 && s.code === 18 ? copied() : null;
+  const copies = n === 0 && s.code === 18 ? copied() : null, number = n === 0 ? givenNumber(s) : null;
   let expected = n === 0 ? perform(s, room) : refused(n), whole = true;
   const isShort = expected.numbers === 1 << 11 && expected.outcome === 0;
   let dump = dumpStore();
@@ -334,6 +366,7 @@ function doStep(record, given, room, after) {
     whole = takeBack(dump.sizes, valueOf(s.key));
   } else {
     keep(dump);
+    if (number !== null && isStored(expected)) keepRepresentation(number);
   }
   line(1, room, record, given, expected);
   return whole;

@@ -53,13 +53,6 @@ function nearValue(v) {
   return weighed([[3, () => (x === 0 ? float(-1 / x === Infinity ? 0 : -0) : float(-x))], [2, () => float(x)], [2, () => (Object.is(x | 0, x) ? integer(x) : float(x))], [1, () => float(x + 1)], [1, someValue]])();
 }
 
-// The ordinary object, or the function, at the end of the targets.
-function baseOf(o) {
-  let at = world.objects[o];
-  while (at.proxy) at = world.objects[at.target];
-  return at.it;
-}
-
 const ownKeys = (o) => Reflect.ownKeys(baseOf(o)).map(bytesOf);
 
 function someKey(o, style) {
@@ -353,9 +346,16 @@ function chosenStep(style) {
   return world.objects.length > 0 && chance(4) ? spoilt(s) : s;
 }
 
-// At most `left` calls, of which a sheet with unread answers takes two. False where the world cannot go on.
+// At most `left` calls, of which a sheet with unread answers takes two, and a page after the step one. False where the world cannot go on.
 function step(style, left) {
-  const whole = stepBytes(chosenStep(style)), record = asked(chance(2) ? damaged(whole) : whole);
+  const whole = stepBytes(chosenStep(style)), record = asked(chance(2) ? damaged(whole) : whole), end = calls + left;
+  if (!answering(record, left)) return false;
+  if (calls < end && [7, 9, 12, 13, 18].includes(record[0]) && chance(style.crowd ? 2 : 8)) pageAfter(record);
+  return true;
+}
+
+// The step, with answers as it asks for them, or with a sheet made before.
+function answering(record, left) {
   const made = record[1] < world.objects.length, lists = record[0] === 14 && made, levels = (record[0] === 18 || record[0] === 19) && made;
   if (lists && walk(record[1]) > 1500) record[0] = 6;
   if (levels && levelCalls(record[0], record[1]) > 2048) { record[0] = 6; record.fill(0, 11, 20); }
@@ -390,7 +390,59 @@ function levelScene() {
   if (chance(20)) run(chance(50) ? { code: 7, object: base } : { code: 18, object: base, value: integer(random(2)) }, 0, 0);
   const end = chance(20) ? random(6) : FULL.answers, honest = pick([70, 88, 96]);
   run({ code: 18, object: last(), value: level }, honest, end);
+  if (chance(30)) doPage(objectNumber(base), pageSize(base));
   return run({ code: 19, object: chance(50) ? base : last(), value: level }, honest, FULL.answers);
+}
+
+// Pages ----------------------------------------------------------------------------------
+
+// The output of a page: just enough, longer, or too short.
+function pageRoom(o) {
+  const n = pageSize(o);
+  return weighed([[40, n], [35, n + 1 + random(100)], [11, n - 1], [6, 0], [8, random(n)]]);
+}
+
+const ordinaryBase = (o) => world.numbers.get(baseOf(o));
+
+// Of the object that a step was to change, whether or not it did.
+function pageAfter(record) {
+  const o = record[0] === 12 && record[20] > 6 ? record[21] : record[1];
+  if (o < world.objects.length) doPage(objectNumber(ordinaryBase(o)), pageRoom(ordinaryBase(o)));
+}
+
+// A number that no object has, some with the low bytes of one that has been made.
+function unmadeNumber() {
+  const n = world.objects.length, bytes = objectNumber(random(n + 1));
+  bytes[1 + random(7)] = 1 + random(255);
+  return pick([objectNumber(n), objectNumber(n + random(300)), bytes, bytes, [255, 255, 255, 255, 255, 255, 255, 255]]);
+}
+
+// Mostly of an object that has properties, where there is one.
+function somePage() {
+  const ordinary = numbersOf((at) => !at.proxy), filled = ordinary.filter((o) => world.sizes[o] > 0), proxies = numbersOf((at) => at.proxy);
+  const o = pick(filled.length > 0 && chance(90) ? filled : ordinary), any = pick([0, 46, 47, 94, random(500)]);
+  weighed([[14, () => doPage(objectNumber(o), pageRoom(o))], [proxies.length > 0 ? 4 : 0, () => doPage(objectNumber(pick(proxies)), any)], [2, () => doPage(unmadeNumber(), any)]])();
+}
+
+// A number that is there, handed in again in either representation: defined and set, straight and through a proxy, over what is fixed and what is not. A page
+// alone shows which of the two is stored then.
+function numberScene() {
+  const run = (s) => doStep(asked(stepBytes(s)), someAnswer, 0), base = world.objects.length, isFunction = chance(20);
+  run({ code: isFunction ? 16 : 1, value: NULL });
+  if (!isFunction) run({ code: 2, object: base, value: integer(pick([0, 0, 0, 16, 32, 256])) });
+  const key = chance(75) ? someString() : someSymbol(), x = pick([0, 1, -1, 70000, 2147483647, -2147483648]), either = () => pick([integer, float])(x);
+  if (!run({ code: 9, object: base, key, descriptor: { value: either(), enumerable: flag(), writable: flag(), configurable: flag() } })) return false;
+  for (let n = 1 + random(3); n > 0; n--) {
+    const o = isFunction || chance(60) ? base : base + 1, value = chance(85) ? either() : float(-x);
+    if (!run(chance(60) ? { code: 9, object: o, key, descriptor: near({ value, enumerable: flag() }) } : { code: 12, object: o, key, value, receiver: named(o) })) return false;
+    doPage(objectNumber(base), pageRoom(base));
+  }
+  return true;
+}
+
+// Of each ordinary object and function, within the limit.
+function allPages(limit) {
+  for (const o of numbersOf((at) => !at.proxy)) if (calls < limit) doPage(objectNumber(o), pageRoom(o));
 }
 
 // Descriptors by themselves --------------------------------------------------------------
@@ -431,15 +483,19 @@ const STYLES = [
   [2, { calls: 700, strings: 4, last: 0, proxies: 10, crowd: true, codes: [[1, 1], [1, 16], [1, 2], [90, 9], [2, 10], [12, 12], [3, 13], [1, 14], [1, 18], [2, 19]] }],
 ];
 
+// Pages do not count in a list's length, so that other calls see the objects that they would see without them.
 function someWorld(limit) {
-  const style = weighed(STYLES), end = Math.min(limit, calls + style.calls / 2 + random(style.calls));
+  const style = weighed(STYLES), others = () => calls - pageCount(), end = others() + style.calls / 2 + random(style.calls), left = () => Math.min(limit - calls, end - others());
   emptied();
-  for (let i = random(style.strings); i >= 0 && calls < end; i--) doEnter(someText());
-  if (style.crowd) for (let i = 0, n = pick([40, 120, 250, 270]); i < n && calls < end; i++) doEnter('k' + i);
-  while (calls < end) {
+  for (let i = random(style.strings); i >= 0 && left() > 0; i--) doEnter(someText());
+  if (style.crowd) for (let i = 0, n = pick([40, 120, 250, 270]); i < n && left() > 0; i++) doEnter('k' + i);
+  while (left() > 0) {
     if (chance(3)) doEnter(someText());
-    else if (style.levels && chance(25) && end - calls > 12 && world.objects.length + 3 <= FULL.objects) { if (!levelScene()) return; }
+    else if (style.levels && chance(25) && left() > 12 && world.objects.length + 3 <= FULL.objects) { if (!levelScene()) return; }
     else if (world.objects.length > 0 && chance(5)) stepAlone();
-    else if (!step(style, end - calls)) return;
+    else if (world.objects.length > 0 && chance(3)) somePage();
+    else if (!step(style, left())) return;
   }
+  if (chance(50) && limit - calls > 12 && world.objects.length + 2 <= FULL.objects && !numberScene()) return;
+  if (chance(25)) allPages(limit);
 }

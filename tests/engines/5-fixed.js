@@ -1,5 +1,20 @@
 // Calls written by hand: every message and every refusal, whatever the seed.
 
+// A page in an output that it just fills, in one that is a byte too short and in a longer one. What it says must be what is written here.
+function shows(o, lines) {
+  const text = 'key  ecw value or get       set               \n' + lines.map((line) => line.padEnd(46) + '\n').join('');
+  if (pageText(o) !== text) throw new Error('a page is\n' + pageText(o) + 'and not\n' + text);
+  for (const room of [text.length, text.length - 1, text.length + 50]) doPage(objectNumber(o), room);
+}
+
+function refusesPage(n, record, rooms) {
+  for (const room of rooms) {
+    const before = paged[n];
+    doPage(record, room);
+    if (paged[n] !== before + 1) throw new Error('a page was not refused as ' + n);
+  }
+}
+
 function fixedCalls() {
   const enter = (text) => { doEnter(text); return string(world.stringNumber.get(text)); };
   const run = (code, o, parts, answers, room) => doStep(stepBytes(Object.assign({ code, object: o }, parts)), sheetBytes(answers || []), room === undefined ? 40 : room);
@@ -123,7 +138,7 @@ function fixedCalls() {
   run(13, crowd, { key: string(0) }); define(last, string(0), { configurable: true }); define(last, string(1), { configurable: true });
   run(7, last); define(last, string(1), { configurable: true });
   fixedLevels(enter, run, make, makeFunction, proxy, define);
-  for (const more of [fixedFunctions, fixedFunctionAnswers, fixedFunctionRefusals, fixedValidation, fixedUnread]) more(enter, run, make, makeFunction, proxy, define);
+  for (const more of [fixedFunctions, fixedFunctionAnswers, fixedFunctionRefusals, fixedValidation, fixedUnread, fixedPages]) more(enter, run, make, makeFunction, proxy, define);
 }
 
 // Steps 18 and 19.
@@ -263,6 +278,9 @@ function fixedLevels(enter, run, make, makeFunction, proxy, define) {
   for (let i = 0; i < FULL.strings; i++) doEnter('k' + i);
   for (let i = 0; i < FULL.properties; i++) define(crowd, string(i), i % 5 === 0 ? { get: f, configurable: true } : open(i));
   test(crowd, SEALED); set(crowd, SEALED); tests(crowd); set(proxy(crowd, 0), FROZEN); tests(crowd); run(14, crowd, {}, [], 9 * FULL.properties);
+  // the largest page, 12,079 bytes
+  shows(crowd, Array.from({ length: FULL.properties }, (_, i) => 's' + threeDigits(i) + (i % 5 === 0 ? ' ..- 08' + '0'.repeat(16) + ' ' + '0'.repeat(18) : ' e.. 03' + HEX[i] + '0'.repeat(14))));
+  refusesPage(11, objectNumber(crowd), [0, 47, 4096, 12078]);
 }
 
 // Step 16, and functions as operands, prototypes, receivers, getters and setters.
@@ -522,4 +540,110 @@ function fixedUnread(enter, run, make, makeFunction, proxy, define) {
   for (let i = 0; i < FULL.strings; i++) doEnter('k' + i);
   for (let i = 0; i < FULL.properties; i++) define(crowd, string(i), { configurable: true });
   define(last, string(0), { configurable: true }, [yes]); run(12, last, { key: string(1), value: NULL, receiver: object(last) }, all(2)); define(crowd, string(0), { value: NULL }, [yes]); run(14, crowd, {}, [yes], 9 * FULL.properties);
+  shows(last, []);
+}
+
+// Property pages.
+function fixedPages(enter, run, make, makeFunction, proxy, define) {
+  const yes = answered(boolean(true)), no = answered(boolean(false)), none = answered(UNDEFINED);
+  const open = (value) => ({ value, writable: true, enumerable: true, configurable: true });
+  const fixed = (value) => ({ value, writable: false, enumerable: true, configurable: false });
+  const set = (o, key, value, receiver, answers) => run(12, o, { key, value, receiver: named(receiver) }, answers);
+  const nothing = '0'.repeat(18), undefinedLines = (keys) => keys.map((key) => key + ' .c. ' + nothing);
+
+  // 2: an empty store
+  emptied();
+  refusesPage(2, objectNumber(0), [0, 46, 47, 100]);
+  // an object without properties; outputs that are too short
+  const [a, b, c] = ['a', 'b', 'c'].map(enter), bare = make();
+  shows(bare, []);
+  refusesPage(11, objectNumber(bare), [0, 1, 46]);
+  // each combination of attributes
+  const attributes = make(), truths = [false, true];
+  let n = 0;
+  for (const enumerable of truths) for (const configurable of truths) for (const writable of truths) define(attributes, symbol(n++), { value: NULL, enumerable, configurable, writable });
+  shows(attributes, ['...', '..w', '.c.', '.cw', 'e..', 'e.w', 'ec.', 'ecw'].map((cell, i) => 'y00' + i + ' ' + cell + ' 010000000000000000'));
+  // accessors: no function, a getter, a setter, both, one function as both
+  const f = makeFunction(), F = callable(f), G = callable(makeFunction()), accessors = make();
+  define(accessors, a, { get: UNDEFINED, configurable: true }); define(accessors, b, { get: F }); define(accessors, c, { set: G, enumerable: true });
+  define(accessors, symbol(1), { get: F, set: G, enumerable: true, configurable: true }); define(accessors, symbol(0), { get: G, set: G });
+  shows(accessors, ['s000 .c- ' + nothing + ' ' + nothing, 's001 ..- 080200000000000000 ' + nothing, 's002 e.- ' + nothing + ' 080300000000000000', 'y001 ec- 080200000000000000 080300000000000000', 'y000 ..- 080300000000000000 080300000000000000']);
+  // data in the place of an accessor, and an accessor in the place of data: where the first was
+  define(accessors, a, { value: a }); define(accessors, symbol(1), { writable: true }); define(attributes, symbol(3), { set: F });
+  shows(accessors, ['s000 .c. 050000000000000000', 's001 ..- 080200000000000000 ' + nothing, 's002 e.- ' + nothing + ' 080300000000000000', 'y001 ecw ' + nothing, 'y000 ..- 080300000000000000 080300000000000000']);
+  shows(attributes, ['...', '..w', '.c.'].map((cell, i) => 'y00' + i + ' ' + cell + ' 010000000000000000').concat(['y003 .c- ' + nothing + ' 080200000000000000'], ['e..', 'e.w', 'ec.', 'ecw'].map((cell, i) => 'y00' + (i + 4) + ' ' + cell + ' 010000000000000000')));
+  // values of each kind; numbers keep their representation, and a NaN is one
+  const p = proxy(bare), values = make();
+  [UNDEFINED, NULL, boolean(false), boolean(true), integer(70000), integer(-1), integer(-2147483648), float(0.5), float(-0), float(70000), float(-Infinity), [4, 1, 0, 0, 0, 0, 0, 0xf0, 0xff], b, symbol(200), object(values), object(p), F]
+    .forEach((value, i) => define(values, symbol(i), { value }));
+  shows(values, ['00', '01', '0200', '0201', '0370110100', '03ffffffff', '0300000080', '04000000000000e03f', '040000000000000080', '04000000000017f140', '04000000000000f0ff', '04000000000000f87f', '0501', '06c8', '0706', '0705', '0802']
+    .map((bytes, i) => 'y' + threeDigits(i) + ' ... ' + bytes.padEnd(18, '0')));
+  // an equal number of the other representation is stored where the property is not fixed: by a definition, by [[Set]], through a proxy without traps
+  const numbers = make(), through = proxy(proxy(numbers, 0), 0);
+  define(numbers, a, open(integer(1))); shows(numbers, ['s000 ecw 030100000000000000']);
+  define(numbers, a, { value: float(1) }); shows(numbers, ['s000 ecw 04000000000000f03f']);
+  set(numbers, a, integer(1), numbers); shows(numbers, ['s000 ecw 030100000000000000']);
+  set(through, a, float(1), through); shows(numbers, ['s000 ecw 04000000000000f03f']);
+  define(through, a, { value: integer(1), configurable: false }); shows(numbers, ['s000 e.w 030100000000000000']);
+  define(numbers, a, { value: float(1), writable: false }); shows(numbers, ['s000 e.. 04000000000000f03f']);
+  // it stays as it was where the property is fixed; and where a definition is rejected, a trap answers, or a definition has no value
+  define(numbers, a, { value: integer(1) }); define(numbers, a, fixed(integer(1))); define(through, a, { value: integer(1) }); set(numbers, a, integer(1), numbers); define(numbers, a, { value: integer(2) });
+  shows(numbers, ['s000 e.. 04000000000000f03f']);
+  define(numbers, b, open(integer(0))); const traps = proxy(numbers, 32 + 256), defines = proxy(numbers, 32);
+  define(numbers, b, { value: float(-0) }); shows(numbers, ['s000 e.. 04000000000000f03f', 's001 ecw 040000000000000080']);
+  define(numbers, b, { value: float(0) }); define(traps, b, { value: integer(0) }, [yes]); define(traps, b, { value: integer(0) }, [no]); set(traps, b, integer(0), traps, [yes]); set(defines, b, integer(0), defines, [yes]);
+  define(numbers, b, { enumerable: false }); set(numbers, b, integer(0), p, [none, yes]);
+  shows(numbers, ['s000 e.. 04000000000000f03f', 's001 .cw 040000000000000000']);
+  // 3: a proxy, over an object and over a proxy; a revoked one; before 11
+  const gone = proxy(bare);
+  run(3, gone);
+  for (const o of [p, through, traps, gone]) refusesPage(3, objectNumber(o), [0, 46, 47, 500]);
+  // 2: numbers never made, with the low bytes of one that is; before 11
+  const count = world.objects.length, beside = (at, byte) => { const bytes = objectNumber(values); bytes[at] = byte; return bytes; };
+  for (const record of [objectNumber(count), objectNumber(31), objectNumber(32), objectNumber(255), beside(1, 1), beside(2, 1), beside(3, 128), beside(4, 1), beside(7, 1), beside(7, 128), Array(8).fill(255)]) refusesPage(2, record, [0, 47, 1000]);
+
+  // array indices ascending, other strings and then symbols by creation: not by their numbers
+  emptied();
+  const keys = ['10', 'b', '9', 'a', '4294967294', '4294967295', '01', '0', ''].map(enter), [ten, bee, nine] = keys, order = make();
+  for (const i of [5, 4, 3, 0, 6, 1, 2, 8, 7]) { define(order, symbol(20 - i), { configurable: true }); define(order, keys[i], { configurable: true }); }
+  const ordered = ['s007', 's002', 's000', 's004', 's005', 's003', 's006', 's001', 's008', 'y015', 'y016', 'y017', 'y020', 'y014', 'y019', 'y018', 'y012', 'y013'];
+  shows(order, undefinedLines(ordered));
+  // a key that is defined or set again keeps its place; one that was deleted comes last among its kind, an index back to where it was
+  define(order, bee, { value: NULL }); define(order, symbol(15), { get: UNDEFINED }); define(order, nine, { configurable: true });
+  const redefined = (lines) => lines.map((line) => (line.startsWith('s001') ? 's001 .c. 010000000000000000' : line.startsWith('y015') ? 'y015 .c- ' + nothing + ' ' + nothing : line));
+  shows(order, redefined(undefinedLines(ordered)));
+  for (const key of [bee, symbol(15), nine]) run(13, order, { key });
+  const without = ordered.filter((key) => !['s001', 'y015', 's002'].includes(key));
+  shows(order, undefinedLines(without));
+  for (const key of [nine, symbol(15), bee]) define(order, key, { configurable: true });
+  shows(order, undefinedLines(['s007', 's002', 's000', 's004', 's005', 's003', 's006', 's008', 's001', 'y016', 'y017', 'y020', 'y014', 'y019', 'y018', 'y012', 'y013', 'y015']));
+  // a function: without properties, and with what a script's function has
+  const [length, name] = ['length', 'name'].map(enter), g = makeFunction();
+  shows(g, []);
+  define(g, length, { value: integer(2), configurable: true }); define(g, name, { value: bee, configurable: true }); define(g, ten, { get: callable(g), enumerable: true });
+  shows(g, ['s000 e.- 080100000000000000 ' + nothing, 's009 .c. 030200000000000000', 's010 .c. 050100000000000000']);
+  refusesPage(11, objectNumber(g), [0, 47, 94, 141, 187]);
+  // closed, sealed, frozen: also through a proxy, and not where the step is refused
+  const level = (l) => {
+    const o = make(object(order));
+    define(o, length, open(integer(7))); define(o, bee, { get: callable(g), set: UNDEFINED, enumerable: true, configurable: true }); define(o, symbol(255), open(float(7)));
+    if (l < 0) run(7, o); else run(18, proxy(o, 0), { value: integer(l) });
+    return o;
+  };
+  shows(level(-1), ['s009 ecw 030700000000000000', 's001 ec- 080100000000000000 ' + nothing, 'y255 ecw 040000000000001c40']);
+  shows(level(0), ['s009 e.w 030700000000000000', 's001 e.- 080100000000000000 ' + nothing, 'y255 e.w 040000000000001c40']);
+  const frozen = level(1), cold = ['s009 e.. 030700000000000000', 's001 e.- 080100000000000000 ' + nothing, 'y255 e.. 040000000000001c40'];
+  shows(frozen, cold);
+  define(frozen, length, { value: float(7) }); define(frozen, length, { value: integer(8) }); set(frozen, bee, NULL, frozen); run(13, frozen, { key: bee }); define(frozen, nine, {}); run(18, frozen, { value: integer(1) });
+  shows(frozen, cold);
+  const half = make(), lists = proxy(half, 1024);
+  define(half, ten, open(integer(10))); run(18, lists, { value: integer(1) }, [yes]); shows(half, ['s000 ecw 030a00000000000000']);
+  run(18, lists, { value: integer(1) }, [listed([ten]), no]); shows(half, ['s000 e.. 030a00000000000000']);
+  // what is inherited is not shown, and a page of another object stays
+  const heir = make(object(order));
+  set(heir, ten, integer(5), heir); shows(heir, []); define(heir, nine, open(integer(5))); shows(heir, ['s002 ecw 030500000000000000']); set(heir, nine, float(5), half); shows(heir, ['s002 ecw 030500000000000000']);
+  // the number of a key in three digits
+  const digits = make();
+  for (const i of [255, 9, 100, 0, 10, 99]) define(digits, symbol(i), { configurable: true });
+  shows(digits, undefinedLines(['y255', 'y009', 'y100', 'y000', 'y010', 'y099']));
 }

@@ -1,4 +1,4 @@
-//! Random and mutated records, sheets and lines of text through the C interface, each held against the plain implementation.
+//! Random and mutated records, sheets, pages and lines of text through the C interface, each held against the plain implementation.
 //!
 //! `fuzz COUNT SEED`: at least COUNT calls in lists of 200 from an empty store, and a text of 40 lines or random bytes after each. Every list is made
 //! from the seed and its own number, so a difference can be shown again by itself: `fuzz 1 SEED` with the seed that it names.
@@ -81,7 +81,26 @@ fn damaged_memory(generator: &mut Generator, pair: &mut Pair) {
         assert!(report[0] <= 3, "{report:?}");
         assert!(report[0] == 1 || step[0] == 18 && report[0] != 0 || pair.words == before.0);
         assert_eq!(pair.strings, before.1);
+        damaged_page(generator, pair);
     }
+}
+
+/// A page over whatever the memory holds: whole lines at the output's start, and nothing else changes.
+fn damaged_page(generator: &mut Generator, pair: &mut Pair) {
+    const FILL: u8 = 0xa5;
+    let before = (pair.words.clone(), pair.strings.clone());
+    let object = generator.random.below(34) as u64;
+    let mut output: Box<[u8]> = vec![FILL; generator.random.pick(&[46, 47, 500, 12_079])].into();
+    let report = pair.page_library(object, &mut output);
+    let written = match report {
+        [0, 1 | 2 | 3 | 11, 0, 0, 0, 0, 0, 0, 0, 0] => 0,
+        [1, 0, 0, 0, 5, written, 0, 0, 0, 0] => written as usize,
+        _ => panic!("{report:?}"),
+    };
+    let (page, rest) = output.split_at(written);
+    assert!(page.chunks(47).all(|line| line.len() == 47 && line[46] == b'\n' && line[..46].iter().all(|c| c.is_ascii_graphic() || *c == b' ')));
+    assert!(rest.iter().all(|c| *c == FILL));
+    assert!(pair.words == before.0 && pair.strings == before.1);
 }
 
 /// A text with damaged lines, or of random bytes, in pieces, and once more with a damaged state: how many bytes it had.
@@ -141,11 +160,13 @@ fn main() {
     println!("messages 1 to 32: {:?}", &tally.messages[1..]);
     println!("validations by the first test that failed, 0 (none) to 8: {:?}", tally.tests);
     println!("steps of each code: {:?}", tally.steps().collect::<Vec<_>>());
+    println!("pages, and how often they were refused: {:?}", tally.pages);
     println!("functions, where they came and where they were refused: {:?}", tally.functions);
     println!("steps of code 18 that changed the store and ended in a TypeError or a throw: {}", tally.midway);
     if count >= 100_000 {
         assert_eq!(tally.missing(), (vec![], vec![]), "refusals and messages that never came");
         assert!(tally.tests.iter().all(|n| *n > 0), "tests of validation that never failed");
         assert!(tally.functions.all(), "places of functions that never came");
+        assert!(tally.pages.all(), "pages or refusals of them that never came");
     }
 }

@@ -4,7 +4,7 @@
 #![allow(unsafe_code)]
 
 use crate::raw;
-use crate::report::REPORT_WORDS;
+use crate::report::{self, Refusal, REPORT_WORDS};
 
 /// The words of a report; `include/demnyaluz.h` says what they are, and [`Report::from_words`](crate::Report::from_words) reads them.
 #[derive(Clone, Copy, PartialEq, Eq, Hash, Debug)]
@@ -100,6 +100,42 @@ pub fn enter_string(strings: &mut [u16], units: &[u16]) -> ReportWords {
     // SAFETY: each pointer is a slice's, with its length, and the report has its words. What is written is borrowed mutably: it overlaps nothing.
     unsafe { raw::demnyaluz_enter_string(strings.as_mut_ptr(), strings.len(), units.as_ptr(), units.len(), report.0.as_mut_ptr()) }
     report
+}
+
+/// The property page of an object, at the output's start: how many bytes it has. Those after it stay.
+///
+/// # Errors
+/// The refusal, and the output is as it was: [`Refusal::MalformedRecord`] where the memory is no store or no table, [`Refusal::ObjectNeverMade`],
+/// [`Refusal::UnusablePart`] for a proxy, and [`Refusal::OutputTooSmall`]; [`PAGE_BYTES`](crate::PAGE_BYTES) hold every page.
+///
+/// ```
+/// use demnyaluz::{lent, sheet_bytes, Refusal, Step, PAGE_BYTES, STORE_WORDS, STRING_CELLS};
+///
+/// let (mut words, strings) = (vec![0; STORE_WORDS], vec![0; STRING_CELLS]);
+/// let mut output = vec![0; PAGE_BYTES];
+/// assert_eq!(lent::page(&words, &strings, 0, &mut output), Err(Refusal::ObjectNeverMade));
+/// let step = Step::MakeObject { prototype: None }.to_bytes();
+/// let _ = lent::step(&mut words, &strings, &step, &sheet_bytes(&[]), &mut []);
+/// let length = lent::page(&words, &strings, 0, &mut output)?;
+/// assert_eq!(&output[..length], b"key  ecw value or get       set               \n");
+/// # Ok::<(), Refusal>(())
+/// ```
+pub fn page(words: &[u64], strings: &[u16], object: u64, output: &mut [u8]) -> Result<usize, Refusal> {
+    let mut report = ReportWords::ZERO;
+    // SAFETY: each pointer is a slice's, with its length, and the report has its words. What is written is borrowed mutably: it overlaps nothing.
+    unsafe {
+        raw::demnyaluz_page(
+            words.as_ptr(),
+            words.len(),
+            strings.as_ptr(),
+            strings.len(),
+            object,
+            output.as_mut_ptr(),
+            output.len(),
+            report.0.as_mut_ptr(),
+        );
+    }
+    report::page_length(&report.0).expect("a report of the library")
 }
 
 /// A descriptor is completed by itself.

@@ -5,8 +5,8 @@
 //!
 //! A [`Store`] holds objects, properties and strings. A [`Step`] calls one of the essential internal methods of an object, makes an object, a
 //! function or a proxy, seals or freezes an object, or tests whether it is so. A proxy's handler is a set of [`Traps`] and, for each step, a list of
-//! [`Answer`]s: each call of a trap, a getter or a setter takes the next one. What comes back is a [`Report`]. A [`TextReader`] takes steps as lines
-//! of text and gives a row for each.
+//! [`Answer`]s: each call of a trap, a getter or a setter takes the next one. What comes back is a [`Report`]. [`Store::page`] lists an object's
+//! properties as text. A [`TextReader`] takes steps as lines of text and gives a row for each.
 //!
 //! ```
 //! use demnyaluz::{Answer, Failure, Message, PropertyDescriptor, Store, Traps};
@@ -30,7 +30,6 @@
 mod descriptor;
 pub mod lent;
 pub mod notation;
-mod page;
 pub mod raw;
 pub mod readable;
 mod report;
@@ -38,6 +37,7 @@ pub mod rows;
 mod step;
 mod store;
 mod text;
+mod transcript;
 mod validation;
 mod value;
 
@@ -46,7 +46,7 @@ pub use report::{Completion, Failure, Message, Refusal, Report, REPORT_WORDS};
 pub use step::{sheet_bytes, Answer, IntegrityLevel, Step, Traps};
 pub use store::{
     Store, MAXIMUM_ANSWERS, MAXIMUM_CALLS, MAXIMUM_KEYS, MAXIMUM_OBJECTS, MAXIMUM_PROPERTIES, MAXIMUM_STRINGS, MAXIMUM_UNITS, OUTPUT_BYTES,
-    STORE_WORDS, STRING_CELLS,
+    PAGE_BYTES, PAGE_LINE_BYTES, STORE_WORDS, STRING_CELLS,
 };
 pub use text::{run_text, TextReader, TEXT_LINE_BYTES, TEXT_ROW_BYTES, TEXT_STATE_WORDS};
 pub use validation::{Validation, ValidationTest};

@@ -33,6 +33,18 @@ extern "C" {
     /// A string's code units are entered.
     pub fn demnyaluz_enter_string(strings: *mut u16, strings_length: usize, units: *const u16, units_length: usize, report: *mut u64);
 
+    /// The property page of an object.
+    pub fn demnyaluz_page(
+        words: *const u64,
+        words_length: usize,
+        strings: *const u16,
+        strings_length: usize,
+        object: u64,
+        output: *mut u8,
+        output_length: usize,
+        report: *mut u64,
+    );
+
     /// A descriptor is completed by itself.
     pub fn demnyaluz_complete(
         words: *const u64,

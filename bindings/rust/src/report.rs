@@ -34,8 +34,8 @@ pub enum Refusal {
     MalformedRecord = 1,
     /// 2: the number of an object or of a function that is not there.
     ObjectNeverMade = 2,
-    /// 3: a string was not entered or is too long, a function is named as another object or another object as a function, or a part has a kind, or
-    /// is an object, that its step cannot use.
+    /// 3: a string was not entered or is too long, a function is named as another object or another object as a function, a part has a kind, or is
+    /// an object, that its step cannot use, or a page is asked of a proxy.
     UnusablePart = 3,
     /// 4: a descriptor mixes data and accessor fields, or has a get or set that cannot be called and is not undefined.
     UnusableDescriptor = 4,
@@ -51,7 +51,7 @@ pub enum Refusal {
     UnreadableAnswer = 9,
     /// 10: the step would make more than 2,048 calls.
     TooManyCalls = 10,
-    /// 11: the keys do not fit the output, at 9 bytes each.
+    /// 11: the keys do not fit the output, at 9 bytes each, or a page does not.
     OutputTooSmall = 11,
     /// 12: a line of text breaks its form or has more than 16,384 characters.
     BrokenLine = 12,
@@ -317,7 +317,8 @@ pub struct Report {
 }
 
 impl Report {
-    /// The report of its [`REPORT_WORDS`] words and, for keys, the output that they were written to; none where they are no report.
+    /// The report of its [`REPORT_WORDS`] words and, for keys, the output that they were written to; none where they are no report, and none for
+    /// those of a page, which [`lent::page`] reads itself.
     ///
     /// ```
     /// use demnyaluz::{Report, REPORT_WORDS};
@@ -413,6 +414,15 @@ impl fmt::Display for Report {
     /// Strings are numbers here; [`readable::report`] has their texts.
     fn fmt(&self, f: &mut fmt::Formatter<'_>) -> fmt::Result {
         f.write_str(&readable::report(self, &Strings::new()))
+    }
+}
+
+/// What the words of a page report: how many bytes it has, or the refusal.
+pub(crate) fn page_length(words: &[u64; REPORT_WORDS]) -> Option<Result<usize, Refusal>> {
+    match *words {
+        [0, number, 0, 0, 0, 0, 0, 0, 0, 0] => Refusal::from_number(number).map(Err),
+        [1, 0, 0, 0, 5, length, 0, 0, 0, 0] => usize::try_from(length).ok().map(Ok),
+        _ => None,
     }
 }
 

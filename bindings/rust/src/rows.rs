@@ -1,11 +1,11 @@
 //! The rows that [`TextReader`](crate::TextReader) writes, read back.
 use crate::descriptor::{Property, PropertyDescriptor};
 use crate::notation::{Call, Line};
-use crate::page::Page;
 use crate::readable;
 use crate::report::{self, Completion, Failure, Message, Refusal, Report};
 use crate::step::Step;
 use crate::store::{MAXIMUM_ANSWERS, MAXIMUM_CALLS};
+use crate::transcript::Transcript;
 use crate::value::Value;
 use std::fmt;
 use std::io::{self, BufRead, Write};
@@ -279,19 +279,19 @@ impl std::error::Error for Error {
 /// # Ok::<(), Box<dyn std::error::Error>>(())
 /// ```
 pub fn show(calls: &[Line], mut rows: impl BufRead, shown: &mut impl Write) -> Result<(), Error> {
-    let mut page = Page::default();
-    let done = show_on(&mut page, calls, &mut rows, shown);
-    let flushed = page.flush(shown).map_err(Error::Write);
+    let mut transcript = Transcript::default();
+    let done = show_on(&mut transcript, calls, &mut rows, shown);
+    let flushed = transcript.flush(shown).map_err(Error::Write);
     done.and(flushed)
 }
 
-fn show_on(page: &mut Page, calls: &[Line], rows: &mut impl BufRead, shown: &mut impl Write) -> Result<(), Error> {
+fn show_on(transcript: &mut Transcript, calls: &[Line], rows: &mut impl BufRead, shown: &mut impl Write) -> Result<(), Error> {
     match next(rows)? {
         Some(line) if line == HEADING => {}
         found => return Err(Error::Heading { found }),
     }
     for (line, Line { call, .. }) in (1..).zip(calls) {
-        let told = || readable::call(call, page.strings());
+        let told = || readable::call(call, transcript.strings());
         let Some(row) = next(rows)? else {
             return Err(Error::Missing { line, call: told(), calls: calls.len() });
         };
@@ -303,7 +303,7 @@ fn show_on(page: &mut Page, calls: &[Line], rows: &mut impl BufRead, shown: &mut
             Ok(_) => return Err(Error::OtherLine { line, call: told(), row }),
             Err(source) => return Err(Error::Malformed { line, call: told(), row, source }),
         };
-        page.write(line, call, &report, shown).map_err(Error::Write)?;
+        transcript.write(line, call, &report, shown).map_err(Error::Write)?;
     }
     match next(rows)? {
         None => Ok(()),

@@ -15,6 +15,12 @@ pub const STRING_CELLS: usize = 8449;
 /// How many bytes of output hold the longest list of keys.
 pub const OUTPUT_BYTES: usize = MAXIMUM_KEYS * Value::SIZE;
 
+/// How many bytes a line of a page has, its line feed counted.
+pub const PAGE_LINE_BYTES: usize = 47;
+
+/// How many bytes hold the longest page: the names and a line for each property.
+pub const PAGE_BYTES: usize = (1 + MAXIMUM_PROPERTIES) * PAGE_LINE_BYTES;
+
 /// How many objects a store can hold, functions and proxies included.
 pub const MAXIMUM_OBJECTS: usize = 32;
 
@@ -610,6 +616,41 @@ impl Store {
     /// ```
     pub fn is_sealed(&mut self, object: impl Into<ObjectId>, answers: &[Answer]) -> Result<bool, Failure> {
         self.step(&Step::TestIntegrityLevel { object: object.into(), level: IntegrityLevel::Sealed }, answers).into_boolean()
+    }
+
+    /// The property page of an ordinary object or a function: a line of the columns' names, then a line for each own property, in the order of
+    /// [`Store::own_property_keys`]. Every line has 46 characters and a line feed: four columns, one space between two.
+    /// - `key`, 4: `s` for a string or `y` for a symbol, and its number in three decimal digits;
+    /// - `ecw`, 3: `e`, `c` and `w` where the property is enumerable, configurable and writable, else a dot; a dash as an accessor's writable;
+    /// - `value or get`, 18: [the bytes](Value::to_bytes) of the value or of the getter in lowercase hexadecimal;
+    /// - `set`, 18: those of the setter, or spaces for data.
+    ///
+    /// # Errors
+    /// [`Refusal::ObjectNeverMade`], and [`Refusal::UnusablePart`] for a proxy.
+    ///
+    /// ```
+    /// use demnyaluz::{PropertyDescriptor, Store, SymbolId};
+    ///
+    /// let mut store = Store::new();
+    /// let visits = store.enter_string("visits")?;
+    /// let (counts, reader) = (store.make_object(None)?, store.make_function(None)?);
+    /// let read = PropertyDescriptor { get: Some(reader.into()), configurable: Some(true), ..PropertyDescriptor::default() };
+    /// assert!(store.define_own_property(counts, SymbolId(12), read, &[])?);
+    /// assert!(store.define_own_property(counts, visits, PropertyDescriptor::fixed(70_000), &[])?);
+    /// let page = [
+    ///     "key  ecw value or get       set               \n",
+    ///     "s000 e.. 037011010000000000                   \n",
+    ///     "y012 .c- 080100000000000000 000000000000000000\n",
+    /// ];
+    /// assert_eq!(store.page(counts)?, page.concat());
+    /// assert_eq!(store.page(reader)?, page[0]);
+    /// # Ok::<(), demnyaluz::Failure>(())
+    /// ```
+    pub fn page(&self, object: impl Into<ObjectId>) -> Result<String, Refusal> {
+        let mut page = vec![0; PAGE_BYTES];
+        let length = lent::page(&self.words, &self.strings, object.into().0.into(), &mut page)?;
+        page.truncate(length);
+        Ok(String::from_utf8(page).expect("a page is ASCII"))
     }
 
     /// CompletePropertyDescriptor by itself. The store says which objects, functions and strings there are.

@@ -1289,6 +1289,218 @@ fn the_2049th_call_is_refused_within_a_stack_of_1_mb() {
     work.unwrap().join().unwrap();
 }
 
+const NAMES: &str = "key  ecw value or get       set               \n";
+
+/// Whole pages, written out by hand.
+#[test]
+fn pages_list_the_own_properties() {
+    let mut store = Store::new();
+    for (number, text) in (0..).zip(["visits", "10", "name", "2", "4294967295", "01", "4294967294", "last"]) {
+        assert_eq!(store.enter_string(text), Ok(StringId(number)));
+    }
+    let object = store.make_object(None).unwrap();
+    let (reader, writer) = (store.make_function(Some(object.into())).unwrap(), store.make_function(None).unwrap());
+    let child = store.make_object(Some(object.into())).unwrap();
+    for empty in [object, reader.into(), writer.into(), child] {
+        assert_eq!(store.page(empty).as_deref(), Ok(NAMES));
+    }
+    let data = |value: Value, enumerable, configurable, writable| PropertyDescriptor::data(value, writable, enumerable, configurable);
+    let accessor = |get: Option<FunctionId>, set: Option<FunctionId>, enumerable: bool, configurable: bool| PropertyDescriptor {
+        get: get.map(Value::from),
+        set: set.map(Value::from),
+        enumerable: Some(enumerable),
+        configurable: Some(configurable),
+        ..Default::default()
+    };
+    let properties: [(PropertyKey, PropertyDescriptor); 11] = [
+        (SymbolId(12).into(), PropertyDescriptor::default()),
+        (StringId(0).into(), PropertyDescriptor::fixed(70_000)),
+        (StringId(1).into(), data(true.into(), true, true, true)),
+        (StringId(2).into(), accessor(Some(reader), None, false, true)),
+        (SymbolId(3).into(), accessor(None, Some(writer), true, false)),
+        (StringId(3).into(), data((-0.0).into(), false, false, true)),
+        (StringId(7).into(), data(StringId(2).into(), true, false, true)),
+        (StringId(4).into(), data(child.into(), true, true, false)),
+        (StringId(5).into(), accessor(Some(writer), Some(reader), true, true)),
+        (StringId(6).into(), data(Value::Null, false, true, false)),
+        (SymbolId(255).into(), data((-2).into(), false, true, true)),
+    ];
+    for (key, descriptor) in properties {
+        assert_eq!(store.define_own_property(object, key, descriptor, &[]), Ok(true));
+    }
+    let page = [
+        NAMES,
+        // 2, 10 and 4294967294 are array indices
+        "s003 ..w 040000000000000080                   \n",
+        "s001 ecw 020100000000000000                   \n",
+        "s006 .c. 010000000000000000                   \n",
+        // the other strings by creation
+        "s000 e.. 037011010000000000                   \n",
+        "s002 .c- 080100000000000000 000000000000000000\n",
+        "s007 e.w 050200000000000000                   \n",
+        "s004 ec. 070300000000000000                   \n",
+        "s005 ec- 080200000000000000 080100000000000000\n",
+        // symbols by creation
+        "y012 ... 000000000000000000                   \n",
+        "y003 e.- 000000000000000000 080200000000000000\n",
+        "y255 .cw 03feffffff00000000                   \n",
+    ];
+    let before = store.clone();
+    assert_eq!(store.page(object), Ok(page.concat()));
+    assert_eq!(store.page(object), Ok(page.concat()));
+    assert_eq!(store, before);
+    // what is inherited is on no page
+    for empty in [ObjectId::from(reader), writer.into(), child] {
+        assert_eq!(store.page(empty).as_deref(), Ok(NAMES));
+    }
+
+    // what is deleted and comes back is the last of its kind
+    assert_eq!(store.delete(object, StringId(2), &[]), Ok(true));
+    assert_eq!(store.set(object, StringId(2), SymbolId(0), object, &[]), Ok(true));
+    let lines = [&page[..5], &page[6..9], &["s002 ecw 060000000000000000                   \n"], &page[9..]].concat();
+    assert_eq!(store.page(object), Ok(lines.concat()));
+
+    // a function's page, by either name
+    assert_eq!(store.set(reader, StringId(7), reader, reader, &[]), Ok(true));
+    let page = format!("{NAMES}s007 ecw 080100000000000000                   \n");
+    assert_eq!((store.page(reader), store.page(ObjectId(1))), (Ok(page.clone()), Ok(page)));
+}
+
+/// Each NaN is one, in a page as in a report.
+#[test]
+fn a_page_has_the_bytes_of_every_value() {
+    let mut store = Store::new();
+    let object = store.make_object(None).unwrap();
+    let function = store.make_function(None).unwrap();
+    let string = store.enter_string("").unwrap();
+    for (value, digits) in [
+        (Value::Undefined, "000000000000000000"),
+        (Value::Null, "010000000000000000"),
+        (false.into(), "020000000000000000"),
+        (4_464.into(), "037011000000000000"),
+        (i32::MIN.into(), "030000008000000000"),
+        (0.5.into(), "04000000000000e03f"),
+        (f64::NAN.into(), "04000000000000f87f"),
+        (f64::from_bits(0xfff0_1234_5678_9abc).into(), "04000000000000f87f"),
+        (f64::from_bits(0x0123_4567_89ab_cdef).into(), "04efcdab8967452301"),
+        (string.into(), "050000000000000000"),
+        (SymbolId(171).into(), "06ab00000000000000"),
+        (object.into(), "070000000000000000"),
+        (function.into(), "080100000000000000"),
+    ] {
+        assert_eq!(store.set(object, string, value, object, &[]), Ok(true));
+        assert_eq!(store.page(object), Ok(format!("{NAMES}s000 ecw {digits}                   \n")));
+    }
+}
+
+#[test]
+fn the_longest_page_has_257_lines() {
+    let mut store = Store::new();
+    let function = store.make_function(None).unwrap();
+    let mut expected = NAMES.to_string();
+    for n in 0..=255 {
+        assert_eq!(store.define_own_property(function, SymbolId(n), PropertyDescriptor::fixed(n), &[]), Ok(true));
+        expected += &format!("y{n:03} e.. 03{n:02x}00000000000000                   \n");
+    }
+    assert_eq!(expected.len(), demnyaluz::PAGE_BYTES);
+    assert_eq!(store.page(function), Ok(expected));
+    // as strings, whose creation is not the order of their indices
+    let mut store = Store::new();
+    let object = store.make_object(None).unwrap();
+    for n in (0..=255).rev() {
+        let key = store.enter_string(&n.to_string()).unwrap();
+        assert_eq!(store.set(object, key, n, object, &[]), Ok(true));
+    }
+    let line = |n: u8| format!("s{:03} ecw 03{n:02x}00000000000000                   \n", 255 - n);
+    assert_eq!(store.page(object), Ok(NAMES.to_string() + &(0..=255).map(line).collect::<String>()));
+}
+
+#[test]
+fn pages_are_refused() {
+    let mut store = Store::new();
+    assert_eq!(store.page(ObjectId(0)), Err(Refusal::ObjectNeverMade));
+    let object = store.make_object(None).unwrap();
+    assert_eq!(store.set(object, SymbolId(0), 1, object, &[]), Ok(true));
+    let forwarding = store.make_proxy(object, Traps::NONE).unwrap();
+    let handled = store.make_proxy(forwarding, Traps::ALL).unwrap();
+    let revoked = store.make_proxy(object, Traps::NONE).unwrap();
+    store.revoke(revoked).unwrap();
+    let before = store.clone();
+    for proxy in [forwarding, handled, revoked] {
+        assert_eq!(store.page(proxy), Err(Refusal::UnusablePart));
+    }
+    for number in [4, 31, 32, 255] {
+        assert_eq!(store.page(ObjectId(number)), Err(Refusal::ObjectNeverMade));
+        assert_eq!(store.page(FunctionId(number)), Err(Refusal::ObjectNeverMade));
+    }
+    assert_eq!(store, before);
+
+    // by lent slices any number can be asked for, in any output
+    let (words, strings) = (store.words(), vec![0; demnyaluz::STRING_CELLS]);
+    let mut output = [b'?'; 95];
+    for (number, length, refusal) in [
+        (0, 93, Refusal::OutputTooSmall),
+        (0, 47, Refusal::OutputTooSmall),
+        (0, 0, Refusal::OutputTooSmall),
+        (1, 0, Refusal::UnusablePart),
+        (3, 95, Refusal::UnusablePart),
+        (4, 0, Refusal::ObjectNeverMade),
+        (256, 95, Refusal::ObjectNeverMade),
+        (1 << 32, 95, Refusal::ObjectNeverMade),
+        (u64::MAX, 95, Refusal::ObjectNeverMade),
+    ] {
+        assert_eq!(lent::page(words, &strings, number, &mut output[..length]), Err(refusal), "{number} {length}");
+        assert_eq!(output, [b'?'; 95]);
+    }
+    assert_eq!(lent::page(words, &strings, 0, &mut output), Ok(94));
+    assert_eq!(output.escape_ascii().to_string(), format!("{NAMES}y000 ecw 030100000000000000                   \n?").escape_default().to_string());
+}
+
+/// What may not change has the same line on every later page.
+#[test]
+fn a_frozen_property_has_the_same_line_on_a_later_page() {
+    let (mut store, object, keys) = exhibit();
+    let proxy = store.make_proxy(object, Traps::ALL).unwrap();
+    let page = [
+        NAMES,
+        "s003 .c- 080100000000000000 080200000000000000\n",
+        "s002 e.w 030400000000000000                   \n",
+        "s000 ec. 030200000000000000                   \n",
+        "s001 e.. 037011010000000000                   \n",
+        "y009 .cw 030100000000000000                   \n",
+        "y003 .c- 080100000000000000 080200000000000000\n",
+    ];
+    assert_eq!(store.page(object), Ok(page.concat()));
+    assert_eq!(store.freeze(object, &[]), Ok(true));
+    let page = page.concat().replace(".c-", "..-").replace("e.w", "e..").replace("ec.", "e..").replace(".cw", "...");
+    assert_eq!(store.page(object).as_ref(), Ok(&page));
+    for &key in &keys {
+        for descriptor in [PropertyDescriptor::data(4_464, true, false, true), PropertyDescriptor::fixed(4_464), fields!(get: Value::Undefined)] {
+            assert_eq!(store.define_own_property(object, key, descriptor, &[]), Ok(false));
+            let claimed = store.define_own_property(proxy, key, descriptor, &[Answer::Value(true.into())]);
+            assert!(matches!(claimed, Err(Failure::TypeError(_))), "{claimed:?}");
+            assert_eq!(store.page(object).as_ref(), Ok(&page));
+        }
+        assert_eq!(store.delete(object, key, &[]), Ok(false));
+        let _ = store.set(object, key, 4_464, object, &[]);
+        assert_eq!(store.page(object).as_ref(), Ok(&page));
+    }
+    assert_eq!(store.set(object, SymbolId(200), 4_464, object, &[]), Ok(false));
+    assert_eq!(store.page(object), Ok(page));
+
+    // one fixed property of an object that otherwise changes
+    let object = store.make_object(None).unwrap();
+    let visits = store.enter_string("visits of all days").unwrap();
+    let line = format!("s{:03} e.. 037011010000000000                   \n", visits.0);
+    assert_eq!(store.define_own_property(object, visits, PropertyDescriptor::fixed(70_000), &[]), Ok(true));
+    for n in 0..10 {
+        assert_eq!(store.set(object, SymbolId(n), n, object, &[]), Ok(true));
+        assert_eq!(store.set(object, visits, 4_464, object, &[]), Ok(false));
+        assert_eq!(store.delete(object, visits, &[]), Ok(false));
+        assert_eq!(store.page(object).unwrap().get(47..94), Some(&*line));
+    }
+}
+
 #[test]
 fn bytes_of_any_length_are_taken() {
     let mut store = Store::new();
@@ -1441,6 +1653,8 @@ fn reports_are_read_from_their_words() {
         ([1, 0, 0, 1, 4, 1, 0, 0, 0, 0], &key[1..], None),
         ([1, 0, 0, 1, 4, 1, 0, 0, 0, 0], &[3; 9], None),
         ([1, 0, 0, 1, 4, u64::MAX, 0, 0, 0, 0], &key, None),
+        // a page is no step's
+        ([1, 0, 0, 0, 5, 47, 0, 0, 0, 0], NAMES.as_bytes(), None),
         ([0, 0, 0, 0, 0, 0, 0, 0, 0, 0], &[], None),
         ([2, 255, 0, 0, 0, 0, 0, 0, 0, 0], &[], None),
         ([3, 0, 1, 1, 1, 0, 9, 0, 0, 0], &[], None),
@@ -1502,6 +1716,8 @@ fn names_and_numbers_are_the_headers() {
         ("DESCRIPTOR_BYTES", PropertyDescriptor::SIZE),
         ("STEP_BYTES", Step::SIZE),
         ("OUTPUT_BYTES", demnyaluz::OUTPUT_BYTES),
+        ("PAGE_LINE", demnyaluz::PAGE_LINE_BYTES),
+        ("PAGE_BYTES", demnyaluz::PAGE_BYTES),
         ("TEXT_STATE", demnyaluz::TEXT_STATE_WORDS),
         ("TEXT_LINE", demnyaluz::TEXT_LINE_BYTES),
         ("TEXT_ROW", demnyaluz::TEXT_ROW_BYTES),
@@ -1547,6 +1763,10 @@ fn lent_memory_of_another_length_is_left() {
     let refused = [0, 1, 0, 0, 0, 0, 0, 0, 0, 0];
     assert_eq!(lent::step(&mut words, &strings, &[1; 58], &[0], &mut []).as_slice(), refused);
     assert_eq!(lent::enter_string(&mut strings, &[65]).as_ref(), refused);
+    let mut output = [7; 100];
+    assert_eq!(lent::page(&words, &[0; 8449], 0, &mut output), Err(Refusal::MalformedRecord));
+    assert_eq!(lent::page(&[0; 1635], &strings, 0, &mut output), Err(Refusal::MalformedRecord));
+    assert_eq!(output, [7; 100]);
     assert_eq!(lent::complete(&words, &strings, &[0; 29]).as_slice(), refused);
     assert_eq!(lent::merge(&words, &strings, &[0; 29], &[0; 29]).as_slice(), refused);
     let validated = lent::validate(&words, &strings, true, &[0; 29], &[]);

@@ -316,6 +316,71 @@ fn answers_and_keys() {
     refused(pair.step(&step(14, 1, NONE, NONE), &sheet, 9 * 256).report, 13);
 }
 
+const FILL: u8 = 0xa5;
+
+/// A line for the names and one for each property, 47 bytes each: an output of just so many, of one more and of one less.
+#[test]
+fn pages() {
+    for properties in [0, 1, 2, 255, 256] {
+        let (mut pair, o) = behind(properties, 0);
+        let length = 47 * (1 + properties);
+        assert_eq!(pair.page(o as u64, &vec![FILL; length]), Ok(length as u64));
+        assert_eq!(pair.page(o as u64, &vec![FILL; length + 1]), Ok(length as u64));
+        assert_eq!(pair.page(o as u64, &vec![FILL; 2 * length]), Ok(length as u64));
+        assert_eq!(pair.page(o as u64, &vec![FILL; length - 1]), Err(11));
+        assert_eq!(pair.page(o as u64, &[]), Err(11));
+    }
+    // 32 objects, and 256 strings and properties: the counts just met, then passed
+    let mut pair = Pair::new();
+    for n in 0..256 {
+        result(pair.enter_string(&[n]));
+    }
+    for _ in 0..30 {
+        make(&mut pair);
+    }
+    make_function(&mut pair, Value::Null);
+    for n in 0..256 {
+        result(run(&mut pair, &define(30, Value::String(n), plain_data(n as i32)), &[]));
+    }
+    proxy(&mut pair, 0, 2047);
+    let output = [FILL; 12_079];
+    for o in 0..30 {
+        assert_eq!(pair.page(o, &output), Ok(47));
+    }
+    assert_eq!(pair.page(30, &output), Ok(12_079));
+    assert_eq!(pair.page(31, &output), Err(3));
+    for o in [32, 33, 63, 64, 255, 256, 1 << 32, 1 << 63, u64::MAX] {
+        assert_eq!(pair.page(o, &output), Err(2));
+        assert_eq!(pair.page(o, &[]), Err(2));
+    }
+    assert_eq!(pair.page(31, &[]), Err(3));
+    let kept = (pair.words.clone(), pair.strings.clone());
+    for (at, count) in [(0, 33), (1, 257), (0, u64::MAX), (1, u64::MAX)] {
+        pair.words[at] = count;
+        for o in [0, 30, 31, 32, u64::MAX] {
+            assert_eq!((pair.page(o, &output), pair.page(o, &[])), (Err(1), Err(1)));
+        }
+        pair.words = kept.0.clone();
+    }
+    for count in [257, u16::MAX] {
+        pair.strings[0] = count;
+        assert_eq!(pair.page(30, &output), Err(1));
+    }
+    pair.strings = kept.1;
+    for length in [0, 1, 1634, 1636] {
+        pair.words = kept.0.iter().copied().chain([0]).take(length).collect();
+        assert_eq!(pair.page(30, &output), Err(1));
+    }
+    pair.words = kept.0;
+    for length in [0, 1, 8448, 8450] {
+        let strings = pair.strings.clone();
+        pair.strings = strings.iter().copied().chain([0]).take(length).collect();
+        assert_eq!(pair.page(30, &output), Err(1));
+        pair.strings = strings;
+    }
+    assert_eq!(pair.page(30, &output), Ok(12_079));
+}
+
 #[test]
 fn as_many_answers_as_a_sheet_holds() {
     let fixed = Descriptor::data(Value::Integer32(70_000), false, true, false);

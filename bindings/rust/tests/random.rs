@@ -42,4 +42,5 @@ fn every_call_is_as_the_plain_implementation_says() {
     assert!(tally.tests.iter().all(|n| *n > 100), "each test of validation, and none, by more than a hundred calls");
     assert!(tally.midway > 0);
     assert!(tally.functions.all());
+    assert!(tally.pages.all());
 }

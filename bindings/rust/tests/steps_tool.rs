@@ -66,6 +66,81 @@ fn cells_are_printed_and_nothing_runs() {
     assert_eq!(text_of(ran.stdout), expected);
 }
 
+/// Each page stands under its object's name, and an empty line between two; a proxy has none, and what is refused leaves no trace.
+#[test]
+fn pages_are_printed_after_the_steps() {
+    let input = [
+        "object",
+        "set o0 \"visits\" 1",
+        "proxy o0 traps get",
+        "function o0",
+        "defineProperty o0 \"visits\" {value: 70000, writable: false, configurable: false}",
+        "defineProperty o0 y12 {get: f2, configurable: true}",
+        "set o0 \"visits\" 4464",
+        "set o0 \"10\" \"visits\"",
+        "get o1 \"visits\"       # refused: no answer",
+        "set f2 \"2\" f2",
+        "object o9             # refused: never made",
+        "object f2",
+        "set o3 y0 o0 answers: 1   # refused: unread",
+        "function",
+        "proxy o3",
+        "seal f4",
+    ]
+    .join("\n");
+    let names = "key  ecw value or get       set               ";
+    let expected = [
+        "o0:",
+        names,
+        "s001 ecw 050000000000000000                   ",
+        "s000 e.. 037011010000000000                   ",
+        "y012 .c- 080200000000000000 000000000000000000",
+        "",
+        "f2:",
+        names,
+        "s002 ecw 080200000000000000                   ",
+        "",
+        "o3:",
+        names,
+        "",
+        "f4:",
+        names,
+        "",
+    ];
+    let ran = steps(&["--pages", "-"], &input);
+    assert_eq!((ran.status.code(), text_of(ran.stderr)), (Some(0), String::new()));
+    assert_eq!(text_of(ran.stdout), expected.join("\n"));
+    // from a file too, and without an object there is no page
+    let file = Steps::new("pages", "object\n");
+    let ran = steps(&["--pages", file.0.to_str().unwrap()], "");
+    assert_eq!((ran.status.code(), text_of(ran.stdout)), (Some(0), format!("o0:\n{names}\n")));
+    for input in ["", "string \"a\"\n", "has o0 y0\nobject o0\n"] {
+        let ran = steps(&["--pages", "-"], input);
+        assert_eq!((ran.status.code(), ran.stdout, ran.stderr), (Some(0), vec![], vec![]), "{input}");
+    }
+}
+
+/// As many objects, properties and strings as a store holds; what is too many is refused.
+#[test]
+fn pages_of_a_full_store_are_printed() {
+    let mut input = "object\nfunction\n".repeat(20);
+    for n in 0..256 {
+        input += &format!("set f31 \"{n}\" {n}\n");
+    }
+    input += "set f31 y0 0\n";
+    let ran = steps(&["--pages", "-"], &input);
+    assert_eq!((ran.status.code(), text_of(ran.stderr)), (Some(0), String::new()));
+    let told = text_of(ran.stdout);
+    let pages: Vec<&str> = told.split("\n\n").collect();
+    assert_eq!(pages.len(), 32);
+    for (n, page) in pages.iter().enumerate() {
+        let title = format!("{}{n}:\nkey  ecw ", if n % 2 == 0 { 'o' } else { 'f' });
+        assert!(page.starts_with(&title), "{page}");
+        assert_eq!(page.lines().count(), if n == 31 { 258 } else { 2 });
+    }
+    assert!(told.ends_with("\ns255 ecw 03ff00000000000000                   \n"));
+}
+
 /// A file of steps that is removed when the test ends.
 struct Steps(std::path::PathBuf);
 
@@ -293,8 +368,8 @@ fn help_has_each_option_and_an_example_that_runs() {
     let ran = steps(&["--help"], "");
     assert!(ran.status.success() && ran.stderr.is_empty());
     let help = text_of(ran.stdout);
-    assert!(help.starts_with("usage: steps [--cells | --rows] [--] FILE\n"));
-    for option in ["--cells", "--rows", "--help, -h", "--"] {
+    assert!(help.starts_with("usage: steps [--cells | --rows | --pages] [--] FILE\n"));
+    for option in ["--cells", "--rows", "--pages", "--help, -h", "--"] {
         assert!(help.lines().any(|l| l.starts_with(&format!("  {option} "))), "{option}");
     }
     assert!(help.lines().all(|l| l.chars().count() <= 110), "{help}");
@@ -318,14 +393,19 @@ fn wrong_arguments_are_named() {
         (&[][..], "expected a FILE, found none"),
         (&["--cells"], "expected a FILE, found none"),
         (&["--rows"], "expected a FILE, found none"),
+        (&["--pages"], "expected a FILE, found none"),
         (&["--"], "expected a FILE, found none"),
         (&["--read", "x"], "unknown option '--read'"),
         (&["x", "--read"], "unknown option '--read'"),
         (&["-x"], "unknown option '-x'"),
         (&["--cells=x"], "unknown option '--cells=x'"),
         (&["--Help"], "unknown option '--Help'"),
-        (&["--cells", "--rows", "x"], "expected one of --cells and --rows, found '--rows' as a second"),
-        (&["--rows", "--rows", "x"], "expected one of --cells and --rows, found '--rows' as a second"),
+        (&["--cells", "--rows", "x"], "expected one of --cells, --rows and --pages, found '--rows' as a second"),
+        (&["--rows", "--rows", "x"], "expected one of --cells, --rows and --pages, found '--rows' as a second"),
+        (&["--pages", "x", "--cells"], "expected one of --cells, --rows and --pages, found '--cells' as a second"),
+        (&["--rows", "--pages", "x"], "expected one of --cells, --rows and --pages, found '--pages' as a second"),
+        (&["--page", "x"], "unknown option '--page'"),
+        (&["--pages", "x", "y"], "expected one FILE, found 'y' as a second"),
         (&["--rows", "-"], "expected a FILE with --rows, which reads the rows from the standard input, found '-'"),
         (&["--rows", "x", "y"], "expected one FILE, found 'y' as a second"),
         (&["x", "--", "--cells"], "expected one FILE, found '--cells' as a second"),
@@ -368,16 +448,18 @@ fn an_error_names_line_and_column() {
             "line 2, column 11: expected a number from -1.7976931348623157e308 to 1.7976931348623157e308, Infinity or -Infinity, found '1e999'",
         ),
     ] {
-        for mode in [&["-"][..], &["--cells", "-"]] {
+        for mode in [&["-"][..], &["--cells", "-"], &["--pages", "-"]] {
             let ran = steps(mode, input);
             assert_eq!(ran.status.code(), Some(1));
             assert_eq!(text_of(ran.stderr), format!("-: {message}\n"));
             assert!(ran.stdout.is_empty());
         }
     }
-    let ran = steps(&["no such file"], "");
-    assert_eq!(ran.status.code(), Some(1));
-    assert!(text_of(ran.stderr).starts_with("no such file: No such file"));
+    for mode in [&["no such file"][..], &["--pages", "no such file"]] {
+        let ran = steps(mode, "");
+        assert_eq!(ran.status.code(), Some(1));
+        assert!(text_of(ran.stderr).starts_with("no such file: No such file"));
+    }
 }
 
 #[test]
@@ -393,11 +475,11 @@ fn a_file_that_is_no_text_is_an_error() {
 /// A reader that has seen enough is no error.
 #[test]
 fn the_output_may_be_closed() {
-    for mode in [&["--help"][..], &["-"], &["--cells", "-"]] {
+    for mode in [&["--help"][..], &["-"], &["--cells", "-"], &["--pages", "-"]] {
         let mut child =
             Command::new(env!("CARGO_BIN_EXE_steps")).args(mode).stdin(Stdio::piped()).stdout(Stdio::piped()).stderr(Stdio::piped()).spawn().unwrap();
         drop(child.stdout.take());
-        let _ = child.stdin.take().unwrap().write_all("isExtensible o0\n".repeat(1000).as_bytes());
+        let _ = child.stdin.take().unwrap().write_all("object\nisExtensible o0\n".repeat(1000).as_bytes());
         let ran = child.wait_with_output().unwrap();
         assert_eq!((ran.status.code(), text_of(ran.stderr)), (Some(0), String::new()), "{mode:?}");
     }

@@ -11,6 +11,7 @@ use borrow.Author.Tests.{eqb-true, eqb-false, leb-true, ltb-true}
 use Rattle.value.specs.declared.PropertyKey.{PropertyKey}
 use Rattle.value.specs.declared.PropertyKey.the-variants.{String, Symbol}
 use Rattle.value.specs.Words.{pick}
+use Rattle.value.specs.PropertyKey.{keyNumber}
 use Rattle.value.proofs.Bools.{and-true}
 use Rattle.property.specs.declared.Property.{Property}
 use Rattle.property.specs.declared.OwnProperty.{OwnProperty}
@@ -19,7 +20,7 @@ use Rattle.text.specs.Table.{isTable, stringsOf}
 use Rattle.store.specs.OwnKeys.{ordinaryOwnPropertyKeys}
 use Rattle.store.specs.Words.{isStore, storeOf, wordAt, withNewRow, withoutRow}
 use Rattle.store_read.specs.Answers.{Listed, keyFromWord, keyToWord}
-use Rattle.store_write.specs.Write.{Joins, New, numberIn}
+use Rattle.store_write.specs.Write.{Joins, New}
 use Rattle.benchmark_store.specs.Export.{isListable, isJoined, isAbsent, isNew, isAddable, isRemovable, rowProperty, keyWordsOf, listAnswer, listed, added, addAnswer, removed, removeAnswer}
 
 -- Own keys -------------------------------------------------------------------------------
@@ -70,7 +71,7 @@ listable words cells size h =
 
 -- Writing --------------------------------------------------------------------------------
 
-number-by : (w : ℕ) (b : Bool) → numberIn (pick b (String (w / 2)) (Symbol (w / 2))) ≡ w / 2
+number-by : (w : ℕ) (b : Bool) → keyNumber (pick b (String (w / 2)) (Symbol (w / 2))) ≡ w / 2
 number-by w true = refl
 number-by w false = refl
 

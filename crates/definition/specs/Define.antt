@@ -5,6 +5,7 @@ use mathlib.Core.Bool.{Bool, true, false, not, _&&_}
 use mathlib.Core.Option.{Option, none, some}
 use mathlib.Core.List.{List}
 use Rattle.value.specs.declared.PropertyKey.{PropertyKey}
+use Rattle.value.specs.PropertyKey.{keyNumber}
 use Rattle.property.specs.declared.PropertyDescriptor.{PropertyDescriptor}
 use Rattle.property.specs.declared.OwnProperty.{OwnProperty}
 use Rattle.property.specs.declared.OwnProperty.the-variants.{Absent, Present}
@@ -13,7 +14,6 @@ use Rattle.property.specs.Validate.{isCompatible}
 use Rattle.store.specs.declared.Object.{Object}
 use Rattle.store.specs.declared.Object.the-variants.{Ordinary, Proxy}
 use Rattle.store.specs.Store.{maximumProperties}
-use Rattle.store_write.specs.Write.{numberIn}
 use Rattle.internal_methods.specs.Monad.{M, pure, _>>=_, _>>_, throwIf, if_then_else_}
 use Rattle.internal_methods.specs.Answers.{askBoolean}
 use Rattle.internal_methods.specs.Methods.{Context, Methods, Written}
@@ -23,7 +23,7 @@ use Rattle.calls.specs.Outs.{Readable}
 -- what a method that may add the property k asks of the words, the cells and the allowance
 pub record Definable (words cells : List ℕ) (allowance : ℕ) (k : PropertyKey) : Type 0 where
   pub readable : Readable words cells
-  pub number : numberIn k < 2 ^ 58
+  pub number : keyNumber k < 2 ^ 58
   pub limit : allowance ≤ maximumProperties
 
 abbrev pub isOrdinary : Option Object → Bool

@@ -13,8 +13,9 @@ use value::PropertyKey;
 ghost use mathlib.Core.Path.{_≡_};
 ghost use mathlib.Core.Bool.{true};
 ghost use Prim.Native.Nat.{_<_, _^_};
+ghost use Rattle.value.specs.PropertyKey.{keyNumber};
 ghost use Rattle.store.specs.Words.{storeOf};
-ghost use Rattle.store_write.specs.Write.{Joins, numberIn};
+ghost use Rattle.store_write.specs.Write.{Joins};
 ghost use Rattle.internal_methods.specs.Ordinary.{ordinaryDelete};
 ghost use Rattle.internal_methods.specs.Proxy.{proxyDelete};
 ghost use Rattle.internal_methods.specs.Internal.{methods};
@@ -63,7 +64,7 @@ pub fn delete(
     depth: usize,
     s: Progress,
 ) -> WriteOut
-    requires { ⌜ Readable (now words) (now strings) × (numberIn key < 2 ^ 58) ⌝ }
+    requires { ⌜ Readable (now words) (now strings) × (keyNumber key < 2 ^ 58) ⌝ }
     ensures { λ r. ⌜ outWrite (now (sheet .entry)) (storeOf (now (words .entry))) r ≡ methods depth (context (now (words .entry)) (now (strings .entry)) allowance) .delete o key .run (stateOf (now (sheet .entry)) s) ⌝ }
     ensures { λ r. ⌜ Fitting (now (words .entry)) r ⌝ }
 {
@@ -89,7 +90,7 @@ fn proxy_exotic_delete(
     depth: usize,
     s: Progress,
 ) -> WriteOut
-    requires { ⌜ Readable (now words) (now strings) × (numberIn key < 2 ^ 58) ⌝ }
+    requires { ⌜ Readable (now words) (now strings) × (keyNumber key < 2 ^ 58) ⌝ }
     ensures { λ r. ⌜ outWrite (now (sheet .entry)) (storeOf (now (words .entry))) r ≡ proxyDelete (context (now (words .entry)) (now (strings .entry)) allowance) (methods depth (context (now (words .entry)) (now (strings .entry)) allowance)) p key .run (stateOf (now (sheet .entry)) s) ⌝ }
     ensures { λ r. ⌜ Fitting (now (words .entry)) r ⌝ }
 {

@@ -43,10 +43,13 @@ record Fits (output : List ℕ) (m : Run) (s : State) : Type 0 where
   is : m .run s ≡ (done given rest, store)
   holds : outputHolds given output ≡ true
 
+pub reads-run : {A : Type 0} (σ : Store) (f : A → Result) (m : M A) {s t : State} {x : A} → m .run s ≡ done x t → once σ (reading σ f m) .run s ≡ (done (f x) t, σ)
+unfolding once _>>=_ next pure
+reads-run {A} σ f m e = ap (λ (o : Out A). written σ (next (λ y. pure (f y, σ)) o)) e
+
 module _ (output : List ℕ) where
   reads : {A : Type 0} (σ : Store) (f : A → Result) (m : M A) {s t : State} {x : A} → m .run s ≡ done x t → outputHolds (f x) output ≡ true → Fits output (once σ (reading σ f m)) s
-  unfolding once _>>=_ next pure
-  reads {A} σ f m {s} {t} {x} e h = record { given = f x; store = σ; rest = t; is = ap (λ (o : Out A). written σ (next (λ y. pure (f y, σ)) o)) e; holds = h }
+  reads σ f m {s} {t} {x} e h = record { given = f x; store = σ; rest = t; is = reads-run σ f m e; holds = h }
 
   writes : (σ : Store) (m : M Written) {s : State} → Completes m s → Fits output (once σ (writing m)) s
   unfolding once _>>=_ next pure

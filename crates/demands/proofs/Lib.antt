@@ -5,3 +5,5 @@ pub mod FurtherHold
 pub mod AcceptsHold
 pub mod IntegrityProved
 pub mod NamesHold
+pub mod PagesHold
+pub mod PageReading

@@ -5,3 +5,4 @@ pub mod Further
 pub mod Accepts
 pub mod Integrity
 pub mod Names
+pub mod Pages

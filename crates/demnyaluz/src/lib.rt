@@ -13,7 +13,7 @@ ghost use Rattle.store.specs.Words.{storeSize, storeOf, isStore};
 ghost use Rattle.store_write.specs.Write as store_writes;
 ghost use Rattle.text.specs.Answers as table_answers;
 ghost use Rattle.reporting.specs.ReportWords.{reportWords};
-ghost use Rattle.reporting.specs.Memory.{StepExported, StringExported};
+ghost use Rattle.reporting.specs.Memory.{StepExported, StringExported, PageExported};
 ghost use Rattle.descriptor_entries.specs.Entries.{completeOver, validateOver, mergeOver, verdictReport, isAccepted, failedTest};
 ghost use Rattle.internal_methods.specs.Messages.{messageText};
 ghost use Rattle.message.specs.Written.{written};
@@ -40,6 +40,20 @@ pub extern "C" fn demnyaluz_enter_string(strings: &mut [u16], units: &[u16], rep
     ensures { λ _. ⌜ StringExported (now (strings .entry)) (now (units .entry)) (now (report .exit)) (now (strings .exit)) ⌝ }
 {
     *report = report_words::report_words(step::enter_string(strings, units));
+}
+
+// The property page of an ordinary object.
+#[no_mangle]
+pub extern "C" fn demnyaluz_page(
+    words: &[u64],
+    strings: &[u16],
+    object: u64,
+    output: &mut [u8],
+    report: &mut [u64; 10],
+)
+    ensures { λ _. ⌜ PageExported (now (words .entry)) (now (strings .entry)) object (now (output .entry)) (now (report .exit)) (now (output .exit)) ⌝ }
+{
+    *report = report_words::report_words(property_page::page(words, strings, object, output));
 }
 
 // A descriptor is completed by itself.

@@ -14,16 +14,20 @@ use Rattle.steps.specs.Run as call
 use Rattle.demands.specs.Lasting.{Lasting}
 use Rattle.demands.specs.Further.{Further}
 use Rattle.demands.specs.Refusals.{StepDecided}
+use Rattle.demands.specs.Pages.{PagesLast}
 use Rattle.demands.proofs.LastingHolds.{lasting}
 use Rattle.demands.proofs.FurtherHold.{further}
 use Rattle.demands.proofs.Decided.{step-decided, entry-decided}
+use Rattle.demands.proofs.PagesHold.{page-decided, pages-say, pages-last}
+use Rattle.demands.proofs.PageReading.{pages-read}
 use Rattle.demands.proofs.IntegrityProved.{integrity-holds}
 use Rattle.demands.proofs.NamesHold.{names-decided, object-made, names-last}
 use Rattle.steps.proofs.Outputs.{output-is}
+use Rattle.steps.proofs.Pages.{page-output-is}
 use Rattle.reporting.specs.Seen.{responseSeen}
 use Rattle.reporting.specs.Memory.{Shown, isMemory}
-use Rattle.reporting.proofs.ContractLaws.{step-shows, step-memory, entry-shows, entry-memory}
-use Rattle.entries.specs.Entries.{Memory, Called, stepped, entered, Calls, none, more, reported, written, eventsSeen, Kept}
+use Rattle.reporting.proofs.ContractLaws.{step-shows, step-memory, entry-shows, entry-memory, page-shows}
+use Rattle.entries.specs.Entries.{Memory, Called, stepped, entered, paged, Calls, none, more, reported, written, eventsSeen, Kept}
 
 abbrev world : Memory → World
 world m = worldOf (m .words) (m .cells)
@@ -55,6 +59,15 @@ does m h (entered units r after k) =
       output = refl;
       after = ap (λ (x : Shown). x .world) s;
       memory = entry-memory (m .words) (m .cells) h k;
+    }
+does m h (paged o output r out k) =
+    let s = page-shows (m .words) (m .cells) h k in
+    record {
+      report = ap (λ (x : Shown). x .report) s;
+      response = ap (λ (x : Shown). x .response) s;
+      output = ap (λ (x : Shown). x .output) s ∙ page-output-is (world m) o output;
+      after = ap (λ (x : Shown). x .world) s;
+      memory = h;
     }
 
 record Follows (m : Memory) (cs : List Call) (rs : List Report) (outs : List (List ℕ)) (n : Memory) : Type 0 where
@@ -94,8 +107,12 @@ kept m n cs rs outs h s t ds =
       further = subst Further (sym seen) (further cs);
       decided = λ bytes sheet output. subst (λ (ω : World). StepDecided ω bytes sheet output) (sym (f .after ∙ ap (λ (ω : World). worldFrom ω cs (length cs)) z)) (step-decided cs (length cs) bytes sheet output);
       entry-decided = λ units. entry-decided (world n) units;
+      page-decided = λ o output. page-decided (world n) o output;
       integrity = λ bytes sheet output. integrity-holds (world n) bytes sheet output;
       names = λ o. names-decided (world n) o;
       objects = λ bytes sheet output. object-made (world n) bytes sheet output;
       names-last = names-last cs;
+      pages-say = pages-say cs;
+      pages-last = subst PagesLast (sym seen) (pages-last cs);
+      pages-read = pages-read cs;
     }

@@ -10,20 +10,22 @@ use Rattle.steps.specs.declared.Report.{Report}
 use Rattle.steps.specs.Run.{Call, Event, run}
 use Rattle.reporting.specs.ReportWords.{reportWords, reportFrom}
 use Rattle.reporting.specs.Memory.{isMemory}
-use Rattle.reporting.proofs.ContractLaws.{step-report, entry-report}
+use Rattle.reporting.proofs.ContractLaws.{step-report, entry-report, page-report}
 use Rattle.entries.specs.Entries.{Memory, Called, Calls, reported, Kept}
 use Rattle.entries.specs.Entries as entry
-use Rattle.entries.specs.Exports.{Exported, stepped, entered, ExportedCalls, none, more, wordsReported, KeptByWords}
+use Rattle.entries.specs.Exports.{Exported, stepped, entered, paged, ExportedCalls, none, more, wordsReported, KeptByWords}
 use Rattle.entries.proofs.EntriesHold.{kept}
 
 called : {m n : Memory} {c : Call} {report out : List ℕ} → Exported m c report out n → Called m c (reportFrom report) out n
 called (stepped bytes sheet output report after out h) = entry.stepped bytes sheet output (reportFrom report) after out (h .tells)
 called (entered units report after h) = entry.entered units (reportFrom report) after (h .tells)
+called (paged o output report out h) = entry.paged o output (reportFrom report) out (h .tells)
 
 -- the words are those of the report that they tell
 words-of-told : {m n : Memory} {c : Call} {report out : List ℕ} → Exported m c report out n → report ≡ reportWords (reportFrom report)
 words-of-told (stepped bytes sheet output report after out h) = h .reported ∙ ap reportWords (sym (step-report (h .tells)))
 words-of-told {m} (entered units report after h) = h .reported (storeOf (m .words)) ∙ ap reportWords (sym (entry-report (h .tells) (storeOf (m .words))))
+words-of-told (paged o output report out h) = h .reported ∙ ap reportWords (sym (page-report (h .tells)))
 
 calls : {m n : Memory} {cs : List Call} {reports outs : List (List ℕ)} → ExportedCalls m cs reports outs n → Calls m cs (map reportFrom reports) outs n
 calls (none m) = entry.none m

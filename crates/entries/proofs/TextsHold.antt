@@ -9,8 +9,8 @@ use lib.Dec.{eqb, ltb}
 use lib.ListN.{length, getD, take, drop, length-append, length-drop, take-append-drop}
 use lib.Seq.{take-append-le, length-take-le}
 use borrow.Author.Tests.{ltb-true, lt-ltb, leb-false}
+use Rattle.record.specs.Characters.{lineFeed}
 use Rattle.text_form.specs.Cells.{until}
-use Rattle.text_form.specs.Rows.{lineFeed}
 use Rattle.text_form.specs.Reader.{Phase, first, later, Reader, Read, read, isEnded, start, columnsIn, named, endLine, readByte, readBytes, endInput}
 use Rattle.text_form.specs.Reader as reader
 use Rattle.text_form.proofs.ReaderLaws.{read-append, ended-reads}

@@ -5,14 +5,15 @@ use mathlib.Core.List.{List, [], _∷_, map}
 use Rattle.steps.specs.Run.{Call, Event, run}
 use Rattle.steps.specs.Run as call
 use Rattle.reporting.specs.ReportWords.{reportWords, reportFrom}
-use Rattle.reporting.specs.Memory.{StepExported, StringExported}
+use Rattle.reporting.specs.Memory.{StepExported, StringExported, PageExported}
 use Rattle.entries.specs.Entries.{Memory, reported, Kept}
 
--- one call of `demnyaluz_step` or `demnyaluz_enter_string`: its report's words, the output after it, and the memory that it left
+-- one call of `demnyaluz_step`, `demnyaluz_enter_string` or `demnyaluz_page`: its report's words, the output after it, and the memory that it left
 pub data Exported (m : Memory) : Call → List ℕ → List ℕ → Memory → Type 0 where
   stepped : (bytes sheet output report after out : List ℕ) → StepExported (m .words) (m .cells) bytes sheet output report after out
       → Exported m (call.step bytes sheet output) report out (record { words = after; cells = m .cells })
   entered : (units report after : List ℕ) → StringExported (m .cells) units report after → Exported m (call.enter units) report [] (record { words = m .words; cells = after })
+  paged : (o : ℕ) (output report out : List ℕ) → PageExported (m .words) (m .cells) o output report out → Exported m (call.page o output) report out m
 
 pub data ExportedCalls : Memory → List Call → List (List ℕ) → List (List ℕ) → Memory → Type 0 where
   none : (m : Memory) → ExportedCalls m [] [] [] m

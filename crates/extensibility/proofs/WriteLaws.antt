@@ -6,13 +6,14 @@ use mathlib.Core.Bool.{true}
 use mathlib.Core.Option.{some}
 use mathlib.Core.List.{List}
 use Rattle.value.specs.declared.PropertyKey.{PropertyKey}
+use Rattle.value.specs.PropertyKey.{keyNumber}
 use Rattle.store.specs.declared.Object.{Object}
 use Rattle.store.specs.Store.{lookup}
 use Rattle.store.specs.Words.{isStore, storeOf}
 use Rattle.store.proofs.WordLaws.{sized}
 use Rattle.store_read.proofs.ReadLaws.{lookup-below}
 use Rattle.store_write.specs.declared.write.Write.the-variants as write
-use Rattle.store_write.specs.Write.{fitsIn, Joins, numberIn}
+use Rattle.store_write.specs.Write.{fitsIn, Joins}
 
 module _ (words : List ℕ) (o : ℕ) (x : Object) (found : lookup (storeOf words) o ≡ some x) where
   -- what was an object may become another
@@ -20,7 +21,7 @@ module _ (words : List ℕ) (o : ℕ) (x : Object) (found : lookup (storeOf word
   object-fits y h = record { store = h; bounds = lookup-below words o x found }
 
   -- a word can join the object and a key that fits
-  pub found-joins : (k : PropertyKey) → isStore words ≡ true → numberIn k < 2 ^ 58 → Joins o k
+  pub found-joins : (k : PropertyKey) → isStore words ≡ true → keyNumber k < 2 ^ 58 → Joins o k
   found-joins k h n = record { owner = omega (arith, lookup-below words o x found, sized words h .objects); number = n }
 
 -- no write at all

@@ -13,7 +13,7 @@ use Rattle.value.specs.declared.Value.{Value}
 use Rattle.value.specs.declared.Value.the-variants as value
 use Rattle.value.specs.declared.PropertyKey.{PropertyKey}
 use Rattle.value.specs.declared.PropertyKey.the-variants.{String, Symbol}
-use Rattle.value.specs.PropertyKey.{keyOf}
+use Rattle.value.specs.PropertyKey.{keyOf, keyNumber}
 use Rattle.value.specs.Words.{pick}
 use Rattle.text.specs.Strings.{Strings}
 use Rattle.text.specs.Table.{tabulate}
@@ -22,7 +22,6 @@ use Rattle.store.specs.OwnKeys.{KeyClass, isIndex, isString, isSymbol, indexVal
 use Rattle.store.specs.Words.{storeOf, entryIn, wordAt, keyAt}
 use Rattle.store.specs.Words as words
 use Rattle.store_read.specs.Answers.{keyFromWord, Listed}
-use Rattle.store_write.specs.Write.{numberIn}
 use Rattle.internal_methods.specs.Monad.{State, done}
 use Rattle.internal_methods.specs.Methods.{Context}
 use Rattle.internal_methods.specs.Answers.{consKey, keysOf}
@@ -42,7 +41,7 @@ use Rattle.integrity.specs.Outs.{AreDefinable}
 
 unfoldable AllFit : List PropertyKey → Type 0
 AllFit [] = Unit {0}
-AllFit (k ∷ ks) = (numberIn k < 2 ^ 58) × AllFit ks
+AllFit (k ∷ ks) = (keyNumber k < 2 ^ 58) × AllFit ks
 
 all-append : (ks ls : List PropertyKey) → AllFit ks → AllFit ls → AllFit (ks ++ ls)
 unfolding AllFit
@@ -61,7 +60,7 @@ module _ (strings : Strings) where
       go true r = (a .0, r)
       go false r = r
 
-  all-insert : (k : PropertyKey) (ks : List PropertyKey) → numberIn k < 2 ^ 58 → AllFit ks → AllFit (insertIndex strings k ks)
+  all-insert : (k : PropertyKey) (ks : List PropertyKey) → keyNumber k < 2 ^ 58 → AllFit ks → AllFit (insertIndex strings k ks)
   unfolding AllFit insertIndex
   all-insert k [] h a = (h, tt)
   all-insert k (l ∷ ls) h a = go (ltb (indexValue (classOf strings k)) (indexValue (classOf strings l))) (all-insert k ls h (a .1))
@@ -82,11 +81,11 @@ module _ (strings : Strings) where
       (all-append (ofClass isString strings ks) _ (all-of isString ks a) (all-of isSymbol ks a))
 
 -- a key word is of 64 bits
-word-fits : (w : ℕ) → w < 2 ^ 64 → numberIn (words.keyOf w) < 2 ^ 58
+word-fits : (w : ℕ) → w < 2 ^ 64 → keyNumber (words.keyOf w) < 2 ^ 58
 unfolding words.keyOf
 word-fits w h = go (eqb (w / 32 % 2) 0)
   where
-    go : (b : Bool) → numberIn (pick b (String (w / 64)) (Symbol (w / 64))) < 2 ^ 58
+    go : (b : Bool) → keyNumber (pick b (String (w / 64)) (Symbol (w / 64))) < 2 ^ 58
     go true = omega (arith, h)
     go false = omega (arith, h)
 
@@ -107,7 +106,7 @@ module _ (ws : List ℕ) (fits : (i : ℕ) → getD ws i 0 < 2 ^ 64) (o : ℕ) w
 
 -- Of a sheet -----------------------------------------------------------------------------
 
-known-fits : (v : Value) (k : PropertyKey) → isBoundedKey v ≡ true → keyOf v ≡ some k → numberIn k < 2 ^ 58
+known-fits : (v : Value) (k : PropertyKey) → isBoundedKey v ≡ true → keyOf v ≡ some k → keyNumber k < 2 ^ 58
 unfolding isBoundedKey
 known-fits value.Undefined k h e = let z : _≡_ {A = ℕ} 0 1 = cc in absurd (omega arith)
 known-fits value.Null k h e = let z : _≡_ {A = ℕ} 0 1 = cc in absurd (omega arith)
@@ -126,7 +125,7 @@ values-fit (v ∷ vs) h =
     let p = and-true (isBoundedKey v) (valuesPass isBoundedKey vs) h in
     go (keyOf v) (keysOf vs) (λ k e. known-fits v k (p .0) e) (values-fit vs (p .1))
   where
-    go : (x : Option PropertyKey) (y : Option (List PropertyKey)) → ((k : PropertyKey) → x ≡ some k → numberIn k < 2 ^ 58) → AllFit (keysHeld y) → AllFit (keysHeld (consKey x y))
+    go : (x : Option PropertyKey) (y : Option (List PropertyKey)) → ((k : PropertyKey) → x ≡ some k → keyNumber k < 2 ^ 58) → AllFit (keysHeld y) → AllFit (keysHeld (consKey x y))
     go none none a b = tt
     go none (some ks) a b = tt
     go (some k) none a b = tt

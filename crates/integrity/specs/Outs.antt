@@ -4,9 +4,9 @@ use mathlib.Core.Bool.{Bool, true}
 use mathlib.Core.List.{List, map}
 use lib.ListN.{getD, take}
 use Rattle.value.specs.declared.PropertyKey.{PropertyKey}
+use Rattle.value.specs.PropertyKey.{keyNumber}
 use Rattle.store.specs.Store.{Store}
 use Rattle.store_read.specs.Answers.{keyFromWord}
-use Rattle.store_write.specs.Write.{numberIn}
 use Rattle.internal_methods.specs.Monad.{Out, failed, done, M}
 use Rattle.internal_methods.specs.Monad as method
 use Rattle.internal_methods.specs.Methods.{Methods}
@@ -31,7 +31,7 @@ outListed sheet keys (listed.Done n s) = done (map keyFromWord (take n keys)) (s
 
 -- keys that a store's words can hold
 abbrev pub AreDefinable : ℕ → List ℕ → Type 0
-AreDefinable n keys = (i : ℕ) → i < n → numberIn (keyFromWord (getD keys i 0)) < 2 ^ 58
+AreDefinable n keys = (i : ℕ) → i < n → keyNumber (keyFromWord (getD keys i 0)) < 2 ^ 58
 
 abbrev pub Definables : List ℕ → ListedOut → Type 0
 Definables keys (listed.Failed f s) = Unit {0}

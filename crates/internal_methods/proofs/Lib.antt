@@ -18,3 +18,4 @@ pub mod Richer
 pub mod StoreClosed
 pub mod Budget
 pub mod Chain
+pub mod AddedKeys

@@ -5,12 +5,11 @@ use mathlib.Core.List.{List}
 use lib.ListN.{length}
 use lib.Dec.{eqb, ltb}
 use Rattle.value.specs.declared.Value.the-variants as language
-use Rattle.value.specs.PropertyKey.{keyOf}
+use Rattle.value.specs.PropertyKey.{keyOf, keyNumber}
 use Rattle.property.specs.declared.OwnProperty.{OwnProperty}
 use Rattle.property.specs.declared.OwnProperty.the-variants.{Absent, Present}
 use Rattle.store.specs.Store.{maximumProperties}
 use Rattle.store_write.specs.declared.write.Write.the-variants.{Nothing}
-use Rattle.store_write.specs.Write.{numberIn}
 use Rattle.record.specs.Bytes.{valueAt}
 use Rattle.calls.specs.declared.ValueOut.{ValueOut}
 use Rattle.calls.specs.declared.ValueOut.the-variants as value
@@ -32,7 +31,7 @@ pub record Performable (words cells : List ℕ) (allowance : ℕ) (bytes : List 
   pub readable : Readable words cells
   pub allowed : allowance ≤ maximumProperties
   pub long : 58 ≤ length bytes
-  pub key : numberIn (keyOrFirst (keyOf (valueAt bytes 2))) < 2 ^ 58
+  pub key : keyNumber (keyOrFirst (keyOf (valueAt bytes 2))) < 2 ^ 58
 
 -- the codes of the methods that write nothing and list no keys
 unfoldable pub isReading : ℕ → Bool

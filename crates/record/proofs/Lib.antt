@@ -1,3 +1,4 @@
 pub mod RoundTrip
+pub mod CharacterLaws
 pub mod RefusalLaws
 pub mod SheetLength

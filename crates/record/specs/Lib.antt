@@ -1,4 +1,5 @@
 pub mod Bytes
+pub mod Characters
 pub mod Descriptor
 pub mod Tests
 pub mod Step

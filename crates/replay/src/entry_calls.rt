@@ -18,6 +18,21 @@ fn enter(strings: &mut [u16], bytes: &[u8], ours: &mut [u8]) -> Ending {
     endings::ended(step::enter_string(strings, &units[..size]), ours)
 }
 
+// The page of the object whose number the record holds.
+fn page(
+    words: &[u64],
+    strings: &[u16],
+    bytes: &[u8],
+    output: &mut [u8],
+    ours: &mut [u8],
+) -> Ending {
+    if bytes.len() < 8 {
+        return endings::refused(UNKNOWN);
+    }
+    let o = numbers::word_at(bytes, 0);
+    endings::ended(property_page::page(words, strings, o, output), ours)
+}
+
 // The completion is written to the start of ours.
 pub fn perform(
     words: &mut [u64],
@@ -45,6 +60,7 @@ pub fn perform(
             descriptor_entries::merge(words, strings, given, bytes),
             ours,
         ),
+        7 => page(words, strings, bytes, output, ours),
         _ => endings::refused(UNKNOWN),
     }
 }

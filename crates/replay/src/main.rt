@@ -186,7 +186,7 @@ fn main() {
     let mut words = [0u64; 1635];
     let mut strings = [0u16; 8449];
     let mut text = io::large_buffer();
-    let mut output = io::buffer();
+    let mut output = io::large_buffer();
     let mut tally = [0u64; 128];
     let mut turns: u64 = 1000000000;
     store_write::make_empty(&mut words);

@@ -105,6 +105,10 @@ fn put_completion(out: &mut [u8], c: Completion) -> usize {
             let next = put_byte(out, 0, 4);
             put_short(out, next, n)
         }
+        Completion::Page(n) => {
+            let next = put_byte(out, 0, 6);
+            put_short(out, next, n)
+        }
     }
 }
 

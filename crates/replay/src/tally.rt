@@ -145,6 +145,7 @@ pub fn print_tally(tally: &[u64; 128]) {
     print_count(b", validating ", tally, KINDS + 4);
     print_count(b" and ", tally, KINDS + 5);
     print_count(b", merging ", tally, KINDS + 6);
+    print_count(b", pages ", tally, KINDS + 7);
     print_count(b"\nrefused ", tally, OUTCOMES);
     print_count(b", results ", tally, OUTCOMES + 1);
     print_count(b", TypeErrors ", tally, OUTCOMES + 2);

@@ -14,8 +14,9 @@ use Rattle.steps.specs.Operation.{writesInTurn, asked}
 use Rattle.steps.specs.Response.{reportOf}
 use Rattle.steps.specs.Step.{step}
 use Rattle.steps.specs.StringEntry.{enterString}
+use Rattle.steps.specs.Page.{propertyPage}
 use Rattle.reporting.specs.ReportWords.{reportWords, reportFrom}
-use Rattle.reporting.specs.Memory.{Shown, shown, shownBy, shownEntry, isMemory, stepOver, enterOver, WroteBefore, WordsAfter, Stepped, StringEntered, StepExported, StringExported}
+use Rattle.reporting.specs.Memory.{Shown, shown, shownBy, shownEntry, isMemory, stepOver, enterOver, pageOver, WroteBefore, WordsAfter, Stepped, StringEntered, Paged, StepExported, StringExported, PageExported}
 
 module _ {words cells bytes sheet output : List ℕ} {r : Report} {after out : List ℕ} (h : Stepped words cells bytes sheet output r after out) where
   pub step-report : r ≡ reportOf (stepOver words cells bytes sheet output .response)
@@ -27,6 +28,10 @@ module _ {words cells bytes sheet output : List ℕ} {r : Report} {after out : L
   pub step-output : out ≡ stepOver words cells bytes sheet output .output
   step-output = ap (λ (x : Shown). x .output) (h .shows)
 
+module _ {words cells : List ℕ} {o : ℕ} {output : List ℕ} {r : Report} {out : List ℕ} (h : Paged words cells o output r out) where
+  pub page-report : r ≡ reportOf (pageOver words cells o output .response)
+  page-report = ap (λ (x : Shown). x .report) (h .shows)
+
 module _ {cells units : List ℕ} {r : Report} {after : List ℕ} (h : StringEntered cells units r after) (σ : Store) where
   pub entry-report : r ≡ reportOf (enterOver σ cells units .response)
   entry-report = ap (λ (x : Shown). x .report) (h .shows σ)
@@ -36,11 +41,11 @@ module _ {cells units : List ℕ} {r : Report} {after : List ℕ} (h : StringEnt
 
 -- over memory that is a store and a table: the step and the string entry themselves; and it stays such memory
 module _ (words cells : List ℕ) (m : isMemory words cells ≡ true) where
-  store-is : isStore words ≡ true
+  pub store-is : isStore words ≡ true
   unfolding isMemory
   store-is = and-true (isStore words) (isTable cells) m .0
 
-  table-is : isTable cells ≡ true
+  pub table-is : isTable cells ≡ true
   unfolding isMemory
   table-is = and-true (isStore words) (isTable cells) m .1
 
@@ -72,6 +77,11 @@ module _ (words cells : List ℕ) (m : isMemory words cells ≡ true) where
     unfolding isMemory
     entry-memory = and-both _ _ store-is (h .table ∙ table-is)
 
+  module _ {o : ℕ} {output : List ℕ} {r : Report} {out : List ℕ} (h : Paged words cells o output r out) where
+    pub page-shows : shown r words cells out ≡ shownBy (propertyPage (worldOf words cells) o output)
+    unfolding pageOver
+    page-shows = h .shows ∙ rw m
+
 -- of a report that ten words tell
 pub step-exported : {words cells bytes sheet output report after out : List ℕ} {r : Report} → (report ≡ reportWords r) × (reportFrom report ≡ r) → Stepped words cells bytes sheet output r after out
     → StepExported words cells bytes sheet output report after out
@@ -84,4 +94,11 @@ pub string-exported : {cells units report after : List ℕ} {r : Report} → (re
 string-exported {cells} {units} {report} {after} e h = record {
   reported = λ σ. e .0 ∙ ap reportWords (entry-report h σ);
   tells = subst (λ (x : Report). StringEntered cells units x after) (sym (e .1)) h;
+}
+
+pub page-exported : {words cells : List ℕ} {o : ℕ} {output report out : List ℕ} {r : Report} → (report ≡ reportWords r) × (reportFrom report ≡ r) → Paged words cells o output r out
+    → PageExported words cells o output report out
+page-exported {words} {cells} {o} {output} {report} {out} e h = record {
+  reported = e .0 ∙ ap reportWords (page-report h);
+  tells = subst (λ (x : Report). Paged words cells o output x out) (sym (e .1)) h;
 }

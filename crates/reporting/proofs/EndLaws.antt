@@ -62,6 +62,7 @@ module _ (words cells output : List ℕ) (answers : List Answer) (after : List �
   completes-shown (completion.Descriptor p) s h w = judged (s .answers) _ _ (λ e. rw (sym e)) (λ e. e) w
   completes-shown completion.Absent s h w = judged (s .answers) _ _ (λ e. rw (sym e)) (λ e. e) w
   completes-shown (completion.Keys n) s h w = absurd (false≢true h)
+  completes-shown (completion.Page n) s h w = absurd (false≢true h)
 
 -- the same where nothing is written
 module _ (words cells sheet output : List ℕ) where

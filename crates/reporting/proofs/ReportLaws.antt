@@ -20,6 +20,7 @@ completion-told (completion.Value v) = refl
 completion-told (completion.Descriptor p) = ap completion.Descriptor (property-again p)
 completion-told completion.Absent = refl
 completion-told (completion.Keys n) = refl
+completion-told (completion.Page n) = refl
 
 outcome-told : (o : Outcome) → outcomeFrom (outcomeNumber o) (refusalOrMessage o) (completionFrom (outcomeForm o) (outcomeDetail o) (outcomeFirst o) (outcomeSecond o)) (outcomeFirst o) ≡ o
 unfolding outcomeFrom

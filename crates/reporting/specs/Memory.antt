@@ -16,6 +16,7 @@ use Rattle.steps.specs.Operation.{writesInTurn, asked}
 use Rattle.steps.specs.Response.{Response, Effect, reportOf}
 use Rattle.steps.specs.Step.{step, refusing}
 use Rattle.steps.specs.StringEntry.{enterString}
+use Rattle.steps.specs.Page.{propertyPage}
 use Rattle.reporting.specs.Seen.{responseSeen}
 use Rattle.reporting.specs.ReportWords.{reportWords, reportFrom}
 
@@ -49,6 +50,9 @@ enterOver σ cells units =
     (enterString (record { store = σ; strings = stringsOf cells }) units)
     (refusing 1 (record { store = σ; strings = stringsOf cells }) [])
 
+unfoldable pub pageOver : List ℕ → List ℕ → ℕ → List ℕ → Effect
+pageOver words cells o output = cond (isMemory words cells) (propertyPage (worldOf words cells) o output) (refusing 1 (worldOf words cells) output)
+
 -- the words were written: once at most, or in turns
 pub record Wrote (inTurn : Bool) (before after : List ℕ) : Type 0 where
   pub committed : Committed before after
@@ -77,6 +81,10 @@ pub record StringEntered (cells units : List ℕ) (r : Report) (after : List ℕ
   pub cells-are : after ≡ cellsAfter cells units (enterCells cells units)
   pub table : isTable after ≡ isTable cells
 
+-- What `page` ensures: the report and every output byte are those of the definitions, and the memory stays
+pub record Paged (words cells : List ℕ) (o : ℕ) (output : List ℕ) (r : Report) (out : List ℕ) : Type 0 where
+  pub shows : shown r words cells out ≡ shownBy (pageOver words cells o output)
+
 -- What `demnyaluz_step` ensures: the ten words are those of the definitions' report, and of the report that they tell all holds that `step` ensures
 pub record StepExported (words cells bytes sheet output report after out : List ℕ) : Type 0 where
   pub reported : report ≡ reportWords (reportOf (stepOver words cells bytes sheet output .response))
@@ -86,3 +94,8 @@ pub record StepExported (words cells bytes sheet output report after out : List 
 pub record StringExported (cells units report after : List ℕ) : Type 0 where
   pub reported : (σ : Store) → report ≡ reportWords (reportOf (enterOver σ cells units .response))
   pub tells : StringEntered cells units (reportFrom report) after
+
+-- What `demnyaluz_page` ensures, likewise
+pub record PageExported (words cells : List ℕ) (o : ℕ) (output report out : List ℕ) : Type 0 where
+  pub reported : report ≡ reportWords (reportOf (pageOver words cells o output .response))
+  pub tells : Paged words cells o output (reportFrom report) out

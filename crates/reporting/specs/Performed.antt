@@ -15,23 +15,25 @@ use Rattle.steps.specs.Perform as result
 use Rattle.reporting.specs.declared.Performed.{Performed}
 use Rattle.reporting.specs.declared.Performed.the-variants.{Failed, Done}
 
--- the result that a completion stands for; a key list has more than its length, and is not told this way
+-- the result that a completion stands for; a key list and a page have more than their lengths, and are not told this way
 abbrev pub resultOf : Completion → Result
 resultOf (completion.Value v) = result.value v
 resultOf (completion.Descriptor p) = result.descriptor p
 resultOf completion.Absent = result.absent
 resultOf (completion.Keys n) = result.keys []
+resultOf (completion.Page n) = result.page []
 
 abbrev pub outPerformed : List ℕ → Store → Performed → Ran Result
 outPerformed sheet σ (Failed f s) = (failed f (stateOf sheet s), σ)
 outPerformed sheet σ (Done c w s) = (done (resultOf c) (stateOf sheet s), applied w σ)
 
--- a completion that is no key list
+-- a completion that is neither a key list nor a page
 abbrev pub isPlain : Completion → Bool
 isPlain (completion.Value v) = true
 isPlain (completion.Descriptor p) = true
 isPlain completion.Absent = true
 isPlain (completion.Keys n) = false
+isPlain (completion.Page n) = false
 
 -- a write that is done is one that the words can take, and a completion tells all of its result
 abbrev pub Taken : List ℕ → Performed → Type 0

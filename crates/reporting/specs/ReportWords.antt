@@ -20,13 +20,15 @@ completionForm (completion.Value v) = 1
 completionForm (completion.Descriptor p) = 2
 completionForm completion.Absent = 3
 completionForm (completion.Keys n) = 4
+completionForm (completion.Page n) = 5
 
--- a descriptor's flags, or the number of keys
+-- a descriptor's flags, the number of keys, or of a page's bytes
 abbrev pub completionDetail : Completion → ℕ
 completionDetail (completion.Value v) = 0
 completionDetail (completion.Descriptor p) = flagsOf p
 completionDetail completion.Absent = 0
 completionDetail (completion.Keys n) = n
+completionDetail (completion.Page n) = n
 
 -- the value, or a descriptor's value or getter
 abbrev pub completionFirst : Completion → Value
@@ -34,6 +36,7 @@ completionFirst (completion.Value v) = v
 completionFirst (completion.Descriptor p) = primary p
 completionFirst completion.Absent = Undefined
 completionFirst (completion.Keys n) = Undefined
+completionFirst (completion.Page n) = Undefined
 
 -- a descriptor's setter
 abbrev pub completionSecond : Completion → Value
@@ -41,8 +44,9 @@ completionSecond (completion.Value v) = Undefined
 completionSecond (completion.Descriptor p) = secondary p
 completionSecond completion.Absent = Undefined
 completionSecond (completion.Keys n) = Undefined
+completionSecond (completion.Page n) = Undefined
 
--- 0 nothing, 1 a value, a thrown one too, 2 a descriptor, 3 absent, 4 keys
+-- 0 nothing, 1 a value, a thrown one too, 2 a descriptor, 3 absent, 4 keys, 5 a page
 abbrev pub outcomeForm : Outcome → ℕ
 outcomeForm (outcome.Refused n) = 0
 outcomeForm (outcome.Result c) = completionForm c
@@ -87,7 +91,8 @@ completionFrom form detail a b =
     pick (eqb form 1) (completion.Value a)
     (pick (eqb form 2) (completion.Descriptor (propertyOf detail a b))
     (pick (eqb form 3) completion.Absent
-    (completion.Keys detail)))
+    (pick (eqb form 4) (completion.Keys detail)
+    (completion.Page detail))))
 
 unfoldable pub outcomeFrom : ℕ → ℕ → Completion → Value → Outcome
 outcomeFrom number n c v =

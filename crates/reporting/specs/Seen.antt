@@ -1,7 +1,8 @@
--- What a caller reads: a response from a report and, where it counts keys, from the output's bytes. Assumes nothing.
+-- What a caller reads: a response from a report and, where it counts keys or a page's bytes, from the output's bytes. Assumes nothing.
 use Prim.Native.Nat.{ℕ, zero, suc, _+_}
 use mathlib.Core.Option.{Option, none, some}
 use mathlib.Core.List.{List, [], _∷_}
+use lib.ListN.{take}
 use Rattle.value.specs.declared.PropertyKey.{PropertyKey}
 use Rattle.value.specs.declared.PropertyKey.the-variants.{String}
 use Rattle.value.specs.PropertyKey.{keyOf}
@@ -11,7 +12,7 @@ use Rattle.steps.specs.declared.Completion.the-variants as completion
 use Rattle.steps.specs.declared.Outcome.{Outcome}
 use Rattle.steps.specs.declared.Outcome.the-variants as outcome
 use Rattle.steps.specs.declared.Report.{Report}
-use Rattle.steps.specs.Perform.{Result, value, descriptor, absent, keys}
+use Rattle.steps.specs.Perform.{Result, value, descriptor, absent, keys, page}
 use Rattle.steps.specs.Response.{Ending, refused, result, typeError, thrown, Response}
 
 -- every value reads as a key; one that is none, as string 0
@@ -29,6 +30,7 @@ resultSeen output (completion.Value v) = value v
 resultSeen output (completion.Descriptor p) = descriptor p
 resultSeen output completion.Absent = absent
 resultSeen output (completion.Keys n) = keys (keysAt output 0 n)
+resultSeen output (completion.Page n) = page (take n output)
 
 abbrev pub endingSeen : List ℕ → Outcome → Ending
 endingSeen output (outcome.Refused n) = refused n

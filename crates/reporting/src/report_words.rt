@@ -110,6 +110,7 @@ fn completion_words(c: Completion, answers: u64, calls: u64) -> [u64; 10]
         Completion::Descriptor(p) => property_words(p, answers, calls),
         Completion::Absent => [1, 0, answers, calls, 3, 0, 0, 0, 0, 0],
         Completion::Keys(n) => [1, 0, answers, calls, 4, n, 0, 0, 0, 0],
+        Completion::Page(n) => [1, 0, answers, calls, 5, n, 0, 0, 0, 0],
     }
 }
 

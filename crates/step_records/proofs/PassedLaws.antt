@@ -11,9 +11,8 @@ use borrow.Author.Tests.{ltb-true, leb-true, eqb-true, eqb-false}
 use Rattle.value.proofs.Bools.{and-true, or-false, or-cases}
 use Rattle.value.specs.declared.Value.{Value}
 use Rattle.value.specs.declared.Value.the-variants.{Undefined, Null, Boolean, Integer32, Float64, String, Symbol, Object, Function}
-use Rattle.value.specs.PropertyKey.{keyOf}
+use Rattle.value.specs.PropertyKey.{keyOf, keyNumber}
 use Rattle.store.specs.Store.{World}
-use Rattle.store_write.specs.Write.{numberIn}
 use Rattle.record.specs.Bytes.{byteAt}
 use Rattle.record.specs.Tests.{Counts, isKnown, firstFailing}
 use Rattle.record.specs.Step.{stepOf, usesLevel, isStep, isCode, areKindsUsable}
@@ -32,7 +31,7 @@ later n true ts e = e
 later n false ts e = let z : _≡_ {A = ℕ} 0 1 = cc in absurd (omega arith)
 
 -- a known value is no key, or one of a number that a key word can join
-known-key : (n : Counts) (v : Value) → n .strings ≤ 256 → isKnown n v ≡ true → numberIn (keyOrFirst (keyOf v)) < 2 ^ 58
+known-key : (n : Counts) (v : Value) → n .strings ≤ 256 → isKnown n v ≡ true → keyNumber (keyOrFirst (keyOf v)) < 2 ^ 58
 unfolding isKnown
 known-key n Undefined h e = omega arith
 known-key n Null h e = omega arith
@@ -79,6 +78,6 @@ module _ (ω : World) (bytes sheet : List ℕ) (h : firstFailing (recordTests ω
   unfolding isSheet
   sheet-there = ltb-true _ _ (and-true _ _ sheet-formed .0)
 
-  pub key-fits : length (ω .strings) ≤ 256 → numberIn (keyOrFirst (keyOf (stepOf bytes .key))) < 2 ^ 58
+  pub key-fits : length (ω .strings) ≤ 256 → keyNumber (keyOrFirst (keyOf (stepOf bytes .key))) < 2 ^ 58
   unfolding areKindsUsable
   key-fits q = known-key (countsOf ω) _ q (and-true _ _ (and-true _ _ (passed _ _ _ (later _ _ _ (later _ _ _ h))) .0) .0)

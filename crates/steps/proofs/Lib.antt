@@ -7,5 +7,7 @@ pub mod Performed
 pub mod Performs
 pub mod Lifted
 pub mod Runs
+pub mod Pages
 pub mod Places
 pub mod Walk
+pub mod KnownKeys

@@ -49,7 +49,7 @@ MadeOperation σ (makeFunction v) = MadeValue σ v
 MadeOperation σ (setIntegrityLevel o level) = Made σ o
 MadeOperation σ (testIntegrityLevel o level) = Made σ o
 
-element-below : {A : Type 0} (l : List A) (i : ℕ) → i < length l → (x : A) × (getElem? l i ≡ some x)
+pub element-below : {A : Type 0} (l : List A) (i : ℕ) → i < length l → (x : A) × (getElem? l i ≡ some x)
 element-below [] i h = absurd (not-suc-le-zero h)
 element-below (x ∷ l) zero h = (x, refl)
 element-below (x ∷ l) (suc i) h = element-below l i (le-of-suc-le-suc h)

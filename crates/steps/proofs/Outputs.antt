@@ -16,13 +16,13 @@ use Rattle.steps.specs.Step.{keysBytes, outputAfterEnding, step}
 use Rattle.steps.proofs.Steps.{Ends, inadmissible, refuses, errs, throws, leaves, short, results, ends}
 
 -- the front of a list, and what is behind it
-front : {A : Type 0} (n : ℕ) (l m : List A) → length l ≡ n → take n (l ++ m) ≡ l
+pub front : {A : Type 0} (n : ℕ) (l m : List A) → length l ≡ n → take n (l ++ m) ≡ l
 front zero [] m e = refl
 front (suc n) [] m e = absurd (false≢true cc)
 front zero (x ∷ l) m e = absurd (false≢true cc)
 front (suc n) (x ∷ l) m e = ap (λ r. x ∷ r) (front n l m (let q : length l ≡ n = cc in q))
 
-behind : {A : Type 0} (n i : ℕ) (l m : List A) → length l ≡ n → drop (n + i) (l ++ m) ≡ drop i m
+pub behind : {A : Type 0} (n i : ℕ) (l m : List A) → length l ≡ n → drop (n + i) (l ++ m) ≡ drop i m
 behind zero i [] m e = ap (λ (j : ℕ). drop j m) (let q : zero + i ≡ i = omega arith in q)
 behind (suc n) i [] m e = absurd (false≢true cc)
 behind zero i (x ∷ l) m e = absurd (false≢true cc)

@@ -18,6 +18,7 @@ use Rattle.steps.specs.Run as call
 use Rattle.steps.proofs.Made.{names-made}
 use Rattle.steps.proofs.Steps.{ends, kept-by, EntryEnds, refuses, enters, entry-ends}
 use Rattle.steps.proofs.Performs.{performs}
+use Rattle.steps.proofs.Pages.{page-leaves}
 use Rattle.steps.proofs.Performed.{Said, performed}
 
 -- what a run says
@@ -38,6 +39,7 @@ pub effect-kept : (ω : World) (P : Store → Type 0) → P (ω .store) → ((σ
 unfolding effect
 effect-kept ω P h f (call.step bytes sheet output) = kept-by ω bytes sheet output P h (λ p. f _ (gives bytes sheet p)) (ends ω bytes sheet output)
 effect-kept ω P h f (call.enter units) = entry-kept ω units P h (entry-ends ω units)
+effect-kept ω P h f (call.page o output) = rw (page-leaves ω o output) h
 
 -- what holds of a store and passes from each to all that runs give from it holds at every place
 pub kept-from : (P : Store → Type 0) → ((ω : World) → P (ω .store) → (σ : Store) → Gives ω σ → P σ) → (ω : World) (cs : List Call) (i : ℕ) → P (ω .store) → P (worldFrom ω cs i .store)

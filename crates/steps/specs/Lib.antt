@@ -6,4 +6,5 @@ pub mod Perform
 pub mod Response
 pub mod Step
 pub mod StringEntry
+pub mod Page
 pub mod Run

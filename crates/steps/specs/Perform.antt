@@ -28,6 +28,7 @@ pub data Result : Type 0 where
   descriptor : Property → Result
   absent : Result
   keys : List PropertyKey → Result
+  page : List ℕ → Result  -- its text; no step has one
 
 -- how many calls a step may make
 abbrev pub maximumCalls : ℕ

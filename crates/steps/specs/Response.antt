@@ -9,7 +9,7 @@ use Rattle.steps.specs.declared.Completion.the-variants as completion
 use Rattle.steps.specs.declared.Outcome.{Outcome}
 use Rattle.steps.specs.declared.Outcome.the-variants as outcome
 use Rattle.steps.specs.declared.Report.{Report}
-use Rattle.steps.specs.Perform.{Result, value, descriptor, absent, keys}
+use Rattle.steps.specs.Perform.{Result, value, descriptor, absent, keys, page}
 
 pub data Ending : Type 0 where
   refused : ℕ → Ending
@@ -38,6 +38,7 @@ completionOf (value v) = completion.Value v
 completionOf (descriptor p) = completion.Descriptor p
 completionOf absent = completion.Absent
 completionOf (keys ks) = completion.Keys (length ks)
+completionOf (page text) = completion.Page (length text)
 
 abbrev pub outcomeOf : Ending → Outcome
 outcomeOf (refused n) = outcome.Refused n

@@ -8,15 +8,18 @@ use Rattle.store.specs.Store.{World, empty}
 use Rattle.steps.specs.Response.{Response, Effect}
 use Rattle.steps.specs.Step
 use Rattle.steps.specs.StringEntry.{enterString}
+use Rattle.steps.specs.Page.{propertyPage}
 
--- a step with its sheet and its output, of any content and length; or a string's code units
+-- a step with its sheet and its output, of any content and length; a string's code units; or an object's number, and an output for its page
 pub data Call : Type 0 where
   step : (bytes sheet output : List ℕ) → Call
   enter : (units : List ℕ) → Call
+  page : (object : ℕ) (output : List ℕ) → Call
 
 unfoldable pub effect : World → Call → Effect
 effect ω (step bytes sheet output) = Step.step ω bytes sheet output
 effect ω (enter units) = enterString ω units
+effect ω (page object output) = propertyPage ω object output
 
 -- a call that was made, and what it answered
 pub record Event : Type 0 where

@@ -20,7 +20,7 @@ use Rattle.record.specs.Step.{stepOf, isStep, areObjectsMade, areKindsUsable}
 use Rattle.record.specs.Sheet.{sheetOf, isSheet, sheetPasses}
 use Rattle.steps.specs.Operation.{asked}
 use Rattle.steps.specs.Sequence.{Ran}
-use Rattle.steps.specs.Perform.{Result, value, descriptor, absent, keys, maximumCalls, perform}
+use Rattle.steps.specs.Perform.{Result, value, descriptor, absent, keys, page, maximumCalls, perform}
 use Rattle.steps.specs.Response.{Ending, refused, result, typeError, thrown, Response, refusal, Effect}
 
 abbrev pub countsOf : World → Counts
@@ -50,19 +50,21 @@ unfoldable pub keysBytes : List PropertyKey → List ℕ
 keysBytes [] = []
 keysBytes (k ∷ ks) = valueBytes (keyValue k) ++ keysBytes ks
 
--- refusal 11: the output holds 9 bytes for each key
+-- refusal 11: the output holds 9 bytes for each key, or all of a page
 abbrev pub outputHolds : Result → List ℕ → Bool
 outputHolds (value v) output = true
 outputHolds (descriptor p) output = true
 outputHolds absent output = true
 outputHolds (keys ks) output = leb (valueSize * length ks) (length output)
+outputHolds (page text) output = leb (length text) (length output)
 
--- the keys stand at the output's start; the bytes after them stay
+-- the keys or the page stand at the output's start; the bytes after them stay
 abbrev pub outputAfter : Result → List ℕ → List ℕ
 outputAfter (value v) output = output
 outputAfter (descriptor p) output = output
 outputAfter absent output = output
 outputAfter (keys ks) output = keysBytes ks ++ drop (valueSize * length ks) output
+outputAfter (page text) output = text ++ drop (length text) output
 
 -- the same of every ending: only a result writes
 abbrev pub outputAfterEnding : Ending → List ℕ → List ℕ

@@ -12,7 +12,7 @@ use borrow.Author.Tests.{ltb-true, ltb-false, lt-ltb, le-ltb, eq-eqb, ne-eqb}
 use Rattle.value.specs.Bits.{bit}
 use Rattle.value.specs.declared.PropertyKey.{PropertyKey}
 use Rattle.value.specs.declared.PropertyKey.the-variants.{String, Symbol}
-use Rattle.value.specs.PropertyKey.{sameKey}
+use Rattle.value.specs.PropertyKey.{sameKey, keyNumber}
 use Rattle.value.specs.Words.{pick, valueOf}
 use Rattle.value.proofs.Bools.{refuted}
 use Rattle.value.proofs.SameKey.{key-eq}
@@ -27,7 +27,7 @@ use Rattle.store.specs.Store.{isAt, find, own, lookup}
 use Rattle.store.specs.Words.{storeOf, objectOf, objectIn, propertyIn, entryIn, keyOf, keyWord, wordAt, keyAt}
 use Rattle.store.proofs.WordLaws.{at-word}
 use Rattle.store_read.specs.declared.Place.{Place}
-use Rattle.store_read.specs.Answers.{firstPlace, findPlace, keyWords, placed, classWeight, numberIn}
+use Rattle.store_read.specs.Answers.{firstPlace, findPlace, keyWords, placed, classWeight}
 
 -- Tabulated lists --------------------------------------------------------------------------
 
@@ -109,12 +109,12 @@ module _ (words : List ℕ) (o : ℕ) where
   unfolding findPlace storeOf isAt entryIn
   no-owner k h = first-none _ _ 0 (wordAt words 1) (λ i. let e : eqb (wordAt words (keyAt i) % 32) o ≡ false = ne-eqb _ _ (λ (z : wordAt words (keyAt i) % 32 ≡ o). omega arith) in rw e)
 
-pub key-joined : (o : ℕ) (k : PropertyKey) → o + classWeight k + 64 * numberIn k ≡ keyWord o k
+pub key-joined : (o : ℕ) (k : PropertyKey) → o + classWeight k + 64 * keyNumber k ≡ keyWord o k
 key-joined o (String s) = omega arith
 key-joined o (Symbol s) = refl
 
 -- what finding the key's word says of its place
-module _ (words : List ℕ) (o i n number weight : ℕ) (k : PropertyKey) (owned : o < 32) (numbered : number ≡ numberIn k) (weighed : weight ≡ classWeight k)
+module _ (words : List ℕ) (o i n number weight : ℕ) (k : PropertyKey) (owned : o < 32) (numbered : number ≡ keyNumber k) (weighed : weight ≡ classWeight k)
     (there : placed i (wordAt words 1) ≡ firstPlace (λ (w : ℕ). eqb w (o + weight + 64 * number)) 0 (keyWords words)) (counted : n ≡ wordAt words 1) where
   at-place : placed i n ≡ findPlace (storeOf words .properties) o k
   at-place =
@@ -129,21 +129,21 @@ module _ (words : List ℕ) (o i n number weight : ℕ) (k : PropertyKey) (owned
   word-missing h = sym (placed-out i n h) ∙ at-place
 
 -- nor, below 2 ^ 64, a number from 2 ^ 58 on
-number-in : (b : Bool) (n : ℕ) → numberIn (pick b (String n) (Symbol n)) ≡ n
+number-in : (b : Bool) (n : ℕ) → keyNumber (pick b (String n) (Symbol n)) ≡ n
 number-in true n = refl
 number-in false n = refl
 
-no-number : (w : ℕ) (k : PropertyKey) → w < 2 ^ 64 → 288230376151711744 ≤ numberIn k → sameKey (keyOf w) k ≡ false
+no-number : (w : ℕ) (k : PropertyKey) → w < 2 ^ 64 → 288230376151711744 ≤ keyNumber k → sameKey (keyOf w) k ≡ false
 unfolding keyOf
 no-number w k l h = refuted _ λ same.
-    let e : w / 64 ≡ numberIn k = sym (number-in (eqb (w / 32 % 2) 0) (w / 64)) ∙ ap numberIn (key-eq (keyOf w) k same) in
+    let e : w / 64 ≡ keyNumber k = sym (number-in (eqb (w / 32 % 2) 0) (w / 64)) ∙ ap keyNumber (key-eq (keyOf w) k same) in
     omega arith
 
 and-none : (a b : Bool) → b ≡ false → (a && b) ≡ false
 and-none true b h = h
 and-none false b h = refl
 
-pub no-key : (words : List ℕ) → ((i : ℕ) → getD words i 0 < 2 ^ 64) → (o : ℕ) (k : PropertyKey) → 288230376151711744 ≤ numberIn k
+pub no-key : (words : List ℕ) → ((i : ℕ) → getD words i 0 < 2 ^ 64) → (o : ℕ) (k : PropertyKey) → 288230376151711744 ≤ keyNumber k
     → Nothing ≡ findPlace (storeOf words .properties) o k
 unfolding findPlace storeOf isAt entryIn
 no-key words fits o k h =

@@ -47,14 +47,10 @@ keyIn words i = wordAt words (keyAt i)
 abbrev pub keyWords : List ℕ → List ℕ
 keyWords words = tabulate (keyIn words) 0 (wordAt words 1)
 
--- a key word is its owner, this weight, and 64 times this number
+-- a key word is its owner, this weight, and 64 times its number
 abbrev pub classWeight : PropertyKey → ℕ
 classWeight (String s) = 0
 classWeight (Symbol s) = 32
-
-abbrev pub numberIn : PropertyKey → ℕ
-numberIn (String s) = s
-numberIn (Symbol s) = s
 
 -- Own keys as words ---------------------------------------------------------------------
 

@@ -9,9 +9,10 @@ ghost use mathlib.Core.Path.{_≡_};
 ghost use mathlib.Core.Bool.{true};
 ghost use Prim.Native.Nat.{ℕ, _<_, _≤_};
 ghost use lib.Dec.{eqb};
+ghost use Rattle.value.specs.PropertyKey.{keyNumber};
 ghost use Rattle.store.specs.Store as store;
 ghost use Rattle.store.specs.Words.{isStore, storeOf, wordAt, propertyIn};
-ghost use Rattle.store_read.specs.Answers.{findPlace, firstPlace, keyWords, placed, numberIn, classWeight};
+ghost use Rattle.store_read.specs.Answers.{findPlace, firstPlace, keyWords, placed, classWeight};
 
 const ROWS: usize = 355;
 
@@ -33,8 +34,8 @@ fn find_word(words: &[u64], word: u64) -> usize
     n
 }
 
-fn number_in(key: PropertyKey) -> u64
-    ensures { λ r. ⌜ r ≡ numberIn key ⌝ }
+pub fn number_in(key: PropertyKey) -> u64
+    ensures { λ r. ⌜ r ≡ keyNumber key ⌝ }
 {
     match key {
         PropertyKey::String(s) => s,

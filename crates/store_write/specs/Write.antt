@@ -7,8 +7,8 @@ use lib.Dec.{eqb}
 use lib.ListN.{length, set}
 use Rattle.value.specs.declared.Value.{Value}
 use Rattle.value.specs.declared.PropertyKey.{PropertyKey}
-use Rattle.value.specs.declared.PropertyKey.the-variants.{String, Symbol}
 use Rattle.value.specs.Words.{kindOf, payloadOf, valueOf}
+use Rattle.value.specs.PropertyKey.{keyNumber}
 use Rattle.property.specs.declared.Property.{Property}
 use Rattle.property.specs.declared.OwnProperty.the-variants.{Absent}
 use Rattle.store.specs.declared.Object.{Object}
@@ -54,11 +54,6 @@ pub record PropertyCells (p : Property) (r : PropertyWords) : Type 0 where
 abbrev pub cellsOf : PropertyWords → List ℕ
 cellsOf r = r .flags ∷ r .kind ∷ r .payload ∷ r .«second_kind» ∷ r .«second_payload» ∷ []
 
--- the number of the string or the symbol that a key is
-abbrev pub numberIn : PropertyKey → ℕ
-numberIn (String s) = s
-numberIn (Symbol s) = s
-
 -- the store after a write
 abbrev pub applied : Write → Store → Store
 applied write.Nothing σ = σ
@@ -80,7 +75,7 @@ writtenTo (write.Remove o k) words = withoutRow words o k
 -- an owner and a key that one word can join
 pub record Joins (o : ℕ) (k : PropertyKey) : Type 0 where
   pub owner : o < maximumObjects
-  pub number : numberIn k < 2 ^ 58
+  pub number : keyNumber k < 2 ^ 58
 
 -- a property that is new and has room
 pub record New (words : List ℕ) (o : ℕ) (k : PropertyKey) : Type 0 where

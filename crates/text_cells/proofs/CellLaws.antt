@@ -10,7 +10,8 @@ use lib.ListN.{length, getD, take, drop, set, replicate, length-set, length-drop
 use lib.Seq.{drop-cons, drop-drop, getD-drop, getD-set-same, getD-set-other}
 use borrow.Author.Count.{below-more}
 use borrow.Author.Tests.{eqb-true, eqb-false, eq-eqb, ne-eqb}
-use Rattle.text_form.specs.Cells.{until, space, cellsOf, pieces}
+use Rattle.record.specs.Characters.{space}
+use Rattle.text_form.specs.Cells.{until, cellsOf, pieces}
 use Rattle.text_cells.specs.Answers.{cellAt, Located}
 
 -- a cell starts before the next one, which starts within the line or one behind it

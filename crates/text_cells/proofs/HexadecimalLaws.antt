@@ -10,7 +10,8 @@ use lib.Dec.{eqb, leb}
 use lib.ListN.{length, getD, take, drop, set, drop-of-length-le}
 use lib.Seq.{drop-cons}
 use borrow.Author.Tests.{le-leb, lt-leb, lt-ltb}
-use Rattle.text_form.specs.Cells.{digitOf, withByte, bytesIn, withUnit, unitsOf, isDash}
+use Rattle.record.specs.Characters.{digitOf, withByte, bytesIn}
+use Rattle.text_form.specs.Cells.{withUnit, unitsOf, isDash}
 use Rattle.text_form.specs.Lines.{joined}
 use Rattle.text_cells.specs.Answers.{digitTold}
 use Rattle.text_cells.proofs.JoinLaws.{one-more, all-written}

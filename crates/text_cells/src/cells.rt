@@ -5,7 +5,8 @@ ghost use mathlib.Core.List.{[]};
 ghost use Prim.Native.Nat.{_+_, _<_, _≤_};
 ghost use lib.Dec.{eqb};
 ghost use lib.ListN.{length, getD, drop};
-ghost use Rattle.text_form.specs.Cells.{until, space, cellsOf};
+ghost use Rattle.record.specs.Characters.{space};
+ghost use Rattle.text_form.specs.Cells.{until, cellsOf};
 ghost use Rattle.text_cells.specs.Answers.{Located};
 
 // Where each cell starts, and the one behind the last would.

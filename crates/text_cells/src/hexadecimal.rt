@@ -4,7 +4,8 @@ ghost use mathlib.Core.Path.{_≡_};
 ghost use mathlib.Core.Option.{some};
 ghost use Prim.Native.Nat.{_+_, _*_, _≤_};
 ghost use lib.ListN.{length, replicate};
-ghost use Rattle.text_form.specs.Cells.{digitOf, bytesIn, unitsOf, isDash, someBytesIn, partIn};
+ghost use Rattle.record.specs.Characters.{digitOf, bytesIn};
+ghost use Rattle.text_form.specs.Cells.{unitsOf, isDash, someBytesIn, partIn};
 ghost use Rattle.text_cells.specs.Answers.{digitTold, told, decoded, Within};
 
 // How many bytes a cell is, if it is any.

@@ -5,6 +5,7 @@ use Rattle.value.specs.Words.{valueOf, payloadOf, isFormed}
 use Rattle.text.specs.Strings.{sameText, numberOf, enter}
 use Rattle.internal_methods.specs.Monad.{pure, if_then_else_}
 use Rattle.record.specs.Bytes.{numberAt, bytesOf, areZero, valueAt, isValueAt, valueBytes, isPartAt}
+use Rattle.record.specs.Characters.{decimalWithin, hexadecimal, digitOf, bytesIn}
 use Rattle.record.specs.Descriptor.{descriptorAt}
 use Rattle.record.specs.Sheet.{answersAt, areAnswersAt, sheetOf, isSheet, sheetPasses}
 use Rattle.record.specs.Tests.{isMade, isKnown, isDescriptor, firstFailing}
@@ -14,9 +15,9 @@ use Rattle.steps.specs.Perform.{once, make, perform}
 use Rattle.steps.specs.Step.{ran, step}
 use Rattle.steps.specs.StringEntry.{enterString}
 use Rattle.steps.specs.Run.{effect, runFrom, run}
-use Rattle.text_form.specs.Cells.{pieces, digitOf, bytesIn, unitsOf, isDash, someBytesIn, partIn, sheetIn, textIn}
+use Rattle.text_form.specs.Cells.{pieces, unitsOf, isDash, someBytesIn, partIn, sheetIn, textIn}
 use Rattle.text_form.specs.Lines.{allOf, columnsOf, recordIn, callIn}
-use Rattle.text_form.specs.Rows.{decimalWithin, hexadecimal, rowOf}
+use Rattle.text_form.specs.Rows.{rowOf}
 use Rattle.text_form.specs.Text.{withoutEmptyLast, callsOf, rows, runText}
 use Rattle.text_form.specs.Examples.{Example, examples}
 

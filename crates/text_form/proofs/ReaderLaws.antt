@@ -8,9 +8,9 @@ use mathlib.Core.List.{List, [], _∷_, _++_, append-assoc, append-nil}
 use lib.Dec.{eqb, ltb}
 use lib.ListN.{length, take, drop, length-append, take-append-drop}
 use borrow.Author.Tests.{ltb-true, ltb-false, le-leb, lt-leb}
+use Rattle.record.specs.Characters.{lineFeed}
 use Rattle.text_form.specs.Cells.{until}
 use Rattle.text_form.specs.Lines.{maximumLine}
-use Rattle.text_form.specs.Rows.{lineFeed}
 use Rattle.text_form.specs.Reader.{Phase, first, later, ended, Reader, reader, Read, read, addByte, columnsIn, named, keepByte, isEnded, readByte, readBytes, endLine, added, kept, Fits}
 
 -- what more bytes give after what was read

@@ -11,10 +11,13 @@ use Rattle.record.specs.Tests.{failing, firstFailing}
 use Rattle.steps.specs.Response.{refused}
 use Rattle.steps.specs.Response as response
 use Rattle.steps.specs.Step.{recordTests}
-use Rattle.steps.specs.Run.{Call, step, enter, effect, run, worldFrom}
+use Rattle.steps.specs.Run.{Call, step, enter, page, effect, run, worldFrom}
 use Rattle.demands.specs.Refusals.{Refusal, StepDecided, EntryRefusal}
 use Rattle.demands.specs.Refusals as refusal
+use Rattle.demands.specs.Pages.{PageRefusal}
+use Rattle.demands.specs.Pages as pages
 use Rattle.demands.proofs.Decided.{step-decided, entry-decided}
+use Rattle.demands.proofs.PagesHold.{page-decided}
 use Rattle.demands.proofs.LastingHolds.{lasting}
 use Rattle.demands.proofs.FurtherHold.{further}
 use Rattle.text_form.specs.Cells.{pieces}
@@ -60,11 +63,17 @@ module _ (ω : World) where
   entry-below units n (refusal.EntryRefusal.long h) = omega arith
   entry-below units n (refusal.EntryRefusal.full h q r) = omega arith
 
+  page-below : (o : ℕ) (output : List ℕ) (n : ℕ) → PageRefusal ω o output n → n < 12
+  page-below o output n (pages.missing h) = omega arith
+  page-below o output n (pages.proxied e) = omega arith
+  page-below o output n (pages.short e h) = omega arith
+
   module _ (decides : (bytes sheet output : List ℕ) → StepDecided ω bytes sheet output) where
     not-twelve : (c : Call) → effect ω c .response .ending ≡ refused 12 → ⊥
     unfolding effect
     not-twelve (step bytes sheet output) h = step-other bytes sheet output 12 (decides bytes sheet output .refuses 12 .0 h) refl
     not-twelve (enter units) h = let l : 12 < 12 = entry-below units 12 (entry-decided ω units .refuses 12 .0 h) in omega arith
+    not-twelve (page o output) h = let l : 12 < 12 = page-below o output 12 (page-decided ω o output .refuses 12 .0 h) in omega arith
 
     line-decided : (columns line : List ℕ) → LineDecided ω columns line
     line-decided columns line = record {

@@ -9,11 +9,12 @@ use lib.Dec.{eqb, leb}
 use lib.ListN.{length, length-append}
 use borrow.Author.Tests.{leb-false, lt-leb}
 use Rattle.store.specs.Store.{World, empty}
+use Rattle.record.specs.Characters.{lineFeed}
 use Rattle.steps.specs.Response.{refusal}
 use Rattle.steps.specs.Run.{Call, run}
 use Rattle.text_form.specs.Cells.{pieces}
 use Rattle.text_form.specs.Lines.{maximumLine, columnsOf, callIn}
-use Rattle.text_form.specs.Rows.{lineFeed, heading, row}
+use Rattle.text_form.specs.Rows.{heading, row}
 use Rattle.text_form.specs.Text.{withoutEmptyLast, linesUnder, rowsUnder, rowsOf, rows, runText}
 use Rattle.text_form.specs.Reader.{first, later, ended, Reader, reader, Read, read, start, addByte, columnsIn, lineCall, named, lineEffect, performed, hasBegun, endLine, readByte, readBytes, endInput}
 use Rattle.text_form.proofs.ReaderLaws.{ended-reads, byte-kept, byte-ends}

@@ -1,10 +1,11 @@
 -- Cells of a text line: bytes in lowercase hexadecimal, separated by one space. Assumes nothing.
-use Prim.Native.Nat.{ℕ, suc, _+_, _-_, _*_}
-use mathlib.Core.Bool.{Bool, false, _&&_, cond}
+use Prim.Native.Nat.{ℕ, suc, _+_, _*_}
+use mathlib.Core.Bool.{Bool, false, cond}
 use mathlib.Core.Option.{Option, none, some}
 use mathlib.Core.List.{List, [], _∷_, _++_}
-use lib.Dec.{eqb, leb}
+use lib.Dec.{eqb}
 use lib.ListN.{length, replicate}
+use Rattle.record.specs.Characters.{space, bytesIn}
 
 -- what stands between separators; `front` is what was read of the piece that has begun
 unfoldable pub pieces : ℕ → List ℕ → List ℕ → List (List ℕ)
@@ -16,27 +17,8 @@ unfoldable pub until : ℕ → List ℕ → ℕ
 until separator [] = 0
 until separator (b ∷ bytes) = cond (eqb b separator) 0 (suc (until separator bytes))
 
-abbrev pub space : ℕ
-space = 32
-
 abbrev pub cellsOf : List ℕ → List (List ℕ)
 cellsOf line = pieces space [] line
-
--- the number that a digit is: 0 to 9, a to f
-unfoldable pub digitOf : ℕ → Option ℕ
-digitOf b = cond (leb 48 b && leb b 57) (some (b - 48)) (cond (leb 97 b && leb b 102) (some (b - 87)) none)
-
-abbrev pub withByte : Option ℕ → Option ℕ → Option (List ℕ) → Option (List ℕ)
-withByte none low rest = none
-withByte (some high) none rest = none
-withByte (some high) (some low) none = none
-withByte (some high) (some low) (some bytes) = some ((16 * high + low) ∷ bytes)
-
--- the bytes that digits are, two for each; none where one is no digit or the last byte has one alone
-unfoldable pub bytesIn : List ℕ → Option (List ℕ)
-bytesIn [] = some []
-bytesIn (a ∷ []) = none
-bytesIn (a ∷ b ∷ digits) = withByte (digitOf a) (digitOf b) (bytesIn digits)
 
 abbrev pub withUnit : ℕ → Option (List ℕ) → Option (List ℕ)
 withUnit unit none = none

@@ -1,7 +1,8 @@
 -- Texts and their outputs. Assumes nothing.
 use Prim.Native.Nat.{ℕ}
 use mathlib.Core.List.{List, [], _∷_, _++_}
-use Rattle.text_form.specs.Rows.{lineFeed, heading}
+use Rattle.record.specs.Characters.{lineFeed}
+use Rattle.text_form.specs.Rows.{heading}
 
 -- step object key value receiver descriptor sheet
 abbrev pub namesLine : List ℕ

@@ -6,11 +6,12 @@ use mathlib.Core.List.{List, [], _∷_, _++_}
 use lib.Dec.{eqb, leb, ltb}
 use lib.ListN.{length}
 use Rattle.store.specs.Store.{World, empty}
+use Rattle.record.specs.Characters.{lineFeed}
 use Rattle.steps.specs.Response.{refusal, Effect}
 use Rattle.steps.specs.Run.{Call, effect}
 use Rattle.steps.specs.Step.{refusing}
 use Rattle.text_form.specs.Lines.{maximumLine, columnsOf, callIn}
-use Rattle.text_form.specs.Rows.{lineFeed, heading, row}
+use Rattle.text_form.specs.Rows.{heading, row}
 
 -- the first line is to come; lines under these columns; nothing more is read
 pub data Phase : Type 0 where

@@ -1,18 +1,13 @@
 -- A row for each line: line, outcome, number, answers, calls, value. Assumes nothing.
-use Prim.Native.Nat.{ℕ, zero, suc, _+_, _/_, _%_}
-use mathlib.Core.Bool.{cond}
+use Prim.Native.Nat.{ℕ}
 use mathlib.Core.List.{List, [], _∷_, _++_}
-use lib.Dec.{ltb}
 use Rattle.property.specs.Descriptor.{descriptorOf, fromPropertyDescriptor}
 use Rattle.record.specs.Bytes.{valueBytes}
+use Rattle.record.specs.Characters.{space, lineFeed, decimal, hexadecimal}
 use Rattle.record.specs.Descriptor.{descriptorBytes}
-use Rattle.steps.specs.Perform.{Result, value, descriptor, absent, keys}
+use Rattle.steps.specs.Perform.{Result, value, descriptor, absent, keys, page}
 use Rattle.steps.specs.Response.{Ending, refused, result, typeError, thrown, Response, outcomeOf, outcomeNumber, refusalOrMessage}
 use Rattle.steps.specs.Step.{keysBytes}
-use Rattle.text_form.specs.Cells.{space}
-
-abbrev pub lineFeed : ℕ
-lineFeed = 10
 
 -- line outcome number answers calls value
 abbrev pub heading : List ℕ
@@ -20,28 +15,13 @@ heading =
     108 ∷ 105 ∷ 110 ∷ 101 ∷ 32 ∷ 111 ∷ 117 ∷ 116 ∷ 99 ∷ 111 ∷ 109 ∷ 101 ∷ 32 ∷ 110 ∷ 117 ∷ 109 ∷ 98 ∷ 101 ∷ 114 ∷ 32
     ∷ 97 ∷ 110 ∷ 115 ∷ 119 ∷ 101 ∷ 114 ∷ 115 ∷ 32 ∷ 99 ∷ 97 ∷ 108 ∷ 108 ∷ 115 ∷ 32 ∷ 118 ∷ 97 ∷ 108 ∷ 117 ∷ 101 ∷ lineFeed ∷ []
 
--- the decimal digits of a number, at most 1 + bound of them
-unfoldable pub decimalWithin : ℕ → ℕ → List ℕ
-decimalWithin zero n = (48 + n % 10) ∷ []
-decimalWithin (suc bound) n = cond (ltb n 10) ((48 + n) ∷ []) (decimalWithin bound (n / 10) ++ ((48 + n % 10) ∷ []))
-
--- no number has more digits than itself and one
-abbrev pub decimal : ℕ → List ℕ
-decimal n = decimalWithin n n
-
-abbrev pub digitFor : ℕ → ℕ
-digitFor n = cond (ltb n 10) (48 + n) (87 + n)
-
-unfoldable pub hexadecimal : List ℕ → List ℕ
-hexadecimal [] = []
-hexadecimal (b ∷ bytes) = digitFor (b / 16) ∷ digitFor (b % 16) ∷ hexadecimal bytes
-
--- a result's value, complete descriptor or keys
+-- a result's value, complete descriptor or keys; a page is no result of a line
 abbrev pub resultBytes : Result → List ℕ
 resultBytes (value v) = valueBytes v
 resultBytes (descriptor p) = descriptorBytes (fromPropertyDescriptor (descriptorOf p))
 resultBytes absent = []
 resultBytes (keys ks) = keysBytes ks
+resultBytes (page text) = []
 
 abbrev pub endingBytes : Ending → List ℕ
 endingBytes (refused n) = []

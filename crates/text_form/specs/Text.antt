@@ -2,11 +2,12 @@
 use Prim.Native.Nat.{ℕ, suc}
 use mathlib.Core.Option.{Option, none, some}
 use mathlib.Core.List.{List, [], _∷_, _++_, map}
+use Rattle.record.specs.Characters.{lineFeed}
 use Rattle.steps.specs.Response.{refusal}
 use Rattle.steps.specs.Run.{Call, Event, run}
 use Rattle.text_form.specs.Cells.{pieces}
 use Rattle.text_form.specs.Lines.{columnsOf, callIn}
-use Rattle.text_form.specs.Rows.{lineFeed, heading, row}
+use Rattle.text_form.specs.Rows.{heading, row}
 
 -- what stands after the last line feed is a line, unless it is empty
 unfoldable pub withoutEmptyLast : List (List ℕ) → List (List ℕ)

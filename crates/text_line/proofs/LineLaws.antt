@@ -40,6 +40,7 @@ result-told : (r : result.Result) (output : List ℕ) → length output ≤ 2304
 result-told (result.value v) output l h = (tt, refl)
 result-told (result.descriptor p) output l h = (tt, refl)
 result-told result.absent output l h = (tt, refl)
+result-told (result.page text) output l h = (tt, refl)
 result-told (result.keys ks) output l h =
     let k : valueSize * length ks ≤ length output = leb-true _ _ h in
     ((omega (arith, length-append (keysBytes ks) (drop (valueSize * length ks) output), length-keys ks), omega arith), take-at (keysBytes ks) (drop (valueSize * length ks) output) (valueSize * length ks) (length-keys ks))

@@ -13,11 +13,12 @@ use lib.Seq.{sets, sets-eq, paste, take-at, drop-at, take-length, length-take-le
 use borrow.Author.Tests.{lt-ltb, le-ltb, le-leb, lt-leb, eq-eqb, ne-eqb, eqb-true, eqb-false, ltb-true, leb-true}
 use Rattle.value.proofs.Bools.{and-true}
 use Rattle.store.specs.Words.{worldOf}
+use Rattle.record.specs.Characters.{lineFeed}
 use Rattle.reporting.specs.Memory.{isMemory}
 use Rattle.text_cells.specs.Answers.{AreColumns}
 use Rattle.text_form.specs.Cells.{until}
 use Rattle.text_form.specs.Lines.{maximumLine, columnsOf, callIn}
-use Rattle.text_form.specs.Rows.{lineFeed, heading, row}
+use Rattle.text_form.specs.Rows.{heading, row}
 use Rattle.text_form.specs.Reader.{first, later, ended, Reader, reader, Read, read, isEnded, added, kept, Fits, columnsIn, lineCall, lineEffect, hasBegun, lastLine, close, endInput, endLine, readBytes}
 use Rattle.text_form.proofs.NameLaws.{names-once}
 use Rattle.text_form.proofs.ReaderLaws.{piece-kept, piece-ends}

@@ -8,10 +8,10 @@ use lib.Dec.{eqb, leb, ltb}
 use lib.ListN.{length, getD, take, drop}
 use Rattle.text.specs.Table.{tableSize}
 use Rattle.store.specs.Words.{storeSize, worldOf}
+use Rattle.record.specs.Characters.{lineFeed}
 use Rattle.reporting.specs.Memory.{isMemory}
 use Rattle.text_form.specs.Cells.{until}
 use Rattle.text_form.specs.Lines.{maximumLine}
-use Rattle.text_form.specs.Rows.{lineFeed}
 use Rattle.text_form.specs.Reader.{Phase, first, later, ended, Reader, reader, Read, read, isEnded, columnsIn, start, endLine, readBytes, endInput, lastLine}
 use Rattle.text_line.specs.Lines.{rowRoom}
 use Rattle.text_reader.specs.declared.Progress.{Progress}

@@ -10,7 +10,7 @@ use lib.Dec.{ltb}
 use lib.ListN.{length, getD, set, drop, length-append, drop-of-length-le}
 use lib.Seq.{sets, drop-cons}
 use borrow.Author.Tests.{ltb-true, ltb-false, lt-ltb, le-ltb}
-use Rattle.text_form.specs.Rows.{decimalWithin, decimal, digitFor, hexadecimal}
+use Rattle.record.specs.Characters.{decimalWithin, decimal, digitFor, hexadecimal}
 
 by-test : (n : ℕ) (a b c : List ℕ) (t : Bool) → ltb n 10 ≡ t → (10 ≤ n → b ≡ c) → cond t a b ≡ cond t a c
 by-test n a b c true e f = refl
@@ -73,8 +73,3 @@ two-digits out bytes next i h =
 pub no-digits : (out bytes : List ℕ) (next i : ℕ) → length bytes ≤ i → sets out next (hexadecimal (drop i bytes)) ≡ out
 unfolding hexadecimal
 no-digits out bytes next i h = rw (drop-of-length-le bytes {i = i} h)
-
-pub length-hexadecimal : (bytes : List ℕ) → length (hexadecimal bytes) ≡ 2 * length bytes
-unfolding hexadecimal
-length-hexadecimal [] = refl
-length-hexadecimal (b ∷ bytes) = omega (arith, length-hexadecimal bytes)

@@ -9,9 +9,9 @@ use lib.Seq.{sets, sets-eq, drop-cons}
 use Rattle.property.specs.declared.DescriptorObject.{DescriptorObject}
 use Rattle.record.specs.Descriptor.{descriptorBytes}
 use Rattle.record.proofs.RoundTrip.{length-value}
+use Rattle.record.specs.Characters.{space, lineFeed, decimal, hexadecimal}
 use Rattle.byte_records.proofs.ByteLaws.{sets-append}
-use Rattle.text_form.specs.Cells.{space}
-use Rattle.text_form.specs.Rows.{decimal, hexadecimal, lineFeed, rowOf}
+use Rattle.text_form.specs.Rows.{rowOf}
 use Rattle.text_rows.specs.Written.{Written, lastCell}
 
 -- a copy, byte by byte

@@ -18,6 +18,7 @@ completionBytes (completion.Value v) output = valueBytes v
 completionBytes (completion.Descriptor p) output = descriptorBytes (fromPropertyDescriptor (descriptorOf p))
 completionBytes completion.Absent output = []
 completionBytes (completion.Keys n) output = take (valueSize * n) output
+completionBytes (completion.Page n) output = []
 
 abbrev pub outcomeBytes : Outcome → List ℕ → List ℕ
 outcomeBytes (outcome.Refused n) output = []
@@ -34,6 +35,7 @@ CompletionHeld (completion.Value v) output = Unit {0}
 CompletionHeld (completion.Descriptor p) output = Unit {0}
 CompletionHeld completion.Absent output = Unit {0}
 CompletionHeld (completion.Keys n) output = (valueSize * n ≤ length output) × (n ≤ 256)
+CompletionHeld (completion.Page n) output = Unit {0}
 
 abbrev pub Held : Outcome → List ℕ → Type 0
 Held (outcome.Refused n) output = Unit {0}

@@ -4,7 +4,8 @@ use mathlib.Core.Path.{_≡_}
 use mathlib.Core.List.{List, [], _∷_, _++_}
 use lib.ListN.{length}
 use lib.Seq.{sets}
-use Rattle.text_form.specs.Rows.{valueCell, lineFeed}
+use Rattle.record.specs.Characters.{lineFeed}
+use Rattle.text_form.specs.Rows.{valueCell}
 
 -- xs stands from `at` on and all else stays; `next` is the place after xs, whose length is at most `most`
 pub record Written (before after : List ℕ) (at : ℕ) (xs : List ℕ) (most next : ℕ) : Type 0 where

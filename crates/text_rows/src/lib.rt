@@ -16,9 +16,9 @@ ghost use lib.ListN.{length};
 ghost use lib.Seq.{sets};
 ghost use Rattle.property.specs.Descriptor.{descriptorOf, fromPropertyDescriptor};
 ghost use Rattle.record.specs.Bytes.{valueBytes};
+ghost use Rattle.record.specs.Characters.{space, decimal};
 ghost use Rattle.record.specs.Descriptor.{descriptorBytes};
-ghost use Rattle.text_form.specs.Cells.{space};
-ghost use Rattle.text_form.specs.Rows.{decimal, heading};
+ghost use Rattle.text_form.specs.Rows.{heading};
 ghost use Rattle.text_rows.specs.ReportRows.{completionBytes, outcomeBytes, reportRow, CompletionHeld, Held, maximumRow};
 ghost use Rattle.text_rows.specs.Written.{Written, lastCell};
 
@@ -108,6 +108,7 @@ fn put_completion(rows: &mut [u8], at: usize, c: Completion, output: &[u8]) -> u
                 put_bytes(rows, at, &output[..size])
             }
         }
+        Completion::Page(_) => put_dash(rows, at),
     }
 }
 

@@ -14,6 +14,11 @@ sameKey (String a) (Symbol b) = false
 sameKey (Symbol a) (String b) = false
 sameKey (Symbol a) (Symbol b) = eqb a b
 
+-- the number of the string or of the symbol
+abbrev pub keyNumber : PropertyKey → ℕ
+keyNumber (String s) = s
+keyNumber (Symbol s) = s
+
 -- a key as a language value
 abbrev pub keyValue : PropertyKey → Value
 keyValue (String s) = value.String s

@@ -1,9 +1,9 @@
-//! Runs a file of readable steps over one store, prints them as lines of text, or shows the rows of those lines beside them. `steps --help` says
-//! how; the lines are described in `demnyaluz::notation`.
+//! Runs a file of readable steps over one store, prints them as lines of text, shows the rows of those lines beside them, or lists the properties of
+//! the objects that they leave. `steps --help` says how; the lines are described in `demnyaluz::notation`.
 #![forbid(unsafe_code)]
 
 use demnyaluz::notation::{cells, hex, parse, Call, Line, Strings, HEADING};
-use demnyaluz::{readable, rows, sheet_bytes, Failure, Store};
+use demnyaluz::{readable, rows, sheet_bytes, Completion, Failure, ObjectId, Step, Store, Value};
 use std::error::Error;
 use std::ffi::OsString;
 use std::io::{self, BufWriter, Read, Write};
@@ -11,7 +11,7 @@ use std::path::Path;
 use std::process::ExitCode;
 
 const USAGE: &str = "\
-usage: steps [--cells | --rows] [--] FILE
+usage: steps [--cells | --rows | --pages] [--] FILE
 
 Runs the readable steps of FILE over one store and prints, for each, its line, its bytes and its report. Where
 ValidateAndApplyPropertyDescriptor (ECMA-262 10.1.6.3) rejects a descriptor, the first test that failed is
@@ -21,6 +21,9 @@ FILE may be -, the standard input, but not with --rows.
   --cells      prints each step as a line of hexadecimal cells, under their names, and runs nothing
   --rows       reads the rows of such lines from the standard input and prints each beside its step; failed
                tests are named up to the first row that is not what its step reports here
+  --pages      runs the steps and prints, in place of their reports, the property page of each object and
+               function, in the order of their numbers; a proxy has none. A line with the object's name stands
+               before its page, as 'o0:' or, for a function, 'f0:', and an empty line between two pages
   --help, -h   prints this
   --           ends the options, for a FILE whose name begins with a dash
 
@@ -43,6 +46,7 @@ enum Mode {
     Run,
     Cells,
     Rows,
+    Pages,
 }
 
 /// What the arguments ask for.
@@ -60,9 +64,12 @@ fn request(arguments: impl Iterator<Item = OsString>) -> Result<Request, String>
         if options && option.starts_with('-') && option != "-" {
             match &*option {
                 "--help" | "-h" => return Ok(Request::Help),
-                "--cells" | "--rows" if mode != Mode::Run => return Err(format!("expected one of --cells and --rows, found '{option}' as a second")),
+                "--cells" | "--rows" | "--pages" if mode != Mode::Run => {
+                    return Err(format!("expected one of --cells, --rows and --pages, found '{option}' as a second"));
+                }
                 "--cells" => mode = Mode::Cells,
                 "--rows" => mode = Mode::Rows,
+                "--pages" => mode = Mode::Pages,
                 "--" => options = false,
                 _ => return Err(format!("unknown option '{option}'")),
             }
@@ -122,6 +129,7 @@ fn work(mode: Mode, file: &Path) -> Result<(), Box<dyn Error>> {
         Mode::Run => run(&calls, &text, &mut output).map_err(rows::Error::Write),
         Mode::Cells => print_cells(&calls, &mut output).map_err(rows::Error::Write),
         Mode::Rows => rows::show(&calls, io::stdin().lock(), &mut output),
+        Mode::Pages => print_pages(&calls, &mut output).map_err(rows::Error::Write),
     };
     // what was shown before an error is printed before it
     let flushed = output.flush().map_err(rows::Error::Write);
@@ -183,6 +191,29 @@ fn run(calls: &[Line], text: &str, output: &mut impl Write) -> io::Result<()> {
             }
             call => unreachable!("a line is an entry or a step: {call}"),
         }
+    }
+    Ok(())
+}
+
+/// Runs the calls, and prints the page of each object and function that they made.
+fn print_pages(calls: &[Line], output: &mut impl Write) -> io::Result<()> {
+    let mut store = Store::new();
+    let mut made: Vec<(String, ObjectId)> = Vec::new();
+    for Line { call, .. } in calls {
+        match call {
+            Call::Enter(units) => drop(store.enter_units(units)),
+            Call::Step { step, answers } => match (step, store.step(step, answers).outcome) {
+                (Step::MakeObject { .. }, Ok(Completion::Value(Value::Object(o)))) => made.push((o.to_string(), o)),
+                (Step::MakeFunction { .. }, Ok(Completion::Value(Value::Function(f)))) => made.push((f.to_string(), f.into())),
+                _ => {}
+            },
+            call => unreachable!("a line is an entry or a step: {call}"),
+        }
+    }
+    for (i, (name, object)) in made.into_iter().enumerate() {
+        let page = store.page(object).expect("the page of what is no proxy");
+        let between = if i == 0 { "" } else { "\n" };
+        write!(output, "{between}{name}:\n{page}")?;
     }
     Ok(())
 }

@@ -1,5 +1,6 @@
 //! The C functions, with report and test allocations of their own too, so that a memory checker sees an access past its end; and the same call through
 //! `lent`, on copies, which must leave the same.
+use super::layout;
 use demnyaluz::{lent, raw, REPORT_WORDS};
 
 pub type Words = [u64; REPORT_WORDS];
@@ -40,6 +41,28 @@ pub fn enter_string(strings: &mut [u16], units: &[u16]) -> Words {
     unsafe { raw::demnyaluz_enter_string(strings.as_mut_ptr(), strings.len(), units.as_ptr(), units.len(), report.as_mut_ptr()) }
     let lent = lent::enter_string(&mut lent_strings, units);
     assert_eq!((lent.as_slice(), &*lent_strings), (&report[..], &*strings), "by lent slices");
+    *report
+}
+
+/// Store and table are borrowed mutably for the caller, who looks whether they changed.
+pub fn page(words: &mut [u64], strings: &mut [u16], object: u64, output: &mut [u8]) -> Words {
+    let (lent_words, lent_strings, mut lent_output) = (words.to_vec(), strings.to_vec(), output.to_vec());
+    let mut report = unwritten();
+    // SAFETY: as above.
+    unsafe {
+        raw::demnyaluz_page(
+            words.as_mut_ptr(),
+            words.len(),
+            strings.as_mut_ptr(),
+            strings.len(),
+            object,
+            output.as_mut_ptr(),
+            output.len(),
+            report.as_mut_ptr(),
+        );
+    }
+    let lent = lent::page(&lent_words, &lent_strings, object, &mut lent_output).map(|n| n as u64).map_err(|r| r.number().into());
+    assert_eq!((layout::page_words(lent), &*lent_output), (*report, &*output), "by lent slices");
     *report
 }
 

@@ -573,11 +573,70 @@ impl Generator {
         }
     }
 
+    /// An output for the page of an object: often as long as the page or a byte shorter, and of any content.
+    fn output_for_page(&mut self, world: &World, object: u64) -> Vec<u8> {
+        let properties = match world.objects.get(object as usize) {
+            Some(Object::Ordinary(o)) => o.properties.len(),
+            _ => self.random.below(4),
+        };
+        let page = 47 * (1 + properties);
+        let length = match self.random.below(10) {
+            0..=2 => page,
+            3 | 4 => page - 1,
+            5 => self.random.below(page),
+            6 => 0,
+            7 => page + 1,
+            8 => page + self.random.below(200),
+            _ => 47 * 257,
+        };
+        (0..length).map(|_| self.random.next() as u8).collect()
+    }
+
+    /// Another length of store or table, or a count that they cannot hold.
+    fn damage_memory(&mut self, pair: &mut Pair) {
+        match self.random.below(5) {
+            0 => {
+                let mut words = pair.words.to_vec();
+                words.resize(self.random.pick(&[0, 1, 2, 3, 99, 1634, 1636, 2000]), 0);
+                pair.words = words.into();
+            }
+            1 => pair.words[0] = self.random.pick(&[33, 34, 64, 256, 1 << 32, u64::MAX]),
+            2 => pair.words[1] = self.random.pick(&[257, 258, 512, 1 << 16, 1 << 32, u64::MAX]),
+            3 => {
+                let mut strings = pair.strings.to_vec();
+                strings.resize(self.random.pick(&[0, 1, 33, 34, 8448, 8450, 9000]), 0);
+                pair.strings = strings.into();
+            }
+            _ => pair.strings[0] = self.random.pick(&[257, 258, 512, 1 << 15, u16::MAX]),
+        }
+    }
+
+    /// The page of an object or a function; seldom of a proxy, of a number that was not made, or over memory that is no store or no table.
+    pub fn run_page(&mut self, pair: &mut Pair) {
+        let made = pair.world.objects.len() as u64;
+        let any = self.object(&pair.world);
+        let object = match self.random.below(12) {
+            0 => self.random.pick(&[made, made + 1, 31, 32, 33, 255, 256, u64::MAX]),
+            1 => any | 1 << (5 + self.random.below(59)),
+            2 | 3 => any,
+            _ if made == 0 => any,
+            _ => pair.world.base(any as usize) as u64,
+        };
+        let output = self.output_for_page(&pair.world, object);
+        let kept = (pair.words.clone(), pair.strings.clone());
+        if self.random.once_in(8) {
+            self.damage_memory(pair);
+        }
+        let _ = pair.page(object, &output);
+        (pair.words, pair.strings) = kept;
+    }
+
     /// Any of the calls.
     pub fn run_call(&mut self, pair: &mut Pair) {
         match self.random.below(20) {
             0 => self.run_string(pair),
             1 | 2 => self.run_descriptor(pair),
+            3 => self.run_page(pair),
             _ => self.run_step(pair),
         }
     }

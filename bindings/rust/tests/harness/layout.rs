@@ -36,6 +36,19 @@ pub fn report_words(report: &Report) -> [u64; 10] {
     [outcome, number, report.answers, report.calls, form, detail, kind.into(), payload, second_kind.into(), second_payload]
 }
 
+/// The words of a page's report: how many bytes it has, or the number of the refusal.
+pub fn page_words(told: Result<u64, u64>) -> [u64; 10] {
+    match told {
+        Ok(length) => [1, 0, 0, 0, 5, length, 0, 0, 0, 0],
+        Err(number) => [0, number, 0, 0, 0, 0, 0, 0, 0, 0],
+    }
+}
+
+/// Whether memory is a store and a table: their lengths, and counts that they can hold.
+pub fn is_memory(words: &[u64], strings: &[u16]) -> bool {
+    words.len() == 1635 && words[0] <= 32 && words[1] <= 256 && strings.len() == 8449 && strings[0] <= 256
+}
+
 fn value(kind: u64, payload: u64) -> Value {
     match kind {
         0 => Value::Undefined,

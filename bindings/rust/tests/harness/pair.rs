@@ -1,5 +1,6 @@
 //! One store in the library's memory and one plain world, that must agree after every call.
 use super::{entries, layout};
+use crate::plain::property_page;
 use crate::plain::record;
 use crate::plain::step::{self, Completion, Outcome, Report, Stepped};
 use crate::plain::value::Value;
@@ -73,9 +74,63 @@ impl Functions {
     }
 }
 
-/// How often each outcome came, over all entries.
+/// How often pages were written, and how often they were refused.
+#[derive(Clone, Copy, Debug, Default, PartialEq, Eq)]
+pub struct Pages {
+    pub objects: u64,
+    pub functions: u64,
+    /// Lines of properties.
+    pub properties: u64,
+    /// Pages that left no byte of the output.
+    pub exact: u64,
+    /// Refused as 1: memory that is no store or no table.
+    pub no_memory: u64,
+    /// Refused as 2.
+    pub never_made: u64,
+    /// Refused as 3.
+    pub proxies: u64,
+    /// Refused as 11.
+    pub too_long: u64,
+}
+
+impl Pages {
+    fn counts(&mut self) -> [&mut u64; 8] {
+        let Pages { objects, functions, properties, exact, no_memory, never_made, proxies, too_long } = self;
+        [objects, functions, properties, exact, no_memory, never_made, proxies, too_long]
+    }
+
+    /// Whether each came.
+    pub fn all(mut self) -> bool {
+        self.counts().iter().all(|n| **n > 0)
+    }
+
+    fn add(&mut self, mut other: Pages) {
+        self.counts().into_iter().zip(other.counts()).for_each(|(a, b)| *a += *b);
+    }
+
+    /// One page, in an output of so many bytes.
+    fn count(&mut self, world: &World, object: u64, told: Result<u64, u64>, room: usize) {
+        match told {
+            Ok(length) => {
+                let is_function = world.is_callable(object as usize);
+                self.functions += u64::from(is_function);
+                self.objects += u64::from(!is_function);
+                self.properties += length / 47 - 1;
+                self.exact += u64::from(length == room as u64);
+            }
+            Err(1) => self.no_memory += 1,
+            Err(2) => self.never_made += 1,
+            Err(3) => self.proxies += 1,
+            Err(11) => self.too_long += 1,
+            Err(number) => panic!("a page is never refused as {number}"),
+        }
+    }
+}
+
+/// How often each outcome came, over all entries but the pages, which have counts of their own.
 #[derive(Clone, Debug)]
 pub struct Tally {
+    /// Pages too.
     pub calls: u64,
     pub results: u64,
     pub thrown: u64,
@@ -88,6 +143,7 @@ pub struct Tally {
     /// Steps of code 18 without a result that changed the store.
     pub midway: u64,
     pub functions: Functions,
+    pub pages: Pages,
 }
 
 impl Default for Tally {
@@ -102,6 +158,7 @@ impl Default for Tally {
             tests: [0; 9],
             midway: 0,
             functions: Functions::default(),
+            pages: Pages::default(),
         }
     }
 }
@@ -123,6 +180,7 @@ impl Tally {
         self.thrown += other.thrown;
         self.midway += other.midway;
         self.functions.add(other.functions);
+        self.pages.add(other.pages);
         let all = |mine: &mut [u64], theirs: &[u64]| mine.iter_mut().zip(theirs).for_each(|(a, b)| *a += b);
         all(&mut self.refusals, &other.refusals);
         all(&mut self.messages, &other.messages);
@@ -213,6 +271,26 @@ impl Pair {
         assert_eq!(report, layout::report_words(&expected), "entering {units:?}");
         assert_eq!(layout::world(&self.words, &self.strings).strings, self.world.strings, "strings after {units:?}");
         self.tally.count(&expected);
+        expected
+    }
+
+    /// A page through the C interface alone.
+    pub fn page_library(&mut self, object: u64, output: &mut [u8]) -> [u64; 10] {
+        entries::page(&mut self.words, &mut self.strings, object, output)
+    }
+
+    /// A page on both, in an output of this content. Memory that is no store or no table has none.
+    pub fn page(&mut self, object: u64, content: &[u8]) -> Result<u64, u64> {
+        let before = (self.words.clone(), self.strings.clone());
+        let (mut output, mut expected_output) = (exact(content), exact(content));
+        let expected = if layout::is_memory(&before.0, &before.1) { property_page::page(&self.world, object, &mut expected_output) } else { Err(1) };
+        let report = self.page_library(object, &mut output);
+        let input = || format!("page of {object}\noutput {}\nworld {:?}", hex(content), self.world);
+        assert_eq!(report, layout::page_words(expected), "report\n{}", input());
+        assert!(output == expected_output, "{}\nis not\n{}\n{}", output.escape_ascii(), expected_output.escape_ascii(), input());
+        assert!(self.words == before.0 && self.strings == before.1, "store or strings changed\n{}", input());
+        self.tally.calls += 1;
+        self.tally.pages.count(&self.world, object, expected, content.len());
         expected
     }
 

@@ -7,6 +7,7 @@
 pub mod descriptor;
 pub mod integrity;
 pub mod methods;
+pub mod property_page;
 pub mod record;
 pub mod step;
 pub mod text;

@@ -4,9 +4,9 @@ use mathlib.Core.Path.{_≡_, refl, _∙_}
 use lib.ListN.{length}
 use lib.Seq.{length-take-le}
 use Rattle.text_form.specs.Cells.{until}
-use Rattle.text_form.specs.Rows.{lineFeed}
 use Rattle.text_reader.proofs.ReadLaws.{state-parts, state-joined, state-sized, reader-joined, taken-all, taken-line, reads-kept, reads-line}
 use borrow.Author.Needs.{needs}
+use Rattle.record.specs.Characters.{lineFeed}
 use Rattle.text_reader.proofs.read_piece.Statement.{statement}
 use Rattle.text_reader.proofs.read_piece.Tie as tie
 

@@ -1,10 +1,10 @@
 use native.Mathlib.Omega.{arith}
 use Prim.Native.Nat.{_*_}
 use lib.ListN.{length}
-use Rattle.text_form.specs.Rows.{hexadecimal}
 use borrow.Author.Needs.{needs}
+use Rattle.record.specs.Characters.{hexadecimal}
+use Rattle.record.proofs.CharacterLaws.{length-hexadecimal}
 use denote.Ref.{now}
-use Rattle.text_rows.proofs.DigitLaws.{length-hexadecimal}
 use Rattle.text_rows.proofs.RowLaws.{written-byte, cell-written}
 use Rattle.text_rows.proofs.put_bytes.Statement.{statement}
 use Rattle.text_rows.proofs.put_bytes.Tie as tie

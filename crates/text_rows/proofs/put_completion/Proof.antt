@@ -38,5 +38,8 @@ returns-5 c =
     let h = rw (c .before .before .before .before .before .before .before .c3 .given .1) at (c .before .before .before .before .before .before .before .before .before .before .before .pre .1) in
     rw (c .before .before .before .before .before .before .before .c3 .given .1) (widen 4609 (omega (arith, length-take-le _ (now (c .before .before .before .before .before .before .before .before .before .before .before .args .output)) (h .0))) (c .before .before .put-bytes .ensures))
 
+returns-6 : tie.Need-returns-6
+returns-6 c = rw (c .before .before .before .before .enum-told2 .given .1) (widen 4609 (omega arith) (c .before .before .put-dash3 .ensures))
+
 pub put-completion-spec : {M : Type 1} → statement M
-put-completion-spec = tie.close (tie.spec (λ c. search needs) (λ c κs. search needs) (λ c. search needs) (λ c κs. search needs) (λ c. search needs) (λ c κs. search needs) (λ c. search needs) (λ c κs. search needs) mul-size slice-aggregate-put-bytes put-bytes-requires (λ c. search needs) returns (λ c. search needs) returns-2 (λ c. search needs) returns-3 (λ c. search needs) returns-4 (λ c. search needs) returns-5)
+put-completion-spec = tie.close (tie.spec (λ c. search needs) (λ c κs. search needs) (λ c. search needs) (λ c κs. search needs) (λ c. search needs) (λ c κs. search needs) (λ c. search needs) (λ c κs. search needs) mul-size slice-aggregate-put-bytes put-bytes-requires (λ c. search needs) (λ c κs. search needs) (λ c. search needs) returns (λ c. search needs) returns-2 (λ c. search needs) returns-3 (λ c. search needs) returns-4 (λ c. search needs) returns-5 (λ c. search needs) returns-6)

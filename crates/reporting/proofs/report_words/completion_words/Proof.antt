@@ -21,6 +21,10 @@ returns-4 : tie.Need-returns-4
 unfolding reportWords payloadOf
 returns-4 c = rw (c .before .c3 .given .1) (words-tell refl fits-undefined fits-undefined)
 
+returns-5 : tie.Need-returns-5
+unfolding reportWords payloadOf
+returns-5 c = rw (c .before .c4 .given .1) (words-tell refl fits-undefined fits-undefined)
+
 pub completion-words-spec : {M : Type 1} → statement M
 completion-words-spec =
     tie.close
@@ -31,7 +35,9 @@ completion-words-spec =
     (λ c κs. search needs)
     (λ c. search needs)
     (λ c. search needs)
+    (λ c. search needs)
     returns
     returns-2
     returns-3
-    returns-4)
+    returns-4
+    returns-5)

@@ -1,21 +1,21 @@
-use Rattle.store_write.specs.Write.{numberIn}
 use mathlib.Core.Path.{ap}
 use native.Mathlib.Omega.{arith}
 use borrow.Author.Needs.{needs}
+use Rattle.value.specs.PropertyKey.{keyNumber}
 use Rattle.store_write.proofs.properties.key_word.Statement.{statement}
 use Rattle.store_write.proofs.properties.key_word.Tie as tie
 
 mul-result : tie.Need-mul-result
-mul-result c = omega (arith, ap numberIn (c .before .k .given .1))
+mul-result c = omega (arith, ap keyNumber (c .before .k .given .1))
 
 add-result : tie.Need-add-result
-add-result c = omega (arith, ap numberIn (c .before .k .given .1))
+add-result c = omega (arith, ap keyNumber (c .before .k .given .1))
 
 mul-result-2 : tie.Need-mul-result-2
-mul-result-2 c = omega (arith, ap numberIn (c .before .k2 .given .1))
+mul-result-2 c = omega (arith, ap keyNumber (c .before .k2 .given .1))
 
 add-result-3 : tie.Need-add-result-3
-add-result-3 c = omega (arith, ap numberIn (c .before .k2 .given .1))
+add-result-3 c = omega (arith, ap keyNumber (c .before .k2 .given .1))
 
 returns : tie.Need-returns
 returns c = rw (c .before .k .given .1)

@@ -4,7 +4,7 @@ use mathlib.Core.Option.{some}
 use mathlib.Core.Path.{_≡_, refl, sym, _∙_}
 use lib.ListN.{length, take, drop, length-set}
 use borrow.Author.Needs.{needs}
-use Rattle.text_form.specs.Cells.{bytesIn}
+use Rattle.record.specs.Characters.{bytesIn}
 use Rattle.text_form.specs.Lines.{joined}
 use Rattle.text_cells.proofs.JoinLaws.{joined-nothing}
 use Rattle.text_cells.proofs.HexadecimalLaws.{told-digit, told-none, no-high, no-low, next-byte, bytes-end}

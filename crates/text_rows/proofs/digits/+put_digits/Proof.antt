@@ -6,8 +6,8 @@ use borrow.Fn.Kinds.{In}
 use borrow.Fn.PlainCycle.{Measures, is, falls, and}
 use borrow.Author.Needs.{needs}
 use lib.ListN.{length, length-set}
+use Rattle.record.specs.Characters.{decimal}
 use denote.Ref.{now}
-use Rattle.text_form.specs.Rows.{decimal}
 use Rattle.byte_records.proofs.ByteLaws.{sets-append}
 use Rattle.text_rows.proofs.DigitLaws.{one-digit, two-decimal, by-hundred, length-hundred}
 use Rattle.text_rows.proofs.digits.put_digits.Reads as put-digits

@@ -4,7 +4,7 @@ use mathlib.Core.Path.{_≡_, refl, sym, _∙_}
 use lib.ListN.{length, drop, length-set}
 use lib.Seq.{sets}
 use borrow.Author.Needs.{needs}
-use Rattle.text_form.specs.Rows.{hexadecimal}
+use Rattle.record.specs.Characters.{hexadecimal}
 use Rattle.text_rows.proofs.DigitLaws.{two-digits, no-digits}
 use Rattle.text_rows.proofs.digits.put_hexadecimal.Statement.{statement}
 use Rattle.text_rows.proofs.digits.put_hexadecimal.Tie as tie

@@ -1,6 +1,6 @@
 //! Calls and what came of them, as lines that a person reads: `21: get o2 "visits", handler answers 4464: TypeError 17, ...`. Lines alike are one.
 //!
-//! The page performs the calls on a store of its own, to tell which test rejected a descriptor.
+//! The transcript performs the calls on a store of its own, to tell which test rejected a descriptor.
 use crate::notation::{Call, Strings};
 use crate::readable;
 use crate::report::{Completion, Failure, Report};
@@ -12,7 +12,7 @@ use std::io::{self, Write};
 
 /// What is known of the calls so far, and the last lines, which are written once another kind of line comes.
 #[derive(Default)]
-pub(crate) struct Page {
+pub(crate) struct Transcript {
     strings: Strings,
     proxies: Vec<ObjectId>,
     functions: Vec<ObjectId>,
@@ -40,7 +40,7 @@ struct Outcome {
     spent: String,
 }
 
-impl Page {
+impl Transcript {
     /// The strings that were entered so far.
     pub(crate) fn strings(&self) -> &Strings {
         &self.strings
