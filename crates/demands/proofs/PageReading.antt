@@ -49,16 +49,13 @@ module _ (k : PropertyKey) (p : Property) where
 
 -- Lines -------------------------------------------------------------------------------------
 
+digits-read : (a : ℕ) → a < 1000 → 100 * (48 + a / 100 % 10 - 48) + (10 * (48 + a / 10 % 10 - 48) + (48 + a % 10 - 48)) ≡ a
+digits-read a h = let e : (i : ℕ) → 48 + i - 48 ≡ i = λ i. omega arith in rw (e (a / 100 % 10), e (a / 10 % 10), e (a % 10)) (sym (digits-sum a h))
+
 key-read : (k : PropertyKey) (p : Property) → keyNumber k < 1000 → keyRead (line k p) ≡ k
 unfolding keyRead columns keyColumn
-key-read (String s) p h = ap String (same s h)
-  where
-    same : (a : ℕ) → a < 1000 → 100 * (48 + a / 100 % 10 - 48) + (10 * (48 + a / 10 % 10 - 48) + (48 + a % 10 - 48)) ≡ a
-    same a h = let e : (i : ℕ) → 48 + i - 48 ≡ i = λ i. omega arith in rw (e (a / 100 % 10), e (a / 10 % 10), e (a % 10)) (sym (digits-sum a h))
-key-read (Symbol s) p h = ap Symbol (same s h)
-  where
-    same : (a : ℕ) → a < 1000 → 100 * (48 + a / 100 % 10 - 48) + (10 * (48 + a / 10 % 10 - 48) + (48 + a % 10 - 48)) ≡ a
-    same a h = let e : (i : ℕ) → 48 + i - 48 ≡ i = λ i. omega arith in rw (e (a / 100 % 10), e (a / 10 % 10), e (a % 10)) (sym (digits-sum a h))
+key-read (String s) p h = ap String (digits-read s h)
+key-read (Symbol s) p h = ap Symbol (digits-read s h)
 
 is-e : (b : Bool) → eqb (mark b 101) 101 ≡ b
 is-e true = refl

@@ -2,17 +2,16 @@
 use Prim.Native.Nat.{ℕ, zero, suc, _+_, _*_, _/_, _%_, _≤_, _<_}
 use native.Mathlib.Omega.{arith}
 use mathlib.Core.Path.{_≡_, refl, sym, ap, _∙_, subst}
-use mathlib.Core.Bool.{Bool, true, false, not, _||_, false≢true}
+use mathlib.Core.Bool.{Bool, true, false, _||_, false≢true}
 use mathlib.Core.Option.{Option, none, some}
-use mathlib.Core.List.{List, [], _∷_}
+use mathlib.Core.List.{List, [], _∷_, map}
 use lib.ListN.{length, getD, getElem?, take, drop, drop-of-length-le}
 use borrow.Author.Tests.{leb-false, lt-leb}
 use Rattle.value.specs.declared.Value.{Value}
 use Rattle.value.specs.declared.PropertyKey.{PropertyKey}
 use Rattle.value.specs.declared.PropertyKey.the-variants.{String, Symbol}
 use Rattle.value.specs.PropertyKey.{sameKey, keyNumber}
-use Rattle.value.proofs.Bools.{or-true-right}
-use Rattle.value.proofs.SameKey.{key-refl, key-eq}
+use Rattle.value.proofs.SameKey.{key-eq}
 use Rattle.property.specs.declared.Property.{Property}
 use Rattle.property.specs.declared.Property.the-variants.{Data, Accessor}
 use Rattle.property.specs.declared.OwnProperty.{OwnProperty}
@@ -38,7 +37,7 @@ use Rattle.steps.specs.Page.{columns, names, keyColumn, line, LineFormed, withO
 use Rattle.steps.specs.Run.{Call, Event, At, effect, run, worldAt}
 use Rattle.steps.proofs.Steps.{ends, resulted}
 use Rattle.steps.proofs.Outputs.{front, behind}
-use Rattle.steps.proofs.Pages.{PageEnds, page-ends, page-leaves, length-key, length-line, line-formed, names-formed, length-names, length-lines, length-page}
+use Rattle.steps.proofs.Pages.{PageEnds, page-ends, page-leaves, length-key, length-line, line-formed, names-formed, length-names, length-lines, shownKey, keys-shown, length-page}
 use Rattle.steps.proofs.Made.{element-below}
 use Rattle.steps.proofs.Places.{happened-from}
 use Rattle.steps.proofs.KnownKeys.{KnownKeys, known-at}
@@ -159,18 +158,11 @@ module _ (σ : Store) (o : ℕ) where
       go true q f rest = let a : l ≡ k = key-eq l k q in rw (a, e) (0, refl)
       go false q f rest = later (own σ o l) (rest f)
 
-  -- in the order of the keys
-  shown-key : (ks : List PropertyKey) → ((k : PropertyKey) → hasKey k ks ≡ true → not (isAbsent (own σ o k)) ≡ true) → (n : ℕ) (k : PropertyKey) → getElem? ks n ≡ some k
-      → (p : Property) × (getElem? (ownOf σ o ks) n ≡ some (k, p))
-  unfolding ownOf hasKey
-  shown-key [] h n k e = absurd (false≢true cc)
-  shown-key (l ∷ ks) h n k e = go (own σ o l) (h l (rw (key-refl l))) n e (λ m. shown-key ks (λ j g. h j (or-true-right (sameKey l j) (hasKey j ks) g)) m k)
-    where
-      go : (x : OwnProperty) → not (isAbsent x) ≡ true → (m : ℕ) → getElem? (l ∷ ks) m ≡ some k
-          → ((i : ℕ) → getElem? ks i ≡ some k → (p : Property) × (getElem? (ownOf σ o ks) i ≡ some (k, p))) → (p : Property) × (getElem? (withOwn l x (ownOf σ o ks)) m ≡ some (k, p))
-      go Absent q m f rest = absurd (false≢true q)
-      go (Present p) q zero f rest = let a : l ≡ k = cc in rw a (p, refl)
-      go (Present p) q (suc m) f rest = rest m f
+-- a key that is shown has its property beside it
+key-paired : (xs : List (PropertyKey × Property)) (n : ℕ) (k : PropertyKey) → getElem? (map shownKey xs) n ≡ some k → (p : Property) × (getElem? xs n ≡ some (k, p))
+key-paired [] n k e = absurd (false≢true cc)
+key-paired ((l, p) ∷ xs) zero k e = let a : l ≡ k = cc in rw a (p, refl)
+key-paired (x ∷ xs) (suc n) k e = key-paired xs n k e
 
 module _ (ω : World) (o : ℕ) where
   page-line : (n : ℕ) → lineAt (page ω o) (suc n) ≡ take 47 (drop (47 * n) (lines (shownOn ω o)))
@@ -184,7 +176,7 @@ module _ (ω : World) (o : ℕ) where
   page-names = front 47 names (lines (shownOn ω o)) length-names
 
   shown-at-key : (n : ℕ) (k : PropertyKey) → getElem? (ordinaryOwnPropertyKeys (ω .strings) (ω .store) o) n ≡ some k → (p : Property) × (getElem? (shownOn ω o) n ≡ some (k, p))
-  shown-at-key n k e = shown-key (ω .store) o _ (λ l h. sym (own-keys-has (ω .strings) (ω .store) o l) ∙ h) n k e
+  shown-at-key n k e = key-paired (shownOn ω o) n k (ap (λ (ks : List PropertyKey). getElem? ks n) (keys-shown ω o) ∙ e)
 
   page-lists : Lists (page ω o) (ordinaryOwnPropertyKeys (ω .strings) (ω .store) o)
   page-lists = record {

@@ -186,7 +186,7 @@ length-lines ((k, p) ∷ shown) = omega (arith, length-append (line k p) (lines 
 
 -- Order ---------------------------------------------------------------------------------
 
-abbrev shownKey : PropertyKey × Property → PropertyKey
+abbrev pub shownKey : PropertyKey × Property → PropertyKey
 shownKey x = x .0
 
 -- every key has a property
