@@ -65,7 +65,7 @@ vectors: lib
 
 # Calls performed by the engines that are installed, on their own objects, against our own: CALLS on each, from SEED.
 SEED = 1
-CALLS = 256000
+CALLS = 356000
 engines:
 	rt check replay
 	for engine in node gjs jsc; do if command -v $$engine > /dev/null; then sh tests/engines.sh $$engine $(SEED) $(CALLS) || exit 1; fi; done
@@ -73,7 +73,7 @@ engines:
 # A smaller part of the same, on node alone: of fewer calls the rarest messages may be missing.
 engine-check:
 	rt check replay
-	sh tests/engines.sh node 7 64000
+	sh tests/engines.sh node 7 89000
 
 # Whether the comparison notices a change in each part of an expectation. It needs python3.
 engine-damage:
@@ -94,16 +94,17 @@ lib:
 	mkdir -p target/lib
 	cp target/staticlib/libdemnyaluz.a target/lib/libdemnyaluz.a
 
-# The library through its header, by six C programs, one of them as C++ too and one under valgrind too. It needs gcc, g++ and valgrind, which is not
+# The library through its header, by seven C programs, one of them as C++ too and two under valgrind too. It needs gcc, g++ and valgrind, which is not
 # asked for undefined values: it takes the sign of a word for undefined where other bits of the word are padding. The library has no other names.
 c-test: lib
-	for program in sealed functions page text records null; do \
+	for program in sealed functions release page text records null; do \
 		gcc -Wall -Wextra -Wpedantic -Werror -std=c11 -O1 -fsanitize=undefined -fno-sanitize-recover=undefined -Iinclude \
 			-o target/lib/$$program tests/c/$$program.c target/lib/libdemnyaluz.a && target/lib/$$program || exit 1; \
 	done
 	g++ -Wall -Wextra -Werror -std=c++17 -O1 -Iinclude -o target/lib/records-c++ -x c++ tests/c/records.c -x none target/lib/libdemnyaluz.a
 	target/lib/records-c++
 	valgrind --quiet --undef-value-errors=no --error-exitcode=1 target/lib/null
+	valgrind --quiet --undef-value-errors=no --error-exitcode=1 target/lib/release
 	! nm -g --defined-only target/lib/libdemnyaluz.a | grep ' [A-Z] ' | grep -v ' T demnyaluz_'
 
 # The Rust crate's tests, against a plain implementation, and its documentation; then its formatting and clippy, where they are installed. It needs

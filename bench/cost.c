@@ -169,6 +169,14 @@ static int prepare(const char *work, struct step steps[2], struct sheet sheets[2
         steps[0] = level(is_copied ? DEMNYALUZ_CODE_SET_INTEGRITY_LEVEL : DEMNYALUZ_CODE_TEST_INTEGRITY_LEVEL);
         return 1;
     }
+    /* an object is made and released, beside the properties of another */
+    if (strncmp(work, "release-", 8) == 0) {
+        int properties = atoi(strchr(work, '-') + 1);
+        for (int i = 0; i < properties; i++) must(define((uint64_t)i, OPEN, i), empty);
+        steps[0] = step((struct demnyaluz_step_parts){.code = DEMNYALUZ_CODE_MAKE_OBJECT, .value = {DEMNYALUZ_KIND_NULL, 0}});
+        steps[1] = step((struct demnyaluz_step_parts){.code = DEMNYALUZ_CODE_RELEASE, .object = 1});
+        return 2;
+    }
     if (strncmp(work, "page-", 5) == 0) {
         int properties = atoi(strchr(work, '-') + 1);
         for (int i = 0; i < properties; i++) must(define((uint64_t)i, OPEN, i), empty);
@@ -189,7 +197,7 @@ int main(int count, char **words) {
     int each = count == 3 ? prepare(words[1], steps, sheets) : 0;
     if (each == 0) {
         fputs("usage: cost WORK TURNS, where WORK is get, get-hop, get-trap, get-forwarded, descriptor-trap, extensible-trap, define-delete, keys-trap,\n"
-              "freeze-N, isFrozen-N or page-N\n",
+              "freeze-N, isFrozen-N, release-N or page-N\n",
               stderr);
         return 2;
     }

@@ -57,7 +57,7 @@ fn answer(v: &[u8]) -> Bytes {
 
 impl Memory {
     fn new() -> Self {
-        Memory { words: vec![0; 1635], strings: vec![0; 8449], output: vec![0; 4096], report: [0; 10] }
+        Memory { words: vec![0; 1670], strings: vec![0; 8449], output: vec![0; 4096], report: [0; 10] }
     }
 
     fn run(&mut self, bytes: &[u8], sheet: &[u8]) -> u64 {

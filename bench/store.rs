@@ -12,9 +12,9 @@ extern "C" {
 
 pub const NOWHERE: u64 = 256;
 pub const REFUSED: u64 = 257;
-const SIZE: usize = 1635;
-const KEYS: usize = 99;
-const ROWS: usize = 355;
+const SIZE: usize = 1670;
+const KEYS: usize = 134;
+const ROWS: usize = 390;
 
 pub struct Store {
     pub words: Vec<u64>,

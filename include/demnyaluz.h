@@ -18,8 +18,11 @@
  * and a result have no length and are never null. What a call writes overlaps nothing else that it is lent. A step of 2,048 nested calls
  * runs in a stack of 1 MB.
  *
- * A store or table of another length, or whose counts exceed what it can hold, is refused as 1, and so is a record of a wrong length. A
+ * A store or table of another length, or whose counts or marks exceed what it can hold, is refused as 1, and so is a record of a wrong length. A
  * refusal changes nothing. Only a result changes the store, but for code 18, of which a TypeError or a throw leaves what was changed before it.
+ *
+ * Numbers of objects are used again. Code 17 releases an object that no live object names, and its properties with it; from then on its number
+ * counts as never made. The next object made takes the number that was released longest ago or, with none released, the next unused one.
  *
  * Records are bytes, integers little-endian. Inline functions below write them from structs.
  *   value       9: a kind, then a payload of 8 with unused bytes zero
@@ -29,10 +32,13 @@
  *               (two bytes, at most 256) and values. Each call of a trap, a getter or a setter takes the next answer.
  *
  * What the memory holds is read through steps and pages. How it is laid out today, which later versions may change:
- *   words     0 objects made, 1 properties, 2 marks: bit o is set where object o is a function; from 3 on 32 objects of 3 words: 0 or 1 (not
- *             extensible, extensible), then the kind and payload of the prototype; or 2 or 3 (a proxy, a revoked one), then target and traps;
- *             from 99 on 256 key words: owner + 64 * string, or owner + 32 + 64 * symbol; from 355 on 256 properties of 5 words: flags, then
- *             kind and payload of value or getter and of the setter. Properties are in the order of creation.
+ *   words     0 numbers in use so far, released ones included, 1 properties, 2 marks: bit o is set where object o is a function; 3 marks: bit o is
+ *             set where object o is live; 4 released numbers, 5 the place of the one released longest ago, from 6 on 32 places for them, after
+ *             the last of which comes the first again; from 38 on 32 objects of 3 words: 0 or 1 (not extensible, extensible), then the kind and
+ *             payload of the prototype; or 2 or 3 (a proxy, a revoked one), then target and traps; from 134 on 256 key words: owner + 64 *
+ *             string, or owner + 32 + 64 * symbol; from 390 on 256 properties of 5 words: flags, then kind and payload of value or getter and of
+ *             the setter. Properties are in the order of creation. The marks of functions, the three words of an object and the places of
+ *             released numbers say nothing where the object is not live or the place not taken.
  *   strings   0 strings entered; then 256 rows: a length, and 32 code units
  */
 #ifndef DEMNYALUZ_H
@@ -48,7 +54,7 @@ extern "C" {
 #endif
 
 enum {
-    DEMNYALUZ_STORE_WORDS = 1635,
+    DEMNYALUZ_STORE_WORDS = 1670,
     DEMNYALUZ_STRING_CELLS = 8449,
     DEMNYALUZ_REPORT_WORDS = 10,
     DEMNYALUZ_VALUE_BYTES = 9,
@@ -62,7 +68,7 @@ enum {
     DEMNYALUZ_TEXT_LINE = 16384,    /* the longest line, its line feed not counted */
     DEMNYALUZ_TEXT_ROW = 4800,      /* holds every row, and the heading with row 0 */
 
-    DEMNYALUZ_MAXIMUM_OBJECTS = 32, /* functions and proxies included */
+    DEMNYALUZ_MAXIMUM_OBJECTS = 32, /* live ones, functions and proxies included */
     DEMNYALUZ_MAXIMUM_PROPERTIES = 256,
     DEMNYALUZ_MAXIMUM_STRINGS = 256,
     DEMNYALUZ_MAXIMUM_UNITS = 32, /* code units of a string */
@@ -99,7 +105,7 @@ enum demnyaluz_kind {
     DEMNYALUZ_KIND_FLOAT64 = 4,   /* its bits; every NaN comes back as 0x7ff8000000000000 */
     DEMNYALUZ_KIND_STRING = 5,    /* the number that entering it answered */
     DEMNYALUZ_KIND_SYMBOL = 6,    /* 0 to 255 */
-    DEMNYALUZ_KIND_OBJECT = 7,    /* no function: the number that making it answered */
+    DEMNYALUZ_KIND_OBJECT = 7,    /* no function: the number that making it answered, until it is released */
     DEMNYALUZ_KIND_FUNCTION = 8   /* the number that making it answered; functions and other objects share their numbers */
 };
 
@@ -134,6 +140,7 @@ enum demnyaluz_code {
     DEMNYALUZ_CODE_DELETE = 13,              /* object, key */
     DEMNYALUZ_CODE_OWN_PROPERTY_KEYS = 14,   /* object */
     DEMNYALUZ_CODE_MAKE_FUNCTION = 16,       /* value: the prototype, as for code 1; answers the new function */
+    DEMNYALUZ_CODE_RELEASE = 17,             /* object: one that no object names; answers true, makes no calls and takes no answers */
     DEMNYALUZ_CODE_SET_INTEGRITY_LEVEL = 18, /* object; value: Integer32, the level */
     DEMNYALUZ_CODE_TEST_INTEGRITY_LEVEL = 19 /* object; value: Integer32, the level */
 };
@@ -199,19 +206,21 @@ enum demnyaluz_flag {
 
 enum demnyaluz_refusal {
     DEMNYALUZ_REFUSAL_MALFORMED_RECORD = 1,    /* a wrong length, code, kind, mask, level, count or boolean, or a nonzero unused or absent part */
-    DEMNYALUZ_REFUSAL_OBJECT_NEVER_MADE = 2,   /* by the object's number, of a step or a page, or by a value of kind 7 or 8 */
+    DEMNYALUZ_REFUSAL_OBJECT_NEVER_MADE = 2,   /* or released: by the object's number, of a step or a page, or by a value of kind 7 or 8 */
     DEMNYALUZ_REFUSAL_UNUSABLE_PART = 3,       /* a string not entered or too long, a symbol above 255, a function as kind 7 or another object as
                                                   kind 8, a kind or an object that its step cannot use, a proxy for a page */
     DEMNYALUZ_REFUSAL_UNUSABLE_DESCRIPTOR = 4, /* mixed, or its get or set neither undefined nor a function */
     DEMNYALUZ_REFUSAL_INCOMPLETE_CURRENT = 5,  /* the current descriptor is generic or lacks a field that its kind needs */
     DEMNYALUZ_REFUSAL_DIFFERENT_KINDS = 6,     /* to be merged: one data, one accessor */
-    DEMNYALUZ_REFUSAL_STORE_FULL = 7,          /* a 33rd object or function, 257th property or 257th string */
+    DEMNYALUZ_REFUSAL_STORE_FULL = 7,          /* a 33rd live object or function, 257th property or 257th string */
     DEMNYALUZ_REFUSAL_SHEET_SPENT = 8,
     DEMNYALUZ_REFUSAL_UNREADABLE_ANSWER = 9,   /* of another form than is asked for, or an object or a function for a descriptor or for keys */
     DEMNYALUZ_REFUSAL_TOO_MANY_CALLS = 10,     /* a 2,049th */
     DEMNYALUZ_REFUSAL_OUTPUT_TOO_SMALL = 11,   /* for the keys of a result, or for a page */
     DEMNYALUZ_REFUSAL_BROKEN_LINE = 12,        /* of a text, tested before 1 */
-    DEMNYALUZ_REFUSAL_UNREAD_ANSWERS = 13      /* the step ends with answers that nothing took; after 7 to 10, before 11 */
+    DEMNYALUZ_REFUSAL_UNREAD_ANSWERS = 13,     /* the step ends with answers that nothing took; after 7 to 10, before 11 */
+    DEMNYALUZ_REFUSAL_STILL_NAMED = 14         /* to be released: a live object, itself too, has it as prototype, as value, getter or setter of a
+                                                  property or, where that is a proxy that is not revoked, as target; after 3, before 4 */
 };
 
 /*
@@ -431,8 +440,8 @@ void demnyaluz_enter_string(uint16_t *strings, size_t strings_length, const uint
  *   value or get  18: the 9 bytes of the value or of the getter, each as two digits, 0 to 9 and a to f
  *   set           18: those of the setter, or spaces for data
  * A name has spaces on its right up to its column's width. Reports how many bytes were written, DEMNYALUZ_PAGE_LINE for each line; the bytes after
- * them stay, and no zero byte is written. Refused as 2 (a number never made), 3 (a proxy) or 11 (an output that cannot hold all of the page).
- * Neither store nor table changes.
+ * them stay, and no zero byte is written. Refused as 2 (a number never made or released), 3 (a proxy) or 11 (an output that cannot hold all of the
+ * page). Neither store nor table changes.
  */
 void demnyaluz_page(const uint64_t *words, size_t words_length, const uint16_t *strings, size_t strings_length, uint64_t object, uint8_t *output,
                     size_t output_length, uint64_t report[DEMNYALUZ_REPORT_WORDS]);
@@ -491,7 +500,7 @@ bool demnyaluz_text_start(uint64_t *words, size_t words_length, uint16_t *string
  * The next piece of the text. It is taken up to its first line feed and with it, or whole where it has none; where a line ended, its row is written, and
  * the heading for the first line. result: how many bytes of the piece were taken, how many bytes of rows were written. The caller
  * hands in the rest of the piece until all is taken. Once reading has ended, by a broken first line or by demnyaluz_text_end, nothing is
- * taken any more. Lengths other than those above, counts of store or table that exceed what it can hold, a state that names a column above the
+ * taken any more. Lengths other than those above, words or cells that are no store or no table, a state that names a column above the
  * seventh, or one that has counted 2^64 - 1 lines: false, the result is 0 and 0, and nothing else changes.
  */
 bool demnyaluz_text_feed(uint64_t *words, size_t words_length, uint16_t *strings, size_t strings_length, uint64_t *state, size_t state_length,

@@ -1,7 +1,7 @@
 #!/bin/sh
 # The instructions of one turn of each work of bench/cost.c, counted under valgrind beside those of bench/cost.txt: the difference of a run with twice the
 # turns and one with the turns, divided by them. It fails where one is more than a tenth above what is stored; a row that has none yet is counted alone.
-# 'tests/cost.sh store' stores them. A turn of freeze-N begins with the copying of the open store, 13,080 bytes, since it can be done but once.
+# 'tests/cost.sh store' stores them. A turn of freeze-N begins with the copying of the open store, 13,360 bytes, since it can be done but once.
 # It needs the library (make lib), gcc and valgrind.
 set -eu
 cd "$(dirname "$0")/.."

@@ -3,8 +3,9 @@
 
     tests/engines-damage.py [REPLAY]
 
-Each change must be counted as one difference, in that line and that part; a line that is broken must be noticed too. It reads
-crates/replay/stdin and runs target/bin/replay, or REPLAY; tests/engines/1-records.js has the layout.
+Each change must be counted as one difference, in that line and that part; a line that is broken must be noticed too. Then it changes how the scripts
+number and count objects, and runs them on node: some call must differ. It reads crates/replay/stdin and runs target/bin/replay, or REPLAY;
+tests/engines/1-records.js has the layout.
 """
 import pathlib
 import subprocess
@@ -23,7 +24,7 @@ class Line:
         self.record, self.sheet = b[9:9 + record], b[9 + record:self.begin]
         self.code = b[9] if self.kind == 1 and record > 0 else 0
         self.bytes = bytearray(b)
-        self.before = b""
+        self.before, self.earlier = b"", self
         e = b[self.begin:]
         self.outcome, self.numbers = e[0], int.from_bytes(e[1:5], "little")
         self.completion = self.begin + 8
@@ -35,36 +36,57 @@ class Line:
     def value(self, at):
         return at + {0: 1, 1: 1, 2: 2, 4: 9}.get(self.bytes[at], 2)
 
+    # Whether the call added a property.
+    def changed_size(self):
+        return sum(self.sizes.values()) > sum(self.earlier.sizes.values())
+
     # Whether the call changed objects, and left room for what they were before it.
     def changed(self):
         now = self.bytes[self.store:]
         return now != self.before and len(now) == len(self.before)
 
-    # Where the parts of the ordinary objects and of the functions stand.
+    # Where the parts of the ordinary objects and of the functions stand; by number which are live, the marks, the sizes, and what names which object how.
     def objects(self):
-        b, at = self.bytes, self.store + 3
-        self.callable, self.extensible, self.prototypes, self.keys, self.proxies, self.marks = [], [], [], [], [], []
-        for _ in range(b[self.store + 2]):
+        b, at = self.bytes, self.store + 6
+        live = int.from_bytes(b[self.store + 2:self.store + 6], "little")
+        self.live = [o for o in range(32) if live >> o & 1]
+        self.callable, self.extensible, self.prototypes, self.keys, self.proxies = [], [], [], [], []
+        self.marks, self.sizes, self.names, self.places = {}, {}, [], {}
+        for o in self.live:
+            self.places[o] = at
             if b[at] == 2:
                 self.proxies.append(at)
-                self.marks.append(0)
+                self.marks[o] = self.sizes[o] = 0
                 at += 1
                 continue
             self.callable.append(at)
-            self.marks.append(b[at])
+            self.marks[o] = b[at]
             self.extensible.append(at + 1)
             self.prototypes.append(at + 2)
+            self.name("prototype", o, at + 2)
             at = self.value(at + 2)
             count, at = int.from_bytes(b[at:at + 2], "little"), at + 2
             keys = []
             for _ in range(count):
                 end = self.value(at + 3)
+                self.name("get" if b[at + 2] & 1 else "value", o, at + 3)
                 if b[at + 2] & 1:
+                    self.name("set", o, end)
                     end = self.value(end)
                 keys.append((at, end))
                 at = end
+            self.sizes[o] = count
             self.keys.append(keys)
         assert at == len(b)
+
+    def name(self, way, owner, at):
+        if self.bytes[at] in (7, 8):
+            self.names.append(("own" if owner == self.bytes[at + 1] else way, self.bytes[at + 1]))
+
+    # Another store in the place of what is there, of any length.
+    def replace_store(self, store):
+        self.bytes[self.store:] = store
+        self.bytes[7:9] = (len(self.bytes) - self.begin).to_bytes(2, "little")
 
 
 def flip(at, mask):
@@ -113,7 +135,7 @@ def given(code, at, kind, outcome, number=None):
 
 # A step whose object is a function.
 def on_function(code, outcome, number=None):
-    return both(level(code, outcome, number), lambda line: len(line.record) == 58 and line.record[1] < len(line.marks) and line.marks[line.record[1]] == 1)
+    return both(level(code, outcome, number), lambda line: len(line.record) == 58 and line.marks.get(line.record[1]) == 1)
 
 
 # The first answer is of a tag, and has a value of a kind.
@@ -161,7 +183,7 @@ def is_result(form):
 
 
 # All codes of steps.
-CODES = [*range(1, 15), 16, 18, 19]
+CODES = [*range(1, 15), 16, 17, 18, 19]
 
 DAMAGES = [
     ("a result told as a throw", "outcome", is_result(1), flip(lambda l: l.begin, 2)),
@@ -424,7 +446,7 @@ DAMAGES += [
     ("a page told as a throw", "outcome", page(), flip(lambda l: l.begin, 2)),
     ("a page: a property of the store", "store", page(lambda l: any(l.keys)), flip(lambda l: entry(l) + 2, 8)),
     ("a page: how many strings there are", "store", page(), flip(lambda l: l.store, 1)),
-    ("a function's page", "output", page(lambda l: l.marks[l.record[0]] == 1 and page_size(l) > 47), flip(lambda l: l.output + 47 + 26, 1)),
+    ("a function's page", "output", page(lambda l: l.marks.get(l.record[0]) == 1 and page_size(l) > 47), flip(lambda l: l.output + 47 + 26, 1)),
     *[(f"a page: refusal {n} told as {m}", "number", page_refused(n), renumbered(m)) for n in (2, 3, 11) for m in (1, 2, 3, 8, 11, 13) if n != m],
     *[(f"a page: refusal {n} told as a result", "outcome", page_refused(n), flip(lambda l: l.begin, 1)) for n in (2, 3, 11)],
     *[(f"a page: refusal {n}, byte {at} of the output", "output", page_refused(n, lambda l: l.room > 0), flip(lambda l, at=at: range(l.output, l.store)[at], 1)) for n in (2, 3, 11) for at in (0, -1)],
@@ -433,6 +455,211 @@ DAMAGES += [
     ("a page: a huge number told as a result", "outcome", page_refused(2, lambda l: any(l.record[4:])), flip(lambda l: l.begin, 1)),
     ("a page: a number of seven bytes", "outcome", page(), cut_record),
 ]
+
+
+# Releases. What a list of calls has released, from its lines: `queue` the released numbers before a call, `ever` how many objects were made before it,
+# `targets` the target of each proxy and whether it is revoked, `was` what a number had before it was released: its mark, extensible, its size.
+def track(lines):
+    queue, ever, targets, was, left = [], 0, {}, {}, 0
+    for line in lines:
+        if line.kind == 0:
+            queue, ever, targets, was, left = [], 0, {}, {}, 0
+        line.queue, line.ever, line.targets, line.was, line.left = list(queue), ever, dict(targets), dict(was), left
+        if line.kind != 1 or line.outcome != 1:
+            continue
+        o = line.record[1]
+        if line.code in (1, 2, 16):
+            made = line.bytes[line.completion + 2]
+            queue, ever = [n for n in queue if n != made], ever + 1
+            if line.code == 2:
+                targets[made] = (o, False)
+        elif line.code == 3:
+            targets[o] = (targets[o][0], True)
+        elif line.code == 17:
+            before = line.earlier
+            queue.append(o)
+            targets.pop(o, None)
+            was[o] = (before.marks[o], before.bytes[before.places[o]] != 2 and before.bytes[before.places[o] + 1], before.sizes[o])
+            left += before.sizes[o]
+
+
+WAYS = ["prototype", "value", "get", "set", "own", "target"]
+releases = level(17, 1)
+
+
+# Refusal 14 where the object is named in one way alone.
+def named_by(way):
+    def fits(line):
+        if not level(17, 0, 14)(line):
+            return False
+        o = line.record[1]
+        ways = {w for w, n in line.names if n == o} | ({"target"} if (o, False) in line.targets.values() else set())
+        return ways == {way}
+    return fits
+
+
+# A step that made an object, with such released numbers before it; one that took a released number.
+def makes(test):
+    return lambda line: line.kind == 1 and line.code in (1, 2, 16) and line.outcome == 1 and test(line)
+
+
+def takes(test):
+    return makes(lambda line: line.queue and test(line, line.bytes[line.completion + 2]))
+
+
+# Another number is told, or is live.
+def told_as(number):
+    return lambda line: line.bytes.__setitem__(line.completion + 2, number(line))
+
+
+def mark(line, o):
+    line.bytes[line.store + 2 + o // 8] ^= 1 << o % 8
+
+
+def moved_to(number):
+    def change(line):
+        mark(line, line.bytes[line.completion + 2])
+        mark(line, number(line))
+    return change
+
+
+ORDERS = [
+    ("the one released last", lambda l: l.queue[-1]), ("the lowest", lambda l: min(l.queue)), ("the highest", lambda l: max(l.queue)), ("the second", lambda l: l.queue[1]),
+    ("the next unused one", lambda l: next(n for n in range(32) if n not in l.live and n not in l.queue)),
+]
+
+
+def other_number(number):
+    return takes(lambda line, made: len(line.queue) > 1 and len(line.live) + len(line.queue) < 33 and number(line) != made)
+
+
+# Refusal 2 of a released number at a place of the step, of an answer of a tag, of a descriptor by itself.
+def is_name(line, at, record=None):
+    record = line.record if record is None else record
+    return len(record) > at + 1 and record[at] in (7, 8) and record[at + 1] in line.queue and not any(record[at + 2:at + 9])
+
+
+PLACES = [("the object", lambda l: l.code not in (1, 16) and l.record[1] in l.queue)] + [
+    (name, lambda l, at=at: is_name(l, at)) for name, at in (("the key", 2), ("the value", 11), ("the receiver", 20), ("a descriptor's value", 31), ("a descriptor's get", 40), ("a descriptor's set", 49))] + [
+    (name, lambda l, tag=tag, at=at: len(l.sheet) > 1 and l.sheet[1] == tag and l.record[1] in l.live and is_name(l, at, l.sheet))
+    for name, tag, at in (("an answer", 1, 2), ("a thrown value", 4, 2), ("a listed key", 3, 4), ("an answered value", 2, 4), ("an answered get", 2, 13), ("an answered set", 2, 22))]
+
+
+def refused_at(test):
+    return lambda line: line.kind == 1 and line.outcome == 0 and line.numbers == 4 and len(line.record) == 58 and test(line)
+
+
+def broken_sheet(n):
+    tests = {1: lambda s: len(s) == 0 or s[0] > 64, 2: lambda s: len(s) > 9 and s[1] == 1 and s[2] in (7, 8) and s[3] == 99, 3: lambda s: len(s) > 9 and s[1] == 4 and s[2] == 5, 13: lambda s: len(s) == 11 and s[1:4] == bytes([1, 2, 1])}
+    return both(level(17, 0, 14), lambda line: tests[n](line.sheet))
+
+
+# The object that was made has the properties of the one that had its number: the entries of a line before, under the new object.
+def with_old_properties(line):
+    o, old = line.bytes[line.completion + 2], line.released_as
+    start, size = old
+    at = line.value(line.places[o] + 2)
+    line.replace_store(line.bytes[line.store:at] + start + line.bytes[at + 2:])
+    assert size > 0
+
+
+# The last entries that a number's object had in its list, with their count.
+def old_properties(lines):
+    had = {}
+    for line in lines:
+        if line.kind == 0:
+            had = {}
+        made = line.bytes[line.completion + 2] if makes(lambda l: True)(line) else None
+        line.released_as = had.get(made)
+        for o in line.live:
+            if line.bytes[line.places[o]] != 2:
+                at = line.value(line.places[o] + 2)
+                end = min([line.places[n] for n in line.live if n > o], default=len(line.bytes))
+                if line.sizes[o] > 0:
+                    had[o] = (bytes(line.bytes[at:end]), line.sizes[o])
+
+
+def store_before(line):
+    line.replace_store(line.before)
+
+
+DAMAGES += [
+    *[(f"named by {way}: 14 told as a result", "outcome", named_by(way), flip(lambda l: l.begin, 1)) for way in WAYS],
+    *[(f"named by {way}: 14 told as {m}", "number", named_by(way), renumbered(m)) for way in WAYS for m in (2, 3, 4, 13)],
+    *[(f"named by {way}: gone all the same", "store", named_by(way), lambda l: mark(l, l.record[1])) for way in WAYS],
+    *[(f"14 with a sheet that would be refused as {n}, told as that", "number", broken_sheet(n), renumbered(n)) for n in (1, 2, 3, 13)],
+    *[(f"step 17: refusal {n} told as 14", "number", level(17, 0, n), renumbered(14)) for n in (1, 2, 3, 13)],
+    *[(f"step 17: refusal {n} told as a result", "outcome", level(17, 0, n), flip(lambda l: l.begin, 1)) for n in (1, 2, 3, 13)],
+    ("step 17: answers of refusal 14", "answers", level(17, 0, 14), flip(lambda l: l.begin + 5, 1)),
+    ("step 17: an output byte of refusal 14", "output", both(level(17, 0, 14), lambda l: l.room > 0), flip(lambda l: l.output, 1)),
+    ("step 17: a property after refusal 14", "store", both(level(17, 0, 14), lambda l: any(l.keys)), flip(lambda l: entry(l) + 2, 8)),
+    ("the target of a revoked proxy told as named", "outcome", both(releases, lambda l: (l.record[1], True) in l.targets.values()), flip(lambda l: l.begin, 1)),
+    ("a number that a revoked proxy had as target, taken again, told as named", "outcome", both(releases, lambda l: (l.record[1], True) in l.targets.values() and l.record[1] in l.was), flip(lambda l: l.begin, 1)),
+    ("a revoked proxy whose target's number is taken again, told as a result", "outcome", lambda l: l.kind == 1 and l.outcome == 2 and l.numbers == 2 and any((l.record[1], t) == (l.record[1], True) and n in l.was and n in l.live for n, t in [l.targets.get(l.record[1], (0, False))]), flip(lambda l: l.begin, 3)),
+    ("a release told as refused", "outcome", releases, flip(lambda l: l.begin, 1)),
+    ("a release told as false", "completion", releases, flip(lambda l: l.completion + 2, 1)),
+    ("a release told as an object", "completion", releases, flip(lambda l: l.completion + 1, 5)),
+    ("a release: an answer more", "answers", releases, flip(lambda l: l.begin + 5, 1)),
+    ("a release: an output byte", "output", both(releases, lambda l: l.room > 0), flip(lambda l: l.output, 1)),
+    ("a release undone", "store", releases, store_before),
+    ("a release of a function undone", "store", both(releases, lambda l: l.was is not None and l.earlier.marks[l.record[1]] == 1), store_before),
+    ("a release of a proxy undone", "store", both(releases, lambda l: l.record[1] in l.targets), store_before),
+    ("a release: the object is live still", "store", releases, lambda l: mark(l, l.record[1])),
+    ("a release: another object is gone", "store", both(releases, lambda l: len(l.live) > 0), lambda l: mark(l, l.live[0])),
+    ("a release: another object's property", "store", both(releases, lambda l: any(l.keys)), flip(lambda l: entry(l) + 2, 8)),
+    ("a release: the order of another object's keys", "store", both(releases, lambda l: l.earlier.sizes[l.record[1]] > 0 and any(len(k) > 1 for k in l.keys)), swap_entries),
+    *[(f"taken again: {name}, told", "completion", other_number(number), told_as(number)) for name, number in ORDERS],
+    *[(f"taken again: {name}, live", "store", other_number(number), moved_to(number)) for name, number in ORDERS],
+    *[(f"step {code}, taken again: another number", "completion", both(level(code, 1), takes(lambda l, made: True)), flip(lambda l: l.completion + 2, 1)) for code in (1, 2, 16)],
+    ("with none released: another number than the next unused one", "completion", makes(lambda l: not l.queue and l.ever > len(l.live)), flip(lambda l: l.completion + 2, 1)),
+    ("taken again: the old properties left behind", "store", takes(lambda l, made: l.code != 2 and l.was[made][2] > 0 and l.released_as and l.released_as[1] == l.was[made][2]), with_old_properties),
+    ("taken again: still closed", "store", takes(lambda l, made: l.code != 2 and l.was[made][1] == 0), flip(lambda l: l.places[l.bytes[l.completion + 2]] + 1, 1)),
+    ("taken again: still a function", "store", takes(lambda l, made: l.code == 1 and l.was[made][0] == 1), flip(lambda l: l.places[l.bytes[l.completion + 2]], 1)),
+    ("taken again: no function yet", "store", takes(lambda l, made: l.code == 16 and l.was[made][0] == 0), flip(lambda l: l.places[l.bytes[l.completion + 2]], 1)),
+    ("taken again: told as a function still", "completion", takes(lambda l, made: l.code != 16 and l.was[made][0] == 1), flip(lambda l: l.completion + 1, 15)),
+    ("a property more than 256 with those of released objects, told as 7", "outcome", lambda l: l.code == 9 and l.outcome == 1 and sum(l.sizes.values()) + l.left > 256 and l.changed_size(), flip(lambda l: l.begin, 1)),
+    ("a 257th property after a release, told as a result", "outcome", both(level(9, 0, 7), lambda l: l.left > 0), flip(lambda l: l.begin, 1)),
+    *[(f"step {code}: 7 for all objects ever made", "outcome", both(level(code, 1), makes(lambda l: l.ever >= 32)), flip(lambda l: l.begin, 1)) for code in (1, 2, 16)],
+    *[(f"step {code}: 7 with 32 live objects, told as a result", "outcome", both(level(code, 0, 7), lambda l: l.ever > 32 and len(l.live) == 32), flip(lambda l: l.begin, 1)) for code in (1, 2, 16)],
+    *[(f"a released number as {name}, told as {m}", "number", refused_at(test), renumbered(m)) for name, test in PLACES for m in (1, 3)],
+    *[(f"a released number as {name}, told as a result", "outcome", refused_at(test), flip(lambda l: l.begin, 1)) for name, test in PLACES],
+    *[(f"step {code} on a released number, told as a result", "outcome", both(level(code, 0, 2), lambda l: l.record[1] in l.queue), flip(lambda l: l.begin, 1)) for code in CODES if code not in (1, 16)],
+    *[(f"a descriptor by itself, kind {kind}: a released number told as a result", "outcome", lambda l, kind=kind: l.kind == kind and l.outcome == 0 and l.numbers == 4 and any(is_name(l, at) for at in (2, 11, 20)), flip(lambda l: l.begin, 1)) for kind in (3, 4, 5, 6)],
+    *[(f"a current descriptor, kind {kind}: a released number told as a result", "outcome", lambda l, kind=kind: l.kind == kind and l.outcome == 0 and l.numbers == 4 and any(is_name(l, at, l.sheet) for at in (2, 11, 20)), flip(lambda l: l.begin, 1)) for kind in (4, 5, 6)],
+    ("a page of a released number told as shown", "outcome", page_refused(2, lambda l: l.record[0] in l.queue), flip(lambda l: l.begin, 1)),
+    ("a page of a released number told as a proxy's", "number", page_refused(2, lambda l: l.record[0] in l.queue), renumbered(3)),
+    ("a page of an object in an old number", "output", page(lambda l: l.record[0] in l.was and page_size(l) > 47), flip(lambda l: l.output + 47 + 26, 1)),
+]
+
+
+# The scripts changed: other numbers taken, other objects counted or named. A list ends where such a script cannot go on.
+LAST = "world.released[world.released.length - 1]"
+NAMELESS = ("throw new Error('an object without a number')", "return 0")
+MODELS = [
+    ("the one released last is taken", [("world.released[0]", LAST), ("world.released.shift()", "world.released.pop()")]),
+    ("the lowest released number is taken", [("world.released.push(o);", "world.released.push(o); world.released.sort((x, y) => x - y);")]),
+    ("the next unused number is taken while there is one", [("(world.released.length > 0 ? world.released[0] : world.objects.length)", "(world.released.length > 0 && world.objects.length === 32 ? world.released[0] : world.objects.length)"), ("if (world.released.length > 0) { world.released.shift()", "if (n < world.objects.length) { world.released.shift()")]),
+    ("the target of a revoked proxy is named", [("!at.revoked && at.target === o", "at.target === o")]),
+    ("an object's own property does not name it", [("ways.add(n === o ? 'own' : part)", "n === o || ways.add(part)")]),
+    *[(f"a {part} does not name an object", [("ways.add(n === o ? 'own' : part)", f"part === '{part}' && n !== o || ways.add(n === o ? 'own' : part)"), NAMELESS]) for part in ("value", "get", "set")],
+    *[(f"a {way} does not name an object", [(f"ways.add('{way}')", "ways"), NAMELESS]) for way in ("prototype", "target")],
+    ("a released number is accepted", [("objects[o] !== null, isProxy: (o) => objects[o].proxy, isCallable: (o) => objects[o].callable", "true, isProxy: (o) => (objects[o] || {}).proxy === true, isCallable: (o) => (objects[o] || {}).callable === true")]),
+    ("7 counts all objects ever made", [("world.live.length === FULL.objects) return", "world.ever >= FULL.objects) return"), ("world.live.push(n);", "world.live.push(n); world.ever = (world.ever || 0) + 1;")]),
+    ("7 counts all numbers ever used", [("world.live.length === FULL.objects) return", "world.objects.length === FULL.objects) return")]),
+    ("properties of released objects count among the 256", [("(sum, n) => sum + n, 0) > FULL.properties", "(sum, n) => sum + n, world.left || 0) > FULL.properties"), ("  world.objects[o] = null;", "  if (!world.objects[o].proxy) world.left = (world.left || 0) + Reflect.ownKeys(world.objects[o].it).length;\n  world.objects[o] = null;")]),
+]
+
+
+def script_lines(changes):
+    text = "".join(path.read_text() for path in sorted((ROOT / "tests/engines").glob("*.js")))
+    for old, new in changes:
+        assert old in text, old
+        text = text.replace(old, new)
+    # what must occur is not asked here
+    for old, new in [("calls < limit; ) someWorld(limit);", "calls < limit; ) try { someWorld(limit); } catch (e) { sheet = newSheet([], null); }"), ("calls >= 20000", "false")]:
+        assert old in text, old
+        text = text.replace(old, new)
+    return subprocess.run(["node", "-", "1", "100000"], input=text, capture_output=True, text=True, check=False).stdout.split()
 
 
 def replay(lines):
@@ -448,11 +675,14 @@ def main():
     bad = 0
     parsed = [Line(text) for text in lines]
     for last, line in zip(parsed, parsed[1:]):
-        line.before = bytes(last.bytes[last.store:])
+        line.before, line.earlier = bytes(last.bytes[last.store:]), last
+    track(parsed)
+    old_properties(parsed)
     for name, part, fits, change in DAMAGES:
         at = next(i for i, line in enumerate(parsed) if fits(line))
         line = Line(lines[at])
-        line.before = parsed[at].before
+        for kept in ("before", "queue", "released_as"):
+            setattr(line, kept, getattr(parsed[at], kept))
         change(line)
         told = replay(lines[:at] + [line.bytes.hex()] + lines[at + 1:])
         ok = told[0].startswith(f"line {at + 1}: the {part} differs") and told[-1] == f"{calls} calls, 1 differences"
@@ -467,7 +697,12 @@ def main():
     missing = replay(lines[:-1])[-1] != f"{calls} calls, 0 differences"
     bad += not missing
     print(f"a line less: {'the number of calls tells' if missing else 'NOT noticed'}")
-    print(f"{len(DAMAGES) + len(broken) + 1} changes, {bad} unnoticed")
+    for name, changes in MODELS:
+        told = replay(script_lines(changes))
+        ok = told[0].startswith("line ")
+        bad += not ok
+        print(f"{name}: {'counted' if ok else 'NOT counted'}, {told[-1]}")
+    print(f"{len(DAMAGES) + len(broken) + 1 + len(MODELS)} changes, {bad} unnoticed")
     sys.exit(1 if bad else 0)
 
 

@@ -21,12 +21,14 @@ const byte = (n) => n.toString(16).padStart(2, '0');
 
 class Refusal { constructor(number) { this.number = number; } }
 
-let objects, plain, strings, live, calls, answers, used, grow, rejected;
+// `objects` has GONE where a number was released; `released` has these numbers, the one released longest ago first. `live` counts properties.
+const GONE = Symbol('released');
+let objects, released, plain, strings, live, calls, answers, used, grow, rejected;
 const SYMBOLS = Array.from({ length: 256 }, (_, n) => Symbol(n));
-const isFunction = (x) => typeof x === 'function', functions = () => objects.filter(isFunction);
+const isFunction = (x) => typeof x === 'function', functions = () => objects.filter(isFunction), present = () => objects.filter((it) => it !== GONE);
 
 function empty() {
-  objects = []; plain = new Map(); strings = []; live = 0;
+  objects = []; released = []; plain = new Map(); strings = []; live = 0;
 }
 
 function begin() {
@@ -160,17 +162,25 @@ function copied() {
   const own = (it, key) => [key, Object.entries(R.getOwnPropertyDescriptor(it, key)).map(([name, x]) => [name, part(x)])];
   return objects.map((o) => {
     const it = plain.get(o);
+    if (o === GONE) return GONE;
     if (it === undefined) return { target: objects.indexOf(targets.get(o)), mask: masks.get(o), revoked: revoked.has(o) };
     return { callable: isFunction(o), prototype: part(R.getPrototypeOf(it)), extensible: R.isExtensible(it), own: R.ownKeys(it).map((key) => own(it, key)) };
   });
 }
 
 function restored(copies) {
-  objects = []; plain = new Map();
-  for (const { target, mask, callable } of copies) objects.push(target === undefined ? ordinary(null, callable) : proxy(objects[target], mask));
+  objects = copies.map(() => GONE); plain = new Map();
+  // a proxy after its target, which may have a greater number; that of a revoked one may have been released
+  const remade = (n) => {
+    const { target, mask, callable } = copies[n];
+    if (objects[n] === GONE && copies[n] !== GONE) objects[n] = target === undefined ? ordinary(null, callable) : proxy(target < 0 ? ordinary(null) : remade(target), mask);
+    return objects[n];
+  };
+  copies.forEach((_, n) => remade(n));
   const whole = (part) => ('number' in part ? objects[part.number] : part.value);
   copies.forEach((copy, n) => {
     const it = plain.get(objects[n]);
+    if (copy === GONE) return;
     if (it === undefined) { if (copy.revoked) performed(3, objects[n], {}); return; }
     R.setPrototypeOf(it, whole(copy.prototype));
     for (const [key, parts] of copy.own) R.defineProperty(it, key, Object.fromEntries(parts.map(([name, part]) => [name, whole(part)])));
@@ -178,13 +188,34 @@ function restored(copies) {
   });
 }
 
+// The number released longest ago or, with none released, the next unused one.
 function made(it) {
-  objects.push(it);
+  objects[released.length > 0 ? released.shift() : objects.length] = it;
   return it;
 }
 
+// Whether a live object names it: by its prototype, by a property, or as a proxy that is not revoked by its target.
+function isNamed(it) {
+  const names = (o) => {
+    const base = plain.get(o);
+    if (base === undefined) return !revoked.has(o) && targets.get(o) === it;
+    const fields = R.ownKeys(base).flatMap((key) => { const { value, get, set } = R.getOwnPropertyDescriptor(base, key); return [value, get, set]; });
+    return R.getPrototypeOf(base) === it || fields.includes(it);
+  };
+  return present().some(names);
+}
+
+function release(it) {
+  if (isNamed(it)) throw new Refusal(14);
+  const n = objects.indexOf(it), base = plain.get(it);
+  if (base !== undefined) live -= R.ownKeys(base).length;
+  objects[n] = GONE;
+  released.push(n);
+  return true;
+}
+
 function performed(code, it, { key, value, receiver, descriptor }) {
-  if ((code <= 2 || code === 16) && objects.length === 32) throw new Refusal(7);
+  if ((code <= 2 || code === 16) && present().length === 32) throw new Refusal(7);
   switch (code) {
     case 1: case 16: return made(ordinary(value, code === 16));
     case 2: return made(proxy(it, value));
@@ -199,6 +230,7 @@ function performed(code, it, { key, value, receiver, descriptor }) {
     case 11: return R.get(it, key, receiver);
     case 12: return R.set(it, key, value, receiver);
     case 13: return R.deleteProperty(it, key);
+    case 17: return release(it);
     case 18: (value === 1 ? Object.freeze : Object.seal)(it); return true;
     case 19: return (value === 1 ? Object.isFrozen : Object.isSealed)(it);
     default: return R.ownKeys(it);
@@ -392,6 +424,9 @@ function brokenLines() {
 
   // 12 stands before 1 to 4: what else is wrong with the line does not show
   changed('receiver', '00', { step: '10' });
+  changed('receiver', '00', { step: '11' });
+  changed('object', '0', { step: '11' });
+  changed('sheet', '000', { step: '11', object: 'ff' });
   for (const code of ['12', '13']) {
     for (const cell of ['', '0', '01', '03', level(1).slice(2), level(1) + '00', level(1).slice(1), '1', 'frozen', 'true', '0x' + level(1).slice(2)]) changed('value', cell, { step: code });
     changed('receiver', '00', { step: code, value: level(2) });
@@ -446,7 +481,7 @@ function refusals() {
   const nil = '01' + zeros(8), visits = '05' + zeros(8), byteOf = (n, v) => v.slice(0, 2 * n) + 'ff' + v.slice(2 * n + 2);
   refused(1, {});                                                                     // dashes: step 0
   refused(1, { step: '00', object: '00', sheet: '00' });
-  for (const code of ['11', '14', '3c', '7f', '80', 'f0', 'ff']) refused(1, { step: code });
+  for (const code of ['14', '3c', '7f', '80', 'f0', 'ff']) refused(1, { step: code });
   for (const code of ['11', '14']) refused(1, { step: code, value: level(0) });
   refused(1, { step: '01', object: '01', value: nil });                               // a part that is not used
   refused(1, { step: '04', key: visits });
@@ -551,6 +586,21 @@ function refusals() {
   }
   refused(8, { step: '0b', object: '01', key: visits });
   refused(8, { step: '0b', object: '01', key: visits, sheet: '00' });
+  // step 17: object 0 is named by 1, and nothing names 1 and 2
+  for (const o of ['00', '01', '02', '09']) {
+    for (const name of ['key', 'value', 'receiver']) refused(1, { step: '11', object: o, [name]: nil });
+    refused(1, { step: '11', object: o, value: '07' + number(9) });
+    refused(1, { step: '11', object: o, descriptor: '01' + zeros(28) });
+  }
+  for (const o of ['09', '1f', '20', 'ff']) for (const sheet of ['00', '41', '01' + '01' + nil]) refused(2, { step: '11', object: o, sheet });
+  const unknown = '05' + 'ff' + zeros(7), never = '07' + number(9);
+  for (const sheet of ['00', '41', '01', '01' + '01' + nil, '01' + '01' + never, '01' + '04' + unknown]) refused(14, { step: '11', sheet });
+  for (const o of ['01', '02']) {
+    for (const sheet of ['41', '01', '0000']) refused(1, { step: '11', object: o, sheet });
+    refused(2, { step: '11', object: o, sheet: '01' + '01' + never });
+    refused(3, { step: '11', object: o, sheet: '01' + '04' + unknown });
+    for (const answer of ['01' + nil, '04' + nil, '02' + zeros(29), '03' + '0000']) refused(13, { step: '11', object: o, sheet: '01' + answer });
+  }
 }
 
 // Generated steps: a random number from a seed, and answers that are mostly true of the ordinary object at the end of the targets.
@@ -558,12 +608,14 @@ let seed = 1;
 const random = (n) => { seed ^= seed << 13; seed ^= seed >>> 17; seed ^= seed << 5; return (seed >>> 0) % n; };
 const pick = (from) => from[random(from.length)];
 const someValue = () => pick([undefined, null, true, false, 0, 1, -1, 70000, 4464, -0, 0.5, NaN, Infinity, 2147483648, pick(strings), SYMBOLS[random(256)],
-  pick(objects), pick(functions())]);
+  pick(present()), pick(functions())]);
 
 function someAnswer(trap, target, key, more) {
   if (random(12) === 0) return;                                                       // refusal 8
   let it = target;
   while (targets.has(it)) it = targets.get(it);
+  // behind a revoked proxy it may have been released
+  if (!objects.includes(it)) { answers.push(value(someValue())); return; }
   // setPrototypeOf has an object in the place of a key
   const base = plain.get(it), own = base === undefined || !['string', 'symbol'].includes(typeof key) ? undefined : R.getOwnPropertyDescriptor(base, key);
   const truth = {
@@ -585,12 +637,12 @@ function someDescriptor() {
 }
 
 function someStep(prototypes) {
-  const code = pick([4, 5, 6, 7, 8, 8, 9, 9, 9, 10, 11, 11, 12, 12, 13, 13, 14, 18, 19]), o = random(objects.length);
+  const code = pick([4, 5, 6, 7, 8, 8, 9, 9, 9, 10, 11, 11, 12, 12, 13, 13, 14, 18, 19]), o = objects.indexOf(pick(present()));
   const parts = code >= 8 && code <= 13 ? { key: random(4) ? pick(strings) : SYMBOLS[random(3)] } : {};
   if (code === 5) parts.value = pick(prototypes);
   if (code === 9) parts.descriptor = someDescriptor();
   if (code === 12) parts.value = someValue();
-  if (code === 11 || code === 12) parts.receiver = random(3) ? objects[o] : pick([undefined, pick(objects), pick(functions()), pick(strings)]);
+  if (code === 11 || code === 12) parts.receiver = random(3) ? objects[o] : pick([undefined, pick(present()), pick(functions()), pick(strings)]);
   if (code > 14) parts.value = random(2);
   if ((code === 7 || code === 18) && random(4)) return;
   leveled(code, o, parts);
@@ -1013,6 +1065,157 @@ function scenesOfFunctions(turn) {
   return joined();
 }
 
+// Texts of step 17 ------------------------------------------------------------------------
+
+// A number that was released is refused as 2 wherever it stands: the object of every step, and values. Object 0 is ordinary, 1 a proxy with every trap,
+// 2 a function; `n` is the number.
+function releasedRefusals(n) {
+  const nil = '01' + zeros(8), y = '06' + zeros(8), o = byte(n);
+  for (let code = 2; code < 20; code++) {
+    if (code === 15 || code === 16) continue;
+    const cells = { step: byte(code), object: o };
+    if (code >= 8 && code <= 13) cells.key = y;
+    if (code === 2 || code > 17) cells.value = level(0);
+    if (code === 5) cells.value = nil;
+    refused(2, cells);
+  }
+  for (const v of ['07' + little(n, 8), '08' + little(n, 8)]) {
+    for (const code of ['01', '05', '10']) refused(2, { step: code, value: v });
+    refused(2, { step: '0b', key: y, receiver: v });
+    refused(2, { step: '0c', key: y, value: v, receiver: nil });
+    refused(2, { step: '0c', key: y, value: nil, receiver: v });
+    refused(2, { step: '0a', key: v });
+    refused(2, { step: '09', key: y, descriptor: '0800' + v + zeros(18) });
+    refused(2, { step: '09', key: y, descriptor: '1000' + zeros(9) + v + zeros(9) });
+    refused(2, { step: '09', key: y, descriptor: '2000' + zeros(18) + v });
+    for (const answer of ['01' + v, '04' + v, '03' + '0200' + y + v, '02' + '0800' + v + zeros(18), '02' + '2000' + zeros(18) + v]) {
+      for (const part of ['00', '01', '02']) refused(2, { step: '06', object: part, sheet: '01' + answer });
+    }
+  }
+}
+
+// Written by hand: what is named and by whom, each sort of object released, numbers taken again, properties that make room.
+function partsOfReleases(add) {
+  const open = (v) => ({ value: v, writable: true, enumerable: true, configurable: true });
+  start(NAMES);
+  for (const string of ['a', 'b', '7']) enter(string);
+  must(1, 0, { value: null });                                                        // 0
+  must(2, 0, { value: 2047 });                                                        // 1
+  must(16, 0, { value: null });                                                       // 2
+  must(1, 0, { value: objects[2] });                                                  // 3
+  must(17, 0);                                                                        // 14: the target of 1
+  must(17, 2);                                                                        // 14: the prototype of 3
+  must(17, 3);
+  releasedRefusals(3);
+  must(17, 2);
+  must(16, 0, { value: objects[0] });                                                 // 3: released before 2
+  must(16, 0, { value: null });                                                       // 2
+  must(9, 0, { key: 'a', descriptor: open(objects[3]) });
+  must(17, 3);                                                                        // 14: a value
+  must(9, 0, { key: 'a', descriptor: { get: objects[3], set: undefined } });
+  must(17, 3);                                                                        // 14: a getter
+  must(9, 0, { key: 'a', descriptor: { get: undefined, set: objects[3] } });
+  must(17, 3);                                                                        // 14: a setter
+  must(9, 0, { key: 'a', descriptor: { set: undefined } });
+  must(17, 0);                                                                        // 14
+  for (const d of [open(objects[3]), { get: objects[3], set: undefined }, { get: undefined, set: objects[3] }]) {
+    must(9, 3, { key: '7', descriptor: d });
+    must(17, 3);                                                                      // 14: it names itself
+  }
+  must(13, 3, { key: '7' });
+  must(9, 3, { key: 'b', descriptor: { value: 1 } });
+  must(18, 3, { value: 1 });
+  must(17, 3, {}, [value(true)]);                                                     // 13, then released with its property
+  releasedRefusals(3);
+  must(2, 0, { value: 0 });                                                           // 3: a proxy
+  must(14, 3);
+  must(2, 3, { value: 128 });                                                         // 4
+  must(17, 3);                                                                        // 14: the target of 4
+  must(3, 4);
+  must(17, 3);
+  must(2, 4, { value: 0 });                                                           // 3: over 4, which stood before 3
+  must(6, 3, {}, [], 1);
+  must(6, 4, {}, [], 1);
+  must(17, 4);                                                                        // 14
+  must(17, 3);
+  must(17, 4);
+  must(17, 1);
+  must(17, 0);
+  for (const code of [1, 16, 1, 16, 1]) must(code, 0, { value: null });               // 3, 4, 1, 0, 5
+  for (let o = 0; o < 6; o++) { must(4, o); must(6, o); must(14, o); must(8, o, { key: 'b' }); }
+  add('releases: parts', text(joined()));
+  // 32 live objects, again and again; each number once in another order
+  start(NAMES);
+  enter('a');
+  while (objects.length < 32) must(objects.length % 3 ? 1 : 16, 0, { value: null });
+  for (let turn = 0; turn < 4; turn++) {
+    must(1, 0, { value: null });                                                      // 7
+    must(16, 0, { value: null });
+    for (let i = 0; i < 32; i++) must(17, (11 * i + turn) % 32);
+    for (let i = 0; i < 32; i++) must(i % (turn + 2) ? 1 : 16, 0, { value: i % 5 ? null : objects.find((it) => it !== GONE) ?? null });
+    must(2, objects.findIndex((it) => !isFunction(it)), { value: 0 });                // 7
+    for (let i = 0; i < 32; i++) must(4, i);
+    for (let o = 0; o < 32; o++) must(5, o, { value: null });
+  }
+  add('releases: 32 objects', text(joined()));
+  // 256 properties of three objects; a release makes room, and a refused step 18 brings back objects whose targets have greater numbers
+  start(NAMES);
+  for (let i = 0; i < 128; i++) enter(`key${i}`);
+  for (let i = 0; i < 3; i++) must(1, 0, { value: null });
+  for (let i = 0; i < 256; i++) must(9, [0, 1, 2, 1][i % 4], { key: i % 2 ? strings[i >> 1] : SYMBOLS[i], descriptor: open(i) });
+  must(9, 0, { key: SYMBOLS[1], descriptor: open(0) });                               // 7
+  must(17, 1);
+  for (const o of [0, 2]) { must(14, o); must(8, o, { key: SYMBOLS[4] }); must(8, o, { key: SYMBOLS[6] }); }
+  must(16, 0, { value: null });                                                       // 1
+  for (let i = 0; i < 128; i++) must(9, 1, { key: strings[127 - i], descriptor: open(i) });
+  must(9, 1, { key: SYMBOLS[1], descriptor: open(0) });                               // 7
+  must(14, 1);
+  must(17, 0);
+  must(2, 2, { value: 32 });                                                          // 0: a proxy over 2
+  must(2, 0, { value: 0 });                                                           // 3
+  must(17, 1);
+  must(2, 3, { value: 0 });                                                           // 1: over 3
+  must(18, 1, { value: 0 }, [value(false)], 32);
+  must(18, 1, { value: 1 }, []);                                                      // 8
+  must(6, 2);
+  must(3, 1);
+  must(18, 3, { value: 0 }, [list()]);                                                // 9
+  for (const o of [0, 3]) must(14, o);
+  must(8, 2, { key: SYMBOLS[2] });
+  must(17, 2);                                                                        // 14
+  must(17, 1);
+  must(17, 3);
+  must(17, 0);
+  must(17, 2);
+  add('releases: 256 properties', text(joined()));
+}
+
+// Objects of all sorts come and go, and the numbers of those that went are named.
+function scenesOfReleases(turn) {
+  seed = 173 * turn;
+  start(NAMES);
+  for (const string of ['a', 'length', '7', 'prototype', '']) enter(string);
+  must(16, 0, { value: null });
+  const crowd = 4 + random(26);
+  for (let i = 0; i < 400; i++) {
+    const kind = random(14), any = [null, ...present(), ...functions()], standing = present().filter((it) => !isFunction(it));
+    const o = () => objects.indexOf(pick(present()));
+    if (functions().length === 0) must(16, 0, { value: pick(any) });
+    else if (kind < 4 && present().length > crowd && random(4)) {
+      const free = present().filter((it) => !isNamed(it) && (functions().length > 1 || !isFunction(it)));
+      must(17, free.length > 0 && random(5) ? objects.indexOf(pick(free)) : o(), {}, random(12) ? [] : [value(someValue())]);
+    } else if (kind < 3) must(kind === 1 ? 1 : 16, 0, { value: pick(any) });
+    else if (kind === 3 && standing.length > 0) must(2, objects.indexOf(pick(standing)), { value: pick([0, 2047, random(2048)]) });
+    else if (kind === 4 && released.length > 0) {
+      const n = pick(released), v = pick(['07', '08']) + little(n, 8);
+      refused(2, pick([{ step: '11', object: byte(n) }, { step: '0e', object: byte(n) }, { step: '01', value: v }, { step: '06', object: byte(o()), sheet: '01' + '01' + v },
+        { step: '09', object: byte(o()), key: '06' + zeros(8), descriptor: '0800' + v + zeros(18) }]));
+    } else if (kind === 5 && random(3) === 0 && standing.some((it) => targets.has(it))) must(3, objects.indexOf(pick(standing.filter((it) => targets.has(it)))));
+    else someStep(any);
+  }
+  return joined();
+}
+
 // All texts -------------------------------------------------------------------------------
 
 function allTexts() {
@@ -1051,6 +1254,9 @@ function allTexts() {
 
   partsOfFunctions(add);
   for (let turn = 1; turn <= 20; turn++) add(`functions: scenes ${turn}`, text(scenesOfFunctions(turn)));
+
+  partsOfReleases(add);
+  for (let turn = 1; turn <= 20; turn++) add(`releases: scenes ${turn}`, text(scenesOfReleases(turn)));
 
   start(NAMES);
   add('the names alone', text(NAMES.join(' ')));

@@ -7,8 +7,8 @@
 // (Reflect.defineProperty on an object made for it, then Object.getOwnPropertyDescriptor). Which test of a validation is the first that
 // fails, it answers too: each is tried alone, on another object made so (firstRejected). This script answers what no engine has:
 // the tests of steps and sheets, operations 6 and 7, are refusals 1 to 4, written here a second time, and operation 9 is refusal 6, of
-// merging. Byte 181 of operations 6 and 7 has a bit for each of the objects 0 to 7 that is callable. The generator is seeded: a second
-// run gives the same bytes.
+// merging. Of operations 6 and 7, byte 1 has a bit for each of the objects 0 to 7 that is live, and byte 181 one for each that is callable.
+// Refusal 14 is not among these: it is of what the store holds. The generator is seeded: a second run gives the same bytes.
 
 const size = 192;
 const records = [];
@@ -229,9 +229,10 @@ function descriptorFormed(d) {
   return parts(d).every((v, i) => (d[0] & (8 << i) ? wellFormed(v) : allZero(v)));
 }
 
-// An object is named by kind 7, and by kind 8 where it is callable: 2 where it was not made, 3 where it has the other kind.
-const isCallable = (n, counts) => (BigInt(counts.callable) >> n) % 2n === 1n;
-const made = (v, counts) => (v[0] !== 7 && v[0] !== 8) || littleEndian(v.slice(1)) < BigInt(counts.objects);
+// An object is named by kind 7, and by kind 8 where it is callable: 2 where it is not live, 3 where it has the other kind.
+const isLive = (n, counts) => n < 8n && (BigInt(counts.live) >> n) % 2n === 1n;
+const isCallable = (n, counts) => n < 8n && (BigInt(counts.callable) >> n) % 2n === 1n;
+const made = (v, counts) => (v[0] !== 7 && v[0] !== 8) || isLive(littleEndian(v.slice(1)), counts);
 const known = (v, counts) => {
   const n = littleEndian(v.slice(1));
   if (v[0] === 5) return n < BigInt(counts.strings);
@@ -254,7 +255,7 @@ function stepRefusal(step, counts, proxy) {
   const making = code === 1 || code === 16;
   const valued = leveled || making || [2, 5, 12].includes(code);
   const received = code === 11 || code === 12;
-  if (code < 1 || (code > 14 && !leveled && !making)) return 1;
+  if (code < 1 || (code > 14 && code !== 17 && !leveled && !making)) return 1;
   if (making && object !== 0) return 1;
   if (!(keyed ? wellFormed(key) : allZero(key))) return 1;
   if (!(valued ? wellFormed(value) : allZero(value))) return 1;
@@ -263,7 +264,7 @@ function stepRefusal(step, counts, proxy) {
   if (code === 2 && value[0] === 3 && littleEndian(value.slice(1)) > 2047n) return 1;
   if (leveled && value[0] === 3 && littleEndian(value.slice(1)) > 1n) return 1;
   const values = [key, value, receiver, ...parts(d)];
-  if (!making && object >= counts.objects) return 2;
+  if (!making && !isLive(BigInt(object), counts)) return 2;
   if (!values.every((v) => made(v, counts))) return 2;
   if (!values.every((v) => known(v, counts))) return 3;
   if (keyed && key[0] !== 5 && key[0] !== 6) return 3;
@@ -274,17 +275,18 @@ function stepRefusal(step, counts, proxy) {
   return descriptorMixed(d) ? 4 : 0;
 }
 
-// Half of the time the odd objects are callable, as they are among the edges. Marks of objects that were not made say nothing.
-const someCounts = () => ({ objects: random(10), strings: random(9), callable: random(2) ? 0b10101010 : random(256) });
+// Half of the time the odd objects are callable, as they are among the edges. Mostly some have gone. Marks of what is not live say nothing.
+const someLive = () => (random(3) ? 255 & ~(1 << random(8)) & ~(random(2) << random(8)) : 255 >> random(9));
+const someCounts = () => ({ live: someLive(), strings: random(9), callable: random(2) ? 0b10101010 : random(256) });
 const someObject = () => bytesOf({ kind: 7 + random(2), payload: BigInt(random(12) ? random(9) : pick([9, 255, 256, 65536, 0x100000000])) });
 const someValue = () => (random(3) ? bytesOf(random(8) ? pick(edges) : { kind: random(10), payload: BigInt(random(600)) }) : someObject());
 const someKey = () => bytesOf({ kind: 5 + random(2), payload: BigInt(random(8)) });
 
 function someStep() {
-  const code = pick([1 + random(14), 1 + random(14), 1 + random(14), 1 + random(14), 1 + random(14), 1 + random(14), 1 + random(14), 18 + random(2), 18 + random(2), 9, 16, 15 + random(6)]);
+  const code = pick([1 + random(14), 1 + random(14), 1 + random(14), 1 + random(14), 1 + random(14), 1 + random(14), 1 + random(14), 18 + random(2), 18 + random(2), 9, 16, 17, 15 + random(6)]);
   const keyed = code >= 8 && code <= 13;
   const level = () => (random(4) ? bytesOf(integer(random(2))) : random(2) ? bytesOf(integer(pick([2, 3, 256, 65536, -1, -2147483648]))) : someValue());
-  const value = code === 2 ? bytesOf(integer(random(2100))) : code === 12 ? someValue() : [1, 5, 16].includes(code) ? (random(3) ? someObject() : bytesOf({ kind: 1, payload: 0n })) : code > 14 ? level() : Array(9).fill(0);
+  const value = code === 2 ? bytesOf(integer(random(2100))) : code === 12 ? someValue() : [1, 5, 16].includes(code) ? (random(3) ? someObject() : bytesOf({ kind: 1, payload: 0n })) : code > 14 && (code !== 17 || random(8) === 0) ? level() : Array(9).fill(0);
   const receiver = code === 11 || code === 12 ? someValue() : Array(9).fill(0);
   const d = code === 9 ? descriptorBytes(descriptor(random(4) ? pick(masks) : random(64))) : Array(29).fill(0);
   return [code, code === 1 || code === 16 ? 0 : random(9), ...(keyed ? someKey() : Array(9).fill(0)), ...value, ...receiver, ...d];
@@ -313,17 +315,18 @@ const tally = { 6: [0, 0, 0, 0, 0], 7: [0, 0, 0, 0] };
 function emitStep(counts, proxy, step) {
   const isProxy = proxy && !isCallable(BigInt(step[1] ?? 0), counts) ? 1 : 0, refusal = stepRefusal(step, counts, isProxy);
   tally[6][refusal]++;
-  emit(at([...at([6, counts.objects, counts.strings, isProxy, step.length, ...step], 80), refusal], 181), counts.callable);
+  emit(at([...at([6, counts.live, counts.strings, isProxy, step.length, ...step], 80), refusal], 181), counts.callable);
 }
 
 const zero = Array(9).fill(0);
 const whole = (code, o, { key = zero, value = zero, receiver = zero, d = Array(29).fill(0) }) => [code, o, ...key, ...value, ...receiver, ...d];
 const described = (mask, value, get, set) => [mask, 0, ...value, ...get, ...set];
-const marks = [0, 0b1010, 0b0101, 255];
+// which are callable, and which are live
+const marks = [[0, 0b1111], [0b1010, 0b1111], [0b0101, 0b1111], [255, 0b1111], [0b1010, 0b1101], [0b0101, 0b1010]];
 const named = [7, 8].flatMap((kind) => [0, 1, 2, 3, 4, 256, 0x100000000].map((n) => bytesOf({ kind, payload: BigInt(n) })));
 
-for (const callable of marks) {
-  const counts = { objects: 4, strings: 1, callable };
+for (const [callable, live] of marks) {
+  const counts = { live, strings: 1, callable };
   const key = bytesOf({ kind: 5, payload: 0n }), unknown = bytesOf({ kind: 5, payload: 1n });
   for (const value of named) {
     for (const code of [1, 16]) emitStep(counts, 0, whole(code, 0, { value }));
@@ -342,7 +345,7 @@ for (const callable of marks) {
     for (const proxy of [0, 1]) {
       for (const code of [2, 18, 19]) for (const n of [0, 1, 2047, 2048]) emitStep(counts, proxy, whole(code, o, { value: bytesOf(integer(n)) }));
       for (const code of [1, 16, 5]) emitStep(counts, proxy, whole(code, o, { value: bytesOf({ kind: 1, payload: 0n }) }));
-      for (const code of [3, 4, 6, 7, 14]) emitStep(counts, proxy, whole(code, o, {}));
+      for (const code of [3, 4, 6, 7, 14, 17]) emitStep(counts, proxy, whole(code, o, {}));
       for (const code of [8, 10, 11, 13]) emitStep(counts, proxy, whole(code, o, { key }));
     }
   }
@@ -350,7 +353,7 @@ for (const callable of marks) {
 
 for (const code of [15, 16, 17, 18, 19, 20]) {
   for (const level of [...edges, integer(2), integer(3), integer(255), integer(256), { kind: 3, payload: 0x100000000n }, { kind: 9, payload: 0n }, { kind: 5, payload: 9n }, { kind: 7, payload: 9n }]) {
-    for (const o of [0, 5]) emitStep({ objects: 4, strings: 4, callable: 0b1010 }, o % 2, [code, o, ...Array(9).fill(0), ...bytesOf(level), ...Array(38).fill(0)]);
+    for (const o of [0, 5]) emitStep({ live: 0b1111, strings: 4, callable: 0b1010 }, o % 2, [code, o, ...Array(9).fill(0), ...bytesOf(level), ...Array(38).fill(0)]);
   }
 }
 
@@ -410,15 +413,15 @@ function someAnswer() {
 function emitSheet(counts, sheet) {
   const refusal = sheetRefusal(sheet, counts);
   tally[7][refusal]++;
-  emit(at([7, counts.objects, counts.strings, sheet.length, ...sheet], 180), refusal, counts.callable);
+  emit(at([7, counts.live, counts.strings, sheet.length, ...sheet], 180), refusal, counts.callable);
 }
 
-for (const callable of marks) {
+for (const [callable, live] of marks) {
   for (const v of named) {
     const one = [[1, ...v], [4, ...v], [3, 1, 0, ...v], [3, 2, 0, ...zero, ...v], [2, ...described(8, v, zero, zero)], [2, ...described(16, zero, v, zero)], [2, ...described(32, zero, zero, v)]];
     for (const answer of one) {
-      emitSheet({ objects: 4, strings: 1, callable }, [1, ...answer]);
-      emitSheet({ objects: 4, strings: 1, callable }, [2, 1, 8, 1, 0, 0, 0, 0, 0, 0, 0, ...answer]);
+      emitSheet({ live, strings: 1, callable }, [1, ...answer]);
+      emitSheet({ live, strings: 1, callable }, [2, 1, 8, 1, 0, 0, 0, 0, 0, 0, 0, ...answer]);
     }
   }
 }

@@ -196,6 +196,8 @@ static const struct demnyaluz_step_parts steps[] = {
     {.code = DEMNYALUZ_CODE_MAKE_OBJECT, .value = {DEMNYALUZ_KIND_FUNCTION, 3}},
     {.code = DEMNYALUZ_CODE_SET, .object = 3, .key = {DEMNYALUZ_KIND_SYMBOL, 8}, .receiver = {DEMNYALUZ_KIND_FUNCTION, 3}},
     {.code = DEMNYALUZ_CODE_GET, .object = 3, .key = SYMBOL, .receiver = {DEMNYALUZ_KIND_FUNCTION, 3}},
+    {.code = DEMNYALUZ_CODE_RELEASE, .object = 1},
+    {.code = DEMNYALUZ_CODE_RELEASE, .object = 3},
     {.code = DEMNYALUZ_CODE_OWN_PROPERTY_KEYS, .object = 2}, /* one key: the output has no room */
 };
 enum { MADE = sizeof made / sizeof made[0], STEPS = sizeof steps / sizeof steps[0], OUTPUT = 1u << 4 };

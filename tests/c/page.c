@@ -223,14 +223,17 @@ static void refuse(uint64_t object, uint64_t refusal, const char *what)
     }
 }
 
-/* A store or table of another length, or that counts more than it can hold: refused, whatever the object is. */
+/* A store or table of another length, or that counts or marks more than it can hold: refused, whatever the object is. */
 static void refuse_memory(void)
 {
     static uint64_t store[DEMNYALUZ_STORE_WORDS + 1];
     static uint16_t table[DEMNYALUZ_STRING_CELLS + 1];
     static const size_t store_lengths[] = {0, 1, 2, DEMNYALUZ_STORE_WORDS - 1, DEMNYALUZ_STORE_WORDS + 1};
     static const size_t table_lengths[] = {0, 1, DEMNYALUZ_STRING_CELLS - 1, DEMNYALUZ_STRING_CELLS + 1};
-    static const uint64_t too_many[] = {DEMNYALUZ_MAXIMUM_OBJECTS + 1, DEMNYALUZ_MAXIMUM_PROPERTIES + 1};
+    /* numbers in use, properties, the marks of live objects, released numbers */
+    static const size_t counts[] = {0, 1, 3, 4};
+    static const uint64_t too_many[] = {DEMNYALUZ_MAXIMUM_OBJECTS + 1, DEMNYALUZ_MAXIMUM_PROPERTIES + 1, (uint64_t)1 << DEMNYALUZ_MAXIMUM_OBJECTS,
+                                        DEMNYALUZ_MAXIMUM_OBJECTS + 1};
     memcpy(store, words, sizeof words);
     memcpy(table, strings, sizeof strings);
     for (uint64_t object = 0; object < 6; object++) {
@@ -242,14 +245,14 @@ static void refuse_memory(void)
             run_page_over(words, DEMNYALUZ_STORE_WORDS, table, table_lengths[i], object, sizeof text);
             check(is_refused(DEMNYALUZ_REFUSAL_MALFORMED_RECORD), "a table of another length");
         }
-        for (size_t i = 0; i < 2; i++) {
-            store[i] = too_many[i];
+        for (size_t i = 0; i < 4; i++) {
+            store[counts[i]] = too_many[i];
             run_page_over(store, DEMNYALUZ_STORE_WORDS, strings, DEMNYALUZ_STRING_CELLS, object, sizeof text);
             check(is_refused(DEMNYALUZ_REFUSAL_MALFORMED_RECORD), "a count of too many");
-            store[i] = UINT64_MAX;
+            store[counts[i]] = UINT64_MAX;
             run_page_over(store, DEMNYALUZ_STORE_WORDS, strings, DEMNYALUZ_STRING_CELLS, object, 0);
             check(is_refused(DEMNYALUZ_REFUSAL_MALFORMED_RECORD), "the largest count, and no output");
-            store[i] = words[i];
+            store[counts[i]] = words[counts[i]];
         }
         table[0] = DEMNYALUZ_MAXIMUM_STRINGS + 1;
         run_page_over(words, DEMNYALUZ_STORE_WORDS, table, DEMNYALUZ_STRING_CELLS, object, sizeof text);
@@ -267,6 +270,11 @@ static void refuse_all(void)
     refuse(3, DEMNYALUZ_REFUSAL_UNUSABLE_PART, "a proxy");
     check(run_boolean((struct demnyaluz_step_parts){.code = DEMNYALUZ_CODE_REVOKE, .object = 3}), "revoked");
     refuse(3, DEMNYALUZ_REFUSAL_UNUSABLE_PART, "a revoked proxy");
+    make(DEMNYALUZ_CODE_MAKE_OBJECT, 0, null, 5);
+    run_page(5, sizeof text);
+    check(is_page(NAMES), "an object more");
+    check(run_boolean((struct demnyaluz_step_parts){.code = DEMNYALUZ_CODE_RELEASE, .object = 5}), "released");
+    refuse(5, DEMNYALUZ_REFUSAL_OBJECT_NEVER_MADE, "a number that was released");
     for (size_t length = 0; length < 12 * DEMNYALUZ_PAGE_LINE; length++) {
         run_page(0, length);
         check(is_refused(DEMNYALUZ_REFUSAL_OUTPUT_TOO_SMALL), "each output that is too short");

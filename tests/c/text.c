@@ -289,6 +289,14 @@ static void refusals(void)
     words[1] = DEMNYALUZ_MAXIMUM_PROPERTIES + 1;
     refuse(w, s, t, l, r, "a store of 257 properties");
     words[1] = count;
+    count = words[3];
+    words[3] |= (uint64_t)1 << DEMNYALUZ_MAXIMUM_OBJECTS;
+    refuse(w, s, t, l, r, "a 33rd live object");
+    words[3] = count;
+    count = words[4];
+    words[4] = DEMNYALUZ_MAXIMUM_OBJECTS + 1;
+    refuse(w, s, t, l, r, "a store of 33 released numbers");
+    words[4] = count;
     uint16_t entered = strings[0];
     strings[0] = DEMNYALUZ_MAXIMUM_STRINGS + 1;
     refuse(w, s, t, l, r, "a table of 257 strings");
@@ -311,7 +319,7 @@ int main(void)
     run_text(NAMES, HEADING, "the names alone");
     run_text(NAMES "\n", HEADING, "the names alone, with a line feed");
     run_text(sealed_text, sealed_rows, "the sealed 70,000");
-    run_text(NAMES "\n11 00 - - - - -\n11 00 - - - - 000\n0f 01 - - - - 0061\n0f 01 - - - - 00\n0f - - - - - 006100\n",
+    run_text(NAMES "\n14 00 - - - - -\n14 00 - - - - 000\n0f 01 - - - - 0061\n0f 01 - - - - 00\n0f - - - - - 006100\n",
              HEADING "1 0 1 0 0 -\n2 0 12 0 0 -\n3 0 1 0 0 -\n4 0 12 0 0 -\n5 0 12 0 0 -\n", "12 before 1");
     run_text(NAMES "\n" MAKING "\n0f - - - - - 0061\n0f - - - - - 0037\n09 00 050000000000000000 - - - -\n09 00 050100000000000000 - - - -\n0e 00 - - - - -\n",
              HEADING "1 1 0 0 0 070000000000000000\n2 1 0 0 0 050000000000000000\n3 1 0 0 0 050100000000000000\n4 1 0 0 3 020100000000000000\n"
@@ -327,6 +335,13 @@ int main(void)
              HEADING "1 1 0 0 0 080000000000000000\n2 1 0 0 0 070100000000000000\n3 1 0 0 0 080200000000000000\n4 1 0 0 1 070100000000000000\n"
                      "5 1 0 0 1 080000000000000000\n6 0 3 0 0 -\n7 0 3 0 0 -\n8 0 2 0 0 -\n9 0 1 0 0 -\n",
              "functions made, and a proxy over one");
+    run_text(NAMES "\n11 00 - - - - -\n" MAKING "\n02 00 - 030000000000000000 - - -\n11 00 - - - - -\n11 01 - - - - 0101020100000000000000\n"
+                   "11 01 - - - - -\n11 01 - - - - -\n11 00 - - - - 0101070100000000000000\n11 00 - " NULL_VALUE " - - -\n11 00 - - - - -\n"
+                   "10 00 - " NULL_VALUE " - - -\n" MAKING "\n" MAKING "\n",
+             HEADING "1 0 2 0 0 -\n2 1 0 0 0 070000000000000000\n3 1 0 0 0 070100000000000000\n4 0 14 0 0 -\n5 0 13 0 0 -\n"
+                     "6 1 0 0 0 020100000000000000\n7 0 2 0 0 -\n8 0 2 0 0 -\n9 0 1 0 0 -\n10 1 0 0 0 020100000000000000\n"
+                     "11 1 0 0 0 080100000000000000\n12 1 0 0 0 070000000000000000\n13 1 0 0 0 070200000000000000\n",
+             "objects released, and their numbers taken again");
     run_text("", HEADING "0 0 12 0 0 -\n", "no input");
     run_text(NAMES " ", HEADING "0 0 12 0 0 -\n", "a broken first line, not ended");
     run_head("", "an empty first line");

@@ -17,9 +17,9 @@
 //                   number of the first test that fails (1, 0 where none does), and the property or absence after it, or 6 and how
 //                   many bytes of a page (2)
 //                   the output after the call: room bytes, each 0xee before it
-//                   the store after the call: how many strings (2), how many objects (1), then each object: 2 for a proxy, or
-//                   callable (0 or 1), extensible (0 or 1), the prototype, how many own keys (2), and in their order kind, number and
-//                   property
+//                   the store after the call: how many strings (2), which numbers have a live object (4, a bit for each), then each
+//                   live object by its number: 2 for a proxy, or callable (0 or 1), extensible (0 or 1), the prototype, how many own
+//                   keys (2), and in their order kind, number and property
 //
 // Kinds: 0 empties store and strings, 1 a step, 2 the entering of a string, 3 completing, 4 and 5 validating on a target that is
 // not and that is extensible, 6 merging, 7 a property page. A value is its kind and nothing (undefined, null), 1 byte (boolean, string, symbol, object,
@@ -103,7 +103,7 @@ function sheetOf(bytes) {
   return answers;
 }
 
-// Refusals 1 to 4, as docs/REFERENCE.md has them ---------------------------------------
+// Refusals 1 to 4 and 14, as docs/REFERENCE.md has them --------------------------------
 
 const isZero = (bytes) => bytes.every((b) => b === 0);
 
@@ -120,8 +120,8 @@ function isDescriptor(d) {
   return partsOf(d).every((v, i) => (d[0] & (8 << i) ? isValue(v) : isZero(v)));
 }
 
-// Kinds 7 and 8 share the objects' numbers: 7 for one that is not callable, 8 for one that is.
-const isMade = (counts) => (v) => (v[0] !== 7 && v[0] !== 8) || payload(v) < counts.objects;
+// Kinds 7 and 8 share the objects' numbers: 7 for one that is not callable, 8 for one that is. A released number is as one that no object ever had.
+const isMade = (counts) => (v) => (v[0] !== 7 && v[0] !== 8) || counts.isLive(payload(v));
 
 const isKnown = (counts) => (v) => {
   switch (v[0]) {
@@ -135,14 +135,14 @@ const isKnown = (counts) => (v) => {
 
 const isUsable = (d) => !((d[0] & 12) !== 0 && (d[0] & 48) !== 0) && partsOf(d).slice(1).every((v) => v[0] === 0 || v[0] === 8);
 
-// counts: how many objects and strings there are, and which objects are proxies and which are callable
+// counts: how many strings there are, which objects are live, and of these which are proxies, which are callable and which are named by a live one
 function stepRefusal(step, counts) {
   if (step.length !== 58) return 1;
   const code = step[0], o = step[1];
   const key = step.slice(2, 11), value = step.slice(11, 20), receiver = step.slice(20, 29), d = step.slice(29);
   const usesKey = code >= 8 && code <= 13, usesReceiver = code === 11 || code === 12, usesLevel = code === 18 || code === 19;
   const makes = code === 1 || code === 16, usesPrototype = makes || code === 5;
-  if (code < 1 || (code > 14 && code !== 16 && !usesLevel) || (makes && o !== 0)) return 1;
+  if (code < 1 || (code > 14 && code !== 16 && code !== 17 && !usesLevel) || (makes && o !== 0)) return 1;
   if (usesKey ? !isValue(key) : !isZero(key)) return 1;
   if (usesLevel || usesPrototype || code === 2 || code === 12 ? !isValue(value) : !isZero(value)) return 1;
   if (usesReceiver ? !isValue(receiver) : !isZero(receiver)) return 1;
@@ -150,13 +150,14 @@ function stepRefusal(step, counts) {
   if (code === 2 && value[0] === 3 && payload(value) > 2047) return 1;
   if (usesLevel && value[0] === 3 && payload(value) > 1) return 1;
   const values = [key, value, receiver].concat(partsOf(d));
-  if ((!makes && o >= counts.objects) || !values.every(isMade(counts))) return 2;
+  if ((!makes && !counts.isLive(o)) || !values.every(isMade(counts))) return 2;
   if (!values.every(isKnown(counts))) return 3;
   if (usesKey && key[0] !== 5 && key[0] !== 6) return 3;
   if (usesPrototype && value[0] !== 1 && value[0] !== 7 && value[0] !== 8) return 3;
   if ((code === 2 || usesLevel) && value[0] !== 3) return 3;
   if (code === 2 && counts.isCallable(o)) return 3;
   if (code === 3 && !counts.isProxy(o)) return 3;
+  if (code === 17 && counts.isNamed(o)) return 14;
   return isUsable(d) ? 0 : 4;
 }
 

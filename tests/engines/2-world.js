@@ -29,15 +29,31 @@ function callableObject(prototype) {
 
 const madeObject = (callable, prototype) => (callable ? callableObject(prototype) : Object.create(prototype));
 
+// `objects` has the live object of each number, and null where the number is released; `live` the numbers of the live ones, in the order in which they
+// were made; `released` the released numbers, the one released longest ago first. `numbers` has no released object: its number is nobody's until it is
+// taken again.
 let world;
 
 function newWorld() {
-  world = { objects: [], numbers: new Map(), strings: [], stringNumber: new Map(), representations: [] };
+  world = { objects: [], live: [], released: [], numbers: new Map(), strings: [], stringNumber: new Map(), representations: [] };
   keep(dumpStore());
 }
 
+const isLive = (o) => o < world.objects.length && world.objects[o] !== null;
 const isCallable = (o) => world.objects[o].callable;
-const counts = () => ({ objects: world.objects.length, strings: world.strings.length, isProxy: (o) => world.objects[o].proxy, isCallable });
+
+// What refusals 2, 3 and 14 ask, of the objects as they are now.
+function counts() {
+  const objects = world.objects.slice();
+  return { strings: world.strings.length, isLive: (o) => o < objects.length && objects[o] !== null, isProxy: (o) => objects[o].proxy, isCallable: (o) => objects[o].callable, isNamed: (o) => waysNamed(o).size > 0 };
+}
+
+// The number of an object of the engine's; a released one must not come back.
+function objectNumberOf(it) {
+  const n = world.numbers.get(it);
+  if (n === undefined) throw new Error('an object without a number');
+  return n;
+}
 
 // The value that names an object: of kind 8 where it is callable. `misnamed` has the wrong kind.
 const named = (o) => (isCallable(o) ? callable(o) : object(o));
@@ -71,8 +87,8 @@ function bytesOf(x) {
     case 'number': return x === x ? float(x) : [4, 0, 0, 0, 0, 0, 0, 0xf8, 0x7f];
     case 'string': return string(world.stringNumber.get(x));
     case 'symbol': return symbol(symbolNumber.get(x));
-    case 'function': return callable(world.numbers.get(x));
-    default: return x === null ? NULL : object(world.numbers.get(x));
+    case 'function': return callable(objectNumberOf(x));
+    default: return x === null ? NULL : object(objectNumberOf(x));
   }
 }
 
@@ -91,8 +107,8 @@ function valueText(x) {
     }
     case 'string': return '05' + HEX[world.stringNumber.get(x)];
     case 'symbol': return '06' + HEX[symbolNumber.get(x)];
-    case 'function': return '08' + HEX[world.numbers.get(x)];
-    default: return x === null ? '01' : '07' + HEX[world.numbers.get(x)];
+    case 'function': return '08' + HEX[objectNumberOf(x)];
+    default: return x === null ? '01' : '07' + HEX[objectNumberOf(x)];
   }
 }
 
@@ -104,12 +120,16 @@ function propertyText(p) {
 
 // The whole store, and how many properties each object has.
 function dumpStore() {
-  let text = hex2(world.strings.length) + HEX[world.objects.length];
-  const sizes = [];
-  for (const { it, proxy } of world.objects) {
-    const keys = proxy ? [] : Reflect.ownKeys(it);
+  const marks = world.live.reduce((sum, o) => sum | 1 << o, 0), sizes = [];
+  let text = hex2(world.strings.length) + hex2(marks & 0xffff) + hex2(marks >>> 16);
+  for (const at of world.objects) {
+    if (at === null || at.proxy) {
+      sizes.push(0);
+      if (at !== null) text += '02';
+      continue;
+    }
+    const { it } = at, keys = Reflect.ownKeys(it);
     sizes.push(keys.length);
-    if (proxy) { text += '02'; continue; }
     text += (typeof it === 'function' ? '01' : '00') + (Reflect.isExtensible(it) ? '01' : '00') + valueText(Reflect.getPrototypeOf(it)) + hex2(keys.length);
     for (const key of keys) text += valueText(key) + propertyText(Reflect.getOwnPropertyDescriptor(it, key));
   }
@@ -156,13 +176,77 @@ function handlerOf(target, mask) {
   return handler;
 }
 
-// Steps -------------------------------------------------------------------------------
+// Numbers -----------------------------------------------------------------------------
 
-function add(it, proxy, more) {
-  world.numbers.set(it, world.objects.length);
-  world.objects.push(Object.assign({ it, proxy, callable: typeof it === 'function' }, more));
+// How often an object was released and a number taken again; of refusal 14 by the way of naming, where it was the only one; and of refusal 2 where a
+// released number stood in each place.
+const released = { done: 0, reused: 0, prototype: 0, value: 0, get: 0, set: 0, own: 0, target: 0 };
+const refusedReleased = { object: 0, key: 0, value: 0, receiver: 0, descriptor: 0, sheet: 0, alone: 0, page: 0 };
+
+// The number that the next object takes: the one released longest ago or, with none released, the next unused one.
+const nextNumber = () => (world.released.length > 0 ? world.released[0] : world.objects.length);
+
+function place(n, it, proxy, more) {
+  world.numbers.set(it, n);
+  world.objects[n] = Object.assign({ it, proxy, callable: typeof it === 'function' }, more);
   return it;
 }
+
+function add(it, proxy, more) {
+  const n = nextNumber();
+  if (world.released.length > 0) { world.released.shift(); released.reused++; }
+  world.live.push(n);
+  return place(n, it, proxy, more);
+}
+
+// The ways in which live objects name one: prototypes and properties as the engine has them; an engine tells no proxy's target, so that and whether it is
+// revoked are kept here.
+function waysNamed(o) {
+  const { it } = world.objects[o], ways = new Set();
+  for (const n of world.live) {
+    const at = world.objects[n];
+    if (at.proxy) {
+      if (!at.revoked && at.target === o) ways.add('target');
+      continue;
+    }
+    if (Reflect.getPrototypeOf(at.it) === it) ways.add('prototype');
+    for (const key of Reflect.ownKeys(at.it)) {
+      const p = Reflect.getOwnPropertyDescriptor(at.it, key);
+      for (const part of ['value', 'get', 'set']) if (p[part] === it) ways.add(n === o ? 'own' : part);
+    }
+  }
+  return ways;
+}
+
+// The object is gone, and its number free. Only a revoked proxy can have had it as its target, and has none then.
+function release(o) {
+  world.numbers.delete(world.objects[o].it);
+  world.objects[o] = null;
+  world.live = world.live.filter((n) => n !== o);
+  world.released.push(o);
+  delete world.representations[o];
+  for (const n of world.live) if (world.objects[n].target === o) world.objects[n].target = undefined;
+  released.done++;
+}
+
+const isReleased = (v) => (v[0] === 7 || v[0] === 8) && world.released.includes(payload(v));
+
+function answerValues(a) {
+  if (a.tag === 2) return ['value', 'get', 'set'].filter((name) => name in a.descriptor).map((name) => a.descriptor[name]);
+  return a.tag === 3 ? a.list : [a.value];
+}
+
+// Counts why a step was refused as 2 or 14; `given` is its sheet, where that is what was refused.
+function countRefused(n, s, given) {
+  if (n === 14) { const [way, ...ways] = waysNamed(s.object); if (ways.length === 0) released[way]++; }
+  if (n !== 2) return;
+  if (given !== null) { if (sheetOf(given).some((a) => answerValues(a).some(isReleased))) refusedReleased.sheet++; return; }
+  if (world.released.includes(s.object)) refusedReleased.object++;
+  for (const part of ['key', 'value', 'receiver']) if (isReleased(s[part])) refusedReleased[part]++;
+  if (answerValues(described(s.descriptor)).some(isReleased)) refusedReleased.descriptor++;
+}
+
+// Steps -------------------------------------------------------------------------------
 
 // What each code does on the engine's objects: the completion, as text.
 function run(s) {
@@ -187,6 +271,7 @@ function run(s) {
     case 11: return told(Reflect.get(it, key, receiver));
     case 12: return told(Reflect.set(it, key, value, receiver));
     case 13: return told(Reflect.deleteProperty(it, key));
+    case 17: release(s.object); return told(true);
     case 18: (value === 1 ? Object.freeze : Object.seal)(it); return told(true);
     case 19: return told((value === 1 ? Object.isFrozen : Object.isSealed)(it));
     default: return Reflect.ownKeys(it);
@@ -224,7 +309,7 @@ function failedLevel(e) {
 
 // One step over tested records; `room` is the output's length. The expectation, and what the output then holds.
 function perform(s, room) {
-  if ((s.code <= 2 || s.code === 16) && world.objects.length === FULL.objects) return refused(7);
+  if ((s.code <= 2 || s.code === 16) && world.live.length === FULL.objects) return refused(7);
   try {
     const done = run(s);
     if (s.code === 18 && sheet.rejected !== null) return failedLevel('no error');
@@ -252,21 +337,26 @@ function copied() {
     for (const [name] of FIELDS) if (name in p) d[name] = part(p, name);
     return [key, d];
   };
-  return world.objects.map(({ it, proxy, callable, target, mask, revoked }) => (proxy ? { proxy, target, mask, revoked } : {
-    proxy, callable, extensible: Reflect.isExtensible(it), prototype: bytesOf(Reflect.getPrototypeOf(it)), entries: Reflect.ownKeys(it).map((key) => entry(it, key)) }));
+  const copy = ({ it, proxy, callable, target, mask, revoked }) => (proxy ? { proxy, target, mask, revoked } : {
+    proxy, callable, extensible: Reflect.isExtensible(it), prototype: bytesOf(Reflect.getPrototypeOf(it)), entries: Reflect.ownKeys(it).map((key) => entry(it, key)) });
+  return world.objects.map((at) => (at === null ? null : copy(at)));
 }
 
-// Other objects in the place of all, as they were.
+// Other objects in the place of all, as they were. A proxy is made after its target, which may have a higher number; a revoked one whose target was
+// released is made over nothing that has a number.
 function restored(copies) {
-  world.objects = [];
+  world.objects = copies.map(() => null);
   world.numbers = new Map();
-  for (const { proxy, callable, target, mask } of copies) {
-    if (!proxy) { add(madeObject(callable, null), false, {}); continue; }
-    const made = Proxy.revocable(world.objects[target].it, handlerOf(target, mask));
-    add(made.proxy, true, { target, mask, revoke: made.revoke });
-  }
-  copies.forEach(({ proxy, revoked, prototype, entries, extensible }, n) => {
-    const at = world.objects[n];
+  const made = (n) => {
+    const { proxy, callable, target, mask } = copies[n];
+    if (world.objects[n] !== null) return world.objects[n].it;
+    if (!proxy) return place(n, madeObject(callable, null), false, {});
+    const pair = Proxy.revocable(target === undefined ? {} : made(target), handlerOf(target, mask));
+    return place(n, pair.proxy, true, { target, mask, revoke: pair.revoke });
+  };
+  world.live.forEach(made);
+  world.live.forEach((n) => {
+    const at = world.objects[n], { proxy, revoked, prototype, entries, extensible } = copies[n];
     if (proxy) {
       if (revoked) { at.revoke(); at.revoked = true; }
       return;
@@ -292,11 +382,19 @@ function keep(dump) {
 // number that was stored last. Lists in which every number has one representation would need none of this; but no page would then tell a definition that
 // replaces a number by an equal one of the other representation from one that leaves it.
 
-// The ordinary object, or the function, at the end of the targets.
+// The proxies from an object inwards, and the ordinary object or the function at the end of the targets: an empty one, without a number, where a revoked
+// proxy's target was released.
+const NOTHING = Object.freeze(Object.create(null));
+
+function proxiesFrom(o) {
+  const proxies = [];
+  for (let at = world.objects[o]; at !== undefined && at.proxy; at = at.target === undefined ? undefined : world.objects[at.target]) proxies.push(at);
+  return proxies;
+}
+
 function baseOf(o) {
-  let at = world.objects[o];
-  while (at.proxy) at = world.objects[at.target];
-  return at.it;
+  const proxies = proxiesFrom(o), n = proxies.length > 0 ? proxies[proxies.length - 1].target : o;
+  return n === undefined ? NOTHING : world.objects[n].it;
 }
 
 // The number that a step hands in for a property, and where it would be stored: in the ordinary object at the end of the targets. Null where there is none,
@@ -319,9 +417,10 @@ function keepRepresentation({ o, key, record }) {
 
 // Lines -------------------------------------------------------------------------------
 
-let calls = 0;
+let calls = 0, latest = null;                             // `latest`: the expectation of the last line
 
 function line(kind, room, record, given, expected) {
+  latest = expected;
   const output = expected.output || '';
   const text = HEX[expected.outcome] + hex2(expected.numbers & 0xffff) + hex2(expected.numbers >>> 16) + HEX[expected.answers] +
     hex2(expected.completion.length / 2) + expected.completion + output + 'ee'.repeat(room - output.length / 2) + world.dump;
@@ -343,7 +442,8 @@ function emptied() {
 function doStep(record, given, room, after) {
   const growing = typeof given === 'function', before = counts();
   let n = stepRefusal(record, before);
-  if (n === 0 && !growing) n = sheetRefusal(given, before);
+  if (n !== 0) countRefused(n, stepOf(record), null);
+  else if (!growing) countRefused(n = sheetRefusal(given, before), null, given);
   sheet = newSheet(n === 0 && !growing ? sheetOf(given) : [], growing ? given : null);
   const s = n === 0 ? stepOf(record) : null;
   const copies = n === 0 && s.code === 18 ? copied() : null, number = n === 0 ? givenNumber(s) : null;
@@ -411,6 +511,7 @@ function alone(kind, record, current) {
   let n = descriptorRefusal(over ? [record, current] : [record], counts());
   if (n === 0 && over && !isComplete(current[0])) n = 5;
   if (n === 0 && kind === 6 && ((current[0] & 12 && record[0] & 48) || (current[0] & 48 && record[0] & 12))) n = 6;
+  if (n === 2 && [record, current].some((d) => partsOf(d).some(isReleased))) refusedReleased.alone++;
   if (n !== 0) return refused(n);
   const result = (completion) => ({ outcome: 1, numbers: 0, answers: 0, completion });
   const d = descriptorObject(descriptorOf(record));

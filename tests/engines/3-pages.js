@@ -29,7 +29,7 @@ const pageSize = (o) => 47 + 47 * Reflect.ownKeys(world.objects[o].it).length;
 const paged = { 0: 0, 2: 0, 3: 0, 11: 0 }, pageCount = () => Object.values(paged).reduce((sum, n) => sum + n);
 
 function page(o, room) {
-  if (o >= world.objects.length) return refused(2);
+  if (!isLive(o)) return refused(2);
   if (world.objects[o].proxy) return refused(3);
   const text = pageText(o);
   if (text.length > room) return refused(11);
@@ -38,7 +38,8 @@ function page(o, room) {
 
 // A page of the object whose number stands in 8 bytes.
 function doPage(record, room) {
-  const expected = page(numberOf(record, 0, 8), room);
+  const o = numberOf(record, 0, 8), expected = page(o, room);
+  if (world.released.includes(o)) refusedReleased.page++;
   paged[expected.outcome === 1 ? 0 : 31 - Math.clz32(expected.numbers)]++;
   line(7, room, record, [], expected);
 }

@@ -37,8 +37,9 @@ const PRIMITIVES = [UNDEFINED, NULL, boolean(true), boolean(false), integer(0), 
   float(5e-324), float(1.7976931348623157e308), [4, 0, 0, 0, 0, 0, 0, 0xf8, 0x7f], [4, 1, 0, 0, 0, 0, 0, 0xf0, 0xff], [4, 255, 255, 255, 255, 255, 255, 255, 127]];
 
 // An object of any sort, by its value; a function, or undefined where there is none.
-const someObject = () => (world.objects.length > 0 ? named(random(world.objects.length)) : NULL);
-const numbersOf = (test) => world.objects.map((_, o) => o).filter((o) => test(world.objects[o]));
+const someNumber = () => pick(world.live), lastMade = () => world.live[world.live.length - 1];
+const someObject = () => (world.live.length > 0 ? named(someNumber()) : NULL);
+const numbersOf = (test) => world.live.filter((o) => test(world.objects[o]));
 const someFunction = () => { const made = numbersOf((at) => at.callable); return made.length > 0 ? callable(pick(made)) : UNDEFINED; };
 const someString = () => (world.strings.length > 0 ? string(random(world.strings.length)) : symbol(0));
 const someSymbol = () => symbol(weighed([[8, random(4)], [1, 255], [1, random(256)]]));
@@ -198,16 +199,14 @@ function isLoop(from) {
 
 // [[OwnPropertyKeys]] asks a proxy's target for each key, and so on inward: no more than this many calls, from what an answer may list.
 function walk(o) {
-  let depth = 0, fan = 1;
-  for (let at = world.objects[o]; at.proxy; at = world.objects[at.target]) { depth++; if (at.mask & 16) fan++; }
+  const proxies = proxiesFrom(o), depth = proxies.length, fan = 1 + proxies.filter((at) => at.mask & 16).length;
   return (Reflect.ownKeys(baseOf(o)).length + 8) * depth * depth * fan;
 }
 
 // The calls of step 18, or 19, at the most: [[IsExtensible]], [[PreventExtensions]], [[GetOwnProperty]], [[DefineOwnProperty]] and [[OwnPropertyKeys]] of
 // each object from the ordinary one outwards. The keys are those of the ordinary object: it is not extensible once they are asked for.
 function levelCalls(code, o) {
-  const masks = [];
-  for (let at = world.objects[o]; at.proxy; at = world.objects[at.target]) masks.unshift(at.mask);
+  const masks = proxiesFrom(o).map((at) => at.mask).reverse();
   const n = Reflect.ownKeys(baseOf(o)).length;
   let e = 1, p = 1, g = 1, d = 3, k = 1;
   for (const mask of masks) {
@@ -227,20 +226,40 @@ const somePrototype = () => weighed([[60, someObject], [20, () => NULL], [20, ()
 // What a world begins with: an object or a function, and mostly one of each and a proxy among the first three.
 function beginning(n) {
   if (n === 0) return pick([1, 1, 16]);
-  if (n === 1) return isCallable(0) ? 1 : pick([2, 2, 16]);
+  if (n === 1) return isCallable(world.live[0]) ? 1 : pick([2, 2, 16]);
   return someFunction()[0] === 8 ? pick([1, 2, 2, 2, 16]) : pick([16, 16, 2]);
 }
 
+// The number of the ordinary object at the end of the targets; the proxy's own where there is none.
+function ordinaryBase(o) {
+  const n = world.numbers.get(baseOf(o));
+  return n === undefined ? o : n;
+}
+
+// What is released: mostly an object that nothing names, or one that is named in one way, each way as often; or a number that is released already.
+function someReleasable() {
+  if (world.released.length > 0 && chance(5)) return pick(world.released);
+  const free = [], byWay = new Map();
+  for (const o of world.live) {
+    const [way, ...ways] = waysNamed(o);
+    if (way === undefined) free.push(o);
+    else if (ways.length === 0) byWay.set(way, (byWay.get(way) || []).concat([o]));
+  }
+  if (free.length > 0 && chance(65)) return pick(free);
+  return byWay.size > 0 && chance(80) ? pick(byWay.get(pick([...byWay.keys()]))) : someNumber();
+}
+
 function someStep(style) {
-  const n = world.objects.length, code = n < 3 ? beginning(n) : weighed(style.codes);
+  const n = world.live.length, code = n < 3 ? beginning(n) : weighed(style.codes);
   if (code === 1 || code === 16) return { code, value: n > 0 && chance(70) ? somePrototype() : NULL };
   const proxies = numbersOf((at) => at.proxy && !at.revoked), targets = numbersOf((at) => !at.callable);
-  const any = code !== 2 && proxies.length > 0 && chance(style.proxies) ? pick(proxies) : chance(style.last) ? n - 1 - random(Math.min(n, 3)) : random(n);
+  const any = code !== 2 && proxies.length > 0 && chance(style.proxies) ? pick(proxies) : world.live[chance(style.last) ? n - 1 - random(Math.min(n, 3)) : random(n)];
   const o = code === 2 && isCallable(any) && targets.length > 0 && chance(90) ? pick(targets) : any, key = someKey(o, style);
-  if (code === 7 && chance(50)) return { code, object: world.numbers.get(baseOf(o)) };
+  if (code === 17) return { code, object: someReleasable() };
+  if (code === 7 && chance(50)) return { code, object: ordinaryBase(o) };
   const level = integer(random(2));
-  if (code === 18 && chance(style.levels ? 12 : 30)) return { code, object: world.numbers.get(baseOf(o)), value: level };
-  if (style.loops && proxies.length > 0 && chance(12)) { const p = pick(proxies); return { code: 5, object: world.numbers.get(baseOf(p)), value: object(p) }; }
+  if (code === 18 && chance(style.levels ? 12 : 30)) return { code, object: ordinaryBase(o), value: level };
+  if (style.loops && proxies.length > 0 && chance(12)) { const p = pick(proxies); return { code: 5, object: ordinaryBase(p), value: object(p) }; }
   switch (code) {
     case 2: return { code, object: o, value: someMask(style) };
     case 3: return proxies.length > 0 && chance(30) ? { code, object: o === proxies[0] || chance(80) ? pick(proxies) : o } : { code: 6, object: o };
@@ -254,18 +273,22 @@ function someStep(style) {
   }
 }
 
-// A number that no object has, under kind 7 or 8.
-const unmade = () => weighed([[3, pick([object, callable])(world.objects.length)], [2, pick([object, callable])(world.objects.length + random(300))], [1, [7 + random(2), 0, 0, 0, 0, 1, 0, 0, 0]]]);
+// A number that no object has, under kind 7 or 8: mostly a released one, where there is one.
+function unmade() {
+  const kind = pick([object, callable]), n = world.objects.length;
+  if (world.released.length > 0 && chance(65)) return kind(pick(world.released));
+  return weighed([[3, kind(n)], [2, kind(n + random(300))], [1, [7 + random(2), 0, 0, 0, 0, 1, 0, 0, 0]]]);
+}
 
 // Refusals 2 to 4: a part that cannot be used.
 function spoilt(s) {
   const t = Object.assign({}, s);
   const d = Object.assign({}, s.descriptor || {});
-  const spoil = (name) => { t[name] = pick([unmade(), misnamed(random(world.objects.length)), misnamed(random(world.objects.length)), string(world.strings.length), symbol(256), someFunction(), [5, 0, 0, 0, 0, 0, 0, 0, 1], someValue()]); };
-  weighed([[3, () => { t.object = world.objects.length + random(3); }], [3, () => spoil('key')], [2, () => spoil('value')], [2, () => spoil('receiver')],
+  const spoil = (name) => { t[name] = pick([unmade(), misnamed(someNumber()), misnamed(someNumber()), string(world.strings.length), symbol(256), someFunction(), [5, 0, 0, 0, 0, 0, 0, 0, 1], someValue()]); };
+  weighed([[3, () => { t.object = world.released.length > 0 && chance(65) ? pick(world.released) : world.objects.length + random(3); }], [3, () => spoil('key')], [2, () => spoil('value')], [2, () => spoil('receiver')],
     [2, () => { t.code = 3; delete t.key; delete t.value; delete t.receiver; delete t.descriptor; }],
     [4, () => { t.code = 9; t.key = s.key || someString(); delete t.value; delete t.receiver; Object.assign(d, pick([{ get: someFunction(), value: someValue() }, { set: UNDEFINED, writable: true }, { get: somePrimitive() }, { set: someObject() },
-      { get: misnamed(random(world.objects.length)) }, { set: misnamed(random(world.objects.length)) }, { set: unmade() }, { value: unmade(), get: UNDEFINED }])); t.descriptor = d; }]])();
+      { get: misnamed(someNumber()) }, { set: misnamed(someNumber()) }, { set: unmade() }, { value: unmade(), get: UNDEFINED }])); t.descriptor = d; }]])();
   return t;
 }
 
@@ -289,7 +312,7 @@ const anyAnswer = () => weighed([[4, () => answered(someValue())], [2, () => des
 
 // Refusals 2 and 3 over the sheet: an object under the wrong kind, or one that was never made, wherever a value stands.
 function spoiltAnswer() {
-  const v = chance(60) ? misnamed(random(world.objects.length)) : unmade();
+  const v = chance(60) ? misnamed(someNumber()) : unmade();
   return pick([() => answered(v), () => thrown(v), () => listed([someString(), v]), () => described({ value: v }), () => described({ get: v }), () => described({ set: v, get: someFunction() })])();
 }
 
@@ -343,7 +366,7 @@ function asked(record) {
 function chosenStep(style) {
   const s = someStep(style);
   if (s.code === 5 && !style.loops && s.value[0] !== 1 && (isLoop(s.object) || wouldLoop(s.object, payload(s.value)))) return { code: 4, object: s.object };
-  return world.objects.length > 0 && chance(4) ? spoilt(s) : s;
+  return world.live.length > 0 && chance(style.releases ? 7 : 4) ? spoilt(s) : s;
 }
 
 // At most `left` calls, of which a sheet with unread answers takes two, and a page after the step one. False where the world cannot go on.
@@ -356,12 +379,12 @@ function step(style, left) {
 
 // The step, with answers as it asks for them, or with a sheet made before.
 function answering(record, left) {
-  const made = record[1] < world.objects.length, lists = record[0] === 14 && made, levels = (record[0] === 18 || record[0] === 19) && made;
+  const made = isLive(record[1]), lists = record[0] === 14 && made, levels = (record[0] === 18 || record[0] === 19) && made;
   if (lists && walk(record[1]) > 1500) record[0] = 6;
   if (levels && levelCalls(record[0], record[1]) > 2048) { record[0] = 6; record.fill(0, 11, 20); }
   const room = lists ? someRoom(record[1]) : random(4) * random(12);
   if (left > 1 && chance(3)) {
-    const bytes = sheetBytes(Array.from({ length: random(4) }, () => (world.objects.length > 0 && chance(30) ? spoiltAnswer() : anyAnswer())));
+    const bytes = sheetBytes(Array.from({ length: random(4) }, () => (world.live.length > 0 && chance(30) ? spoiltAnswer() : anyAnswer())));
     return doStep(record, chance(60) ? damaged(bytes) : bytes, room);
   }
   const end = chance(8) ? random(4) : FULL.answers;       // where the sheet ends too soon
@@ -378,20 +401,19 @@ function levelScene() {
     let given = 0;
     return doStep(asked(stepBytes(s)), (asks) => (given++ < end ? (chance(honest) && trueAnswer(asks)) || someAnswer(asks) : null), 0);
   };
-  const last = () => world.objects.length - 1, level = integer(random(3) ? 1 : 0);
-  const callable = chance(20);
+  const level = integer(random(3) ? 1 : 0), callable = chance(20);
   run({ code: callable ? 16 : 1, value: chance(70) ? NULL : somePrototype() }, 0, 0);
-  const base = last();
+  const base = lastMade();
   for (let n = 1 + random(5); n > 0; n--) {
     const key = chance(75) ? someString() : someSymbol();
     if (!run({ code: 9, object: base, key, descriptor: chance(85) ? openDescriptor() : someDescriptor() }, 0, 0)) return false;
   }
-  for (let n = callable ? 0 : 1 + random(2); n > 0; n--) run({ code: 2, object: last(), value: integer(chance(85) ? pick(LEVEL_MASKS) : random(2048)) }, 0, 0);
+  for (let n = callable ? 0 : 1 + random(2); n > 0; n--) run({ code: 2, object: lastMade(), value: integer(chance(85) ? pick(LEVEL_MASKS) : random(2048)) }, 0, 0);
   if (chance(20)) run(chance(50) ? { code: 7, object: base } : { code: 18, object: base, value: integer(random(2)) }, 0, 0);
   const end = chance(20) ? random(6) : FULL.answers, honest = pick([70, 88, 96]);
-  run({ code: 18, object: last(), value: level }, honest, end);
+  run({ code: 18, object: lastMade(), value: level }, honest, end);
   if (chance(30)) doPage(objectNumber(base), pageSize(base));
-  return run({ code: 19, object: chance(50) ? base : last(), value: level }, honest, FULL.answers);
+  return run({ code: 19, object: chance(50) ? base : lastMade(), value: level }, honest, FULL.answers);
 }
 
 // Pages ----------------------------------------------------------------------------------
@@ -402,18 +424,18 @@ function pageRoom(o) {
   return weighed([[40, n], [35, n + 1 + random(100)], [11, n - 1], [6, 0], [8, random(n)]]);
 }
 
-const ordinaryBase = (o) => world.numbers.get(baseOf(o));
-
 // Of the object that a step was to change, whether or not it did.
 function pageAfter(record) {
   const o = record[0] === 12 && record[20] > 6 ? record[21] : record[1];
-  if (o < world.objects.length) doPage(objectNumber(ordinaryBase(o)), pageRoom(ordinaryBase(o)));
+  const base = isLive(o) ? world.numbers.get(baseOf(o)) : undefined;
+  if (base !== undefined) doPage(objectNumber(base), pageRoom(base));
 }
 
-// A number that no object has, some with the low bytes of one that has been made.
+// A number that no object has: a released one, or unused, some with the low bytes of one that is made.
 function unmadeNumber() {
   const n = world.objects.length, bytes = objectNumber(random(n + 1));
   bytes[1 + random(7)] = 1 + random(255);
+  if (world.released.length > 0 && chance(60)) return objectNumber(pick(world.released));
   return pick([objectNumber(n), objectNumber(n + random(300)), bytes, bytes, [255, 255, 255, 255, 255, 255, 255, 255]]);
 }
 
@@ -421,19 +443,20 @@ function unmadeNumber() {
 function somePage() {
   const ordinary = numbersOf((at) => !at.proxy), filled = ordinary.filter((o) => world.sizes[o] > 0), proxies = numbersOf((at) => at.proxy);
   const o = pick(filled.length > 0 && chance(90) ? filled : ordinary), any = pick([0, 46, 47, 94, random(500)]);
-  weighed([[14, () => doPage(objectNumber(o), pageRoom(o))], [proxies.length > 0 ? 4 : 0, () => doPage(objectNumber(pick(proxies)), any)], [2, () => doPage(unmadeNumber(), any)]])();
+  weighed([[ordinary.length > 0 ? 14 : 0, () => doPage(objectNumber(o), pageRoom(o))], [proxies.length > 0 ? 4 : 0, () => doPage(objectNumber(pick(proxies)), any)], [2, () => doPage(unmadeNumber(), any)]])();
 }
 
 // A number that is there, handed in again in either representation: defined and set, straight and through a proxy, over what is fixed and what is not. A page
 // alone shows which of the two is stored then.
 function numberScene() {
-  const run = (s) => doStep(asked(stepBytes(s)), someAnswer, 0), base = world.objects.length, isFunction = chance(20);
+  const run = (s) => doStep(asked(stepBytes(s)), someAnswer, 0), isFunction = chance(20);
   run({ code: isFunction ? 16 : 1, value: NULL });
+  const base = lastMade();
   if (!isFunction) run({ code: 2, object: base, value: integer(pick([0, 0, 0, 16, 32, 256])) });
   const key = chance(75) ? someString() : someSymbol(), x = pick([0, 1, -1, 70000, 2147483647, -2147483648]), either = () => pick([integer, float])(x);
   if (!run({ code: 9, object: base, key, descriptor: { value: either(), enumerable: flag(), writable: flag(), configurable: flag() } })) return false;
   for (let n = 1 + random(3); n > 0; n--) {
-    const o = isFunction || chance(60) ? base : base + 1, value = chance(85) ? either() : float(-x);
+    const o = isFunction || chance(60) ? base : lastMade(), value = chance(85) ? either() : float(-x);
     if (!run(chance(60) ? { code: 9, object: o, key, descriptor: near({ value, enumerable: flag() }) } : { code: 12, object: o, key, value, receiver: named(o) })) return false;
     doPage(objectNumber(base), pageRoom(base));
   }
@@ -443,6 +466,56 @@ function numberScene() {
 // Of each ordinary object and function, within the limit.
 function allPages(limit) {
   for (const o of numbersOf((at) => !at.proxy)) if (calls < limit) doPage(objectNumber(o), pageRoom(o));
+}
+
+// Releases ---------------------------------------------------------------------------------
+
+const NAMINGS = ['prototype', 'value', 'get', 'set', 'own', 'target'];
+
+// An object that is named in one way, released in vain; no longer named, and released; its number in the places where it may not stand; and taken again.
+// Other steps may come in between, so that what names it may be changed and refused as anything else.
+function releaseScene(style) {
+  const run = (s) => doStep(asked(stepBytes(s)), someAnswer, 0), way = pick(NAMINGS), isFunction = way === 'get' || way === 'set' || (way !== 'target' && chance(40));
+  const straight = (n, v) => (v[0] > 6 && isLive(n) && wouldLoop(n, payload(v)) ? NULL : v);
+  const others = numbersOf((at) => !at.proxy && Reflect.isExtensible(at.it)), key = chance(75) ? someString() : someSymbol();
+  run({ code: isFunction ? 16 : 1, value: chance(50) ? NULL : somePrototype() });
+  const o = lastMade(), name = named(o), by = way === 'own' ? o : others.length > 0 ? pick(others) : o;
+  const part = way === 'own' ? (isFunction ? pick(['value', 'get', 'set']) : 'value') : way;
+  for (let n = random(4); n > 0; n--) if (!run({ code: 9, object: o, key: chance(75) ? someString() : someSymbol(), descriptor: openDescriptor() })) return false;
+  if (way === 'target') run({ code: 2, object: o, value: someMask(style) });
+  else if (way === 'prototype') run(chance(50) ? { code: pick([1, 16]), value: name } : { code: 5, object: by, value: straight(by, name) });
+  else if (!run({ code: 9, object: by, key, descriptor: Object.assign({ configurable: true, enumerable: flag() }, { [part]: name }, part === 'value' ? { writable: true } : {}) })) return false;
+  const namer = way === 'target' || (way === 'prototype' && lastMade() !== o) ? lastMade() : by;
+  run({ code: 17, object: o });
+  if (chance(30) && !step(style, 3)) return false;
+  if (way === 'target') run(chance(60) ? { code: 3, object: namer } : { code: 17, object: namer });
+  else if (way === 'prototype') run(chance(60) ? { code: 5, object: namer, value: chance(70) ? NULL : straight(namer, somePrototype()) } : { code: 17, object: namer });
+  else if (!run(part === 'value' && chance(40) ? { code: 12, object: namer, key, value: somePrimitive(), receiver: isLive(namer) ? named(namer) : NULL } : { code: 13, object: namer, key })) return false;
+  run({ code: 17, object: o });
+  if (isLive(o)) return true;
+  for (let n = random(3); n > 0; n--) run(releasedIn(pick([object, callable])(o)));
+  if (chance(35)) doStep(stepBytes({ code: 6, object: someNumber() }), sheetBytes([releasedAnswer(pick([object, callable])(o))]), 0);
+  if (chance(20)) doPage(objectNumber(o), random(100));
+  if (chance(60)) run({ code: pick([1, 16]), value: chance(50) ? NULL : somePrototype() });
+  return true;
+}
+
+// A step with a released number in one of its parts.
+function releasedIn(v) {
+  const o = world.live.length > 0 ? someNumber() : 0, key = someString();
+  return pick([{ code: pick([3, 4, 6, 7, 14, 17]), object: payload(v) }, { code: pick([8, 10, 13]), object: o, key: v }, { code: pick([1, 16]), value: v }, { code: 5, object: o, value: v }, { code: 2, object: payload(v), value: integer(0) },
+    { code: 11, object: o, key, receiver: v }, { code: 12, object: o, key, value: v, receiver: UNDEFINED }, { code: 12, object: o, key, value: NULL, receiver: v }, { code: 9, object: o, key, descriptor: pick([{ value: v }, { get: v }, { set: v }]) }]);
+}
+
+const releasedAnswer = (v) => pick([answered(v), thrown(v), listed([someString(), v]), described({ value: v }), described({ get: v }), described({ set: v })]);
+
+// Some objects that have 256 properties together, or a few less: a release makes room.
+function filled(left) {
+  for (let n = 4 + random(4); n > 0 && left() > 0; n--) doStep(stepBytes({ code: pick([1, 1, 16]), value: NULL }), [0], 0);
+  for (let i = 0, n = FULL.properties - random(5); i < n && left() > 0; i++) {
+    const key = i < world.strings.length ? string(i) : symbol(i), descriptor = { value: somePrimitive(), writable: true, enumerable: flag(), configurable: chance(90) };
+    doStep(asked(stepBytes({ code: 9, object: someNumber(), key, descriptor })), [0], 0);
+  }
 }
 
 // Descriptors by themselves --------------------------------------------------------------
@@ -464,8 +537,9 @@ function stepAlone() {
   if (there.configurable && chance(60)) there.configurable = false;
   const mixed = () => Object.assign(someDescriptor(), { get: someFunction(), value: somePrimitive() });
   const d = weighed([[40, () => near(there)], [30, () => unlike(there)], [28, someDescriptor], [2, mixed]])();
-  if (chance(4)) d.value = pick([unmade(), misnamed(random(world.objects.length)), string(world.strings.length), symbol(300)]);
-  if (chance(2)) there.get = pick([unmade(), misnamed(random(world.objects.length))]);
+  if (chance(4)) d.value = pick([unmade(), misnamed(someNumber()), string(world.strings.length), symbol(300)]);
+  if (chance(2)) there.get = pick([unmade(), misnamed(someNumber())]);
+  if (world.released.length > 0 && chance(15)) Object.assign(pick([d, there]), pick([{ value: unmade() }, { get: unmade() }, { set: unmade() }]));
   const record = descriptorBytes(d), other = kind === 3 || (kind < 6 && chance(15)) ? [] : descriptorBytes(there);
   doAlone(kind, chance(3) ? damaged(record) : record, chance(3) && kind > 3 ? damaged(other) : other);
 }
@@ -481,6 +555,12 @@ const STYLES = [
   [6, { calls: 50, strings: 4, last: 40, proxies: 40, loops: true, codes: EVEN }],
   [4, { calls: 120, strings: 3, last: 5, proxies: 20, codes: [[20, 1], [20, 16], [30, 2], [2, 3], [5, 9], [5, 11], [5, 12]] }],
   [2, { calls: 700, strings: 4, last: 0, proxies: 10, crowd: true, codes: [[1, 1], [1, 16], [1, 2], [90, 9], [2, 10], [12, 12], [3, 13], [1, 14], [1, 18], [2, 19]] }],
+  // with releases: among all else; making and releasing; at 32 live objects; at 256 properties; with chains that lead back
+  [19, { calls: 150, strings: 8, last: 30, proxies: 50, releases: 6, codes: EVEN.concat([[10, 1], [8, 16], [8, 2], [8, 3], [24, 17]]) }],
+  [14, { calls: 120, strings: 4, last: 50, proxies: 30, releases: 10, codes: [[14, 1], [12, 16], [14, 2], [5, 3], [3, 4], [8, 5], [1, 7], [3, 8], [14, 9], [3, 11], [4, 12], [6, 13], [3, 14], [2, 18], [2, 19], [36, 17]] }],
+  [4, { calls: 200, strings: 3, last: 5, proxies: 20, releases: 2, codes: [[20, 1], [20, 16], [25, 2], [4, 3], [5, 9], [4, 11], [4, 12], [3, 13], [22, 17]] }],
+  [2, { calls: 900, strings: 4, last: 0, proxies: 10, releases: 1, crowd: true, full: true, codes: [[5, 1], [3, 16], [1, 2], [120, 9], [2, 10], [16, 12], [8, 13], [1, 14], [1, 18], [2, 19], [8, 17]] }],
+  [3, { calls: 60, strings: 4, last: 40, proxies: 40, releases: 6, loops: true, codes: EVEN.concat([[6, 1], [4, 16], [6, 2], [6, 3], [14, 17]]) }],
 ];
 
 // Pages do not count in a list's length, so that other calls see the objects that they would see without them.
@@ -489,13 +569,15 @@ function someWorld(limit) {
   emptied();
   for (let i = random(style.strings); i >= 0 && left() > 0; i--) doEnter(someText());
   if (style.crowd) for (let i = 0, n = pick([40, 120, 250, 270]); i < n && left() > 0; i++) doEnter('k' + i);
+  if (style.full) filled(left);
   while (left() > 0) {
     if (chance(3)) doEnter(someText());
-    else if (style.levels && chance(25) && left() > 12 && world.objects.length + 3 <= FULL.objects) { if (!levelScene()) return; }
-    else if (world.objects.length > 0 && chance(5)) stepAlone();
-    else if (world.objects.length > 0 && chance(3)) somePage();
+    else if (style.levels && chance(25) && left() > 12 && world.live.length + 3 <= FULL.objects) { if (!levelScene()) return; }
+    else if (style.releases && chance(style.releases) && left() > 18 && world.live.length > 0 && world.live.length + 3 <= FULL.objects) { if (!releaseScene(style)) return; }
+    else if (world.live.length > 0 && chance(5)) stepAlone();
+    else if (world.live.length > 0 && chance(3)) somePage();
     else if (!step(style, left())) return;
   }
-  if (chance(50) && limit - calls > 12 && world.objects.length + 2 <= FULL.objects && !numberScene()) return;
+  if (chance(50) && limit - calls > 12 && world.live.length + 2 <= FULL.objects && !numberScene()) return;
   if (chance(25)) allPages(limit);
 }

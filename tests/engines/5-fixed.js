@@ -18,9 +18,9 @@ function refusesPage(n, record, rooms) {
 function fixedCalls() {
   const enter = (text) => { doEnter(text); return string(world.stringNumber.get(text)); };
   const run = (code, o, parts, answers, room) => doStep(stepBytes(Object.assign({ code, object: o }, parts)), sheetBytes(answers || []), room === undefined ? 40 : room);
-  const make = (prototype) => { run(1, 0, { value: prototype || NULL }); return world.objects.length - 1; };
-  const makeFunction = (prototype) => { run(16, 0, { value: prototype || NULL }); return world.objects.length - 1; };
-  const proxy = (o, mask) => { run(2, o, { value: integer(mask === undefined ? 2047 : mask) }); return world.objects.length - 1; };
+  const make = (prototype) => { run(1, 0, { value: prototype || NULL }); return lastMade(); };
+  const makeFunction = (prototype) => { run(16, 0, { value: prototype || NULL }); return lastMade(); };
+  const proxy = (o, mask) => { run(2, o, { value: integer(mask === undefined ? 2047 : mask) }); return lastMade(); };
   const define = (o, key, descriptor, answers) => run(9, o, { key, descriptor }, answers);
   const yes = answered(boolean(true)), no = answered(boolean(false)), none = answered(UNDEFINED);
 
@@ -88,7 +88,7 @@ function fixedCalls() {
   // throws of each kind of value
   for (const v of PRIMITIVES.concat([a, s, object(o), object(p), f])) run(11, p, { key: a, receiver: NULL }, [thrown(v)]);
   // refusals 1 to 4
-  for (const bytes of [[], stepBytes({ code: 4 }).slice(1), stepBytes({ code: 0 }), stepBytes({ code: 15 }), stepBytes({ code: 16 }), stepBytes({ code: 17 }), stepBytes({ code: 20 }), stepBytes({ code: 4, key: a }), stepBytes({ code: 1, object: 1, value: NULL })]) doStep(bytes, [0], 9);
+  for (const bytes of [[], stepBytes({ code: 4 }).slice(1), stepBytes({ code: 0 }), stepBytes({ code: 15 }), stepBytes({ code: 16 }), stepBytes({ code: 17, value: NULL }), stepBytes({ code: 20 }), stepBytes({ code: 4, key: a }), stepBytes({ code: 1, object: 1, value: NULL })]) doStep(bytes, [0], 9);
   run(2, o, { value: integer(2048) }); run(2, o, { value: integer(-1) }); run(2, o, { value: float(1) });
   run(4, 32); run(5, o, { value: object(200) }); run(5, o, { value: [7, 0, 0, 0, 0, 1, 0, 0, 0] });
   run(10, o, { key: string(99) }); run(10, o, { key: symbol(256) }); run(10, o, { key: NULL }); run(5, o, { value: UNDEFINED }); run(3, o); run(11, o, { key: a, receiver: callable(o) });
@@ -126,7 +126,7 @@ function fixedCalls() {
   for (const key of keys) define(free, key, { value: key, configurable: true });
   run(14, free, {}, [], 144); run(13, free, { key: a }); define(free, a, {}); run(14, free, {}, [], 144);
   // 7: the 33rd object, the 257th property, the 257th string
-  while (world.objects.length < FULL.objects) make();
+  while (world.live.length < FULL.objects) make();
   make(); run(2, o, { value: integer(0) });
   emptied();
   const crowd = make(), last = make();
@@ -138,7 +138,7 @@ function fixedCalls() {
   run(13, crowd, { key: string(0) }); define(last, string(0), { configurable: true }); define(last, string(1), { configurable: true });
   run(7, last); define(last, string(1), { configurable: true });
   fixedLevels(enter, run, make, makeFunction, proxy, define);
-  for (const more of [fixedFunctions, fixedFunctionAnswers, fixedFunctionRefusals, fixedValidation, fixedUnread, fixedPages]) more(enter, run, make, makeFunction, proxy, define);
+  for (const more of [fixedFunctions, fixedFunctionAnswers, fixedFunctionRefusals, fixedValidation, fixedUnread, fixedPages, fixedNames, fixedReleaseRefusals, fixedReuse]) more(enter, run, make, makeFunction, proxy, define);
 }
 
 // Steps 18 and 19.
@@ -427,7 +427,7 @@ function fixedFunctionRefusals(enter, run, make, makeFunction, proxy, define) {
     }
   }
   // 7: functions count among the 32
-  while (world.objects.length < FULL.objects) makeFunction(F);
+  while (world.live.length < FULL.objects) makeFunction(F);
   for (const value of [NULL, callable(31), callable(32)]) { run(1, 0, { value }); run(16, 0, { value }); }
   run(2, o, { value: integer(0) }); run(2, 31, { value: integer(0) }); run(4, 31);
 }
@@ -533,7 +533,7 @@ function fixedUnread(enter, run, make, makeFunction, proxy, define) {
     run(7, make(), {}, [yes]); run(7, filled(0), {}, all(2)); run(7, filled(8), {}, [no, yes]); run(7, filled(8), {}, [yes, yes]);
   }
   // 7: the 33rd object, the 257th property
-  while (world.objects.length < FULL.objects) make();
+  while (world.live.length < FULL.objects) make();
   run(1, 0, { value: NULL }, [yes]); run(16, 0, { value: NULL }, all(2)); run(2, 0, { value: integer(0) }, [thrown(c)]);
   emptied();
   const crowd = make(), last = make();
@@ -646,4 +646,246 @@ function fixedPages(enter, run, make, makeFunction, proxy, define) {
   const digits = make();
   for (const i of [255, 9, 100, 0, 10, 99]) define(digits, symbol(i), { configurable: true });
   shows(digits, undefinedLines(['y255', 'y009', 'y100', 'y000', 'y010', 'y099']));
+}
+
+// Releases: what a step ended in, a result for 0, must be what is written here.
+function endedAs(n) {
+  const { outcome, numbers, completion } = latest;
+  if (n === 0 ? outcome !== 1 || completion !== '01' + valueText(true) : outcome !== 0 || numbers !== 1 << n) throw new Error('not ' + n + ', but ' + JSON.stringify(latest));
+}
+
+// Each way of being named, and what ends it.
+function fixedNames(enter, run, make, makeFunction, proxy, define) {
+  const yes = answered(boolean(true)), s = symbol(3), t = symbol(4);
+  const open = (value) => ({ value, writable: true, enumerable: true, configurable: true });
+  const releases = (n, o, answers) => { run(17, o, {}, answers); endedAs(n); };
+  let a, b;
+  const begun = () => { emptied(); [a, b] = ['a', '7'].map(enter); make(); };
+  const over = (n, key, descriptor) => { define(n, key, descriptor); return n; };
+
+  // what names x, and the ends of it: the steps after each of which x is named still, and after the last of which it is not
+  const unset = (n) => run(5, n, { value: NULL }), gone = (n) => releases(0, n);
+  const any = [
+    [(x) => make(x), unset], [(x) => makeFunction(x), unset], [(x) => { const n = make(); run(5, n, { value: x }); return n; }, gone],
+    [(x) => { const n = makeFunction(); run(5, n, { value: x }); return n; }, (n) => run(5, n, { value: object(0) })],
+    [(x) => { const n = make(x); run(7, n); return n; }, unset, gone],                                            // it stays the prototype
+    [(x) => over(make(), a, open(x)), (n) => run(13, n, { key: a })], [(x) => over(makeFunction(), s, open(x)), (n) => define(n, s, { value: NULL })],
+    [(x) => { const n = make(); run(12, n, { key: b, value: x, receiver: object(n) }); return n; }, (n) => run(12, n, { key: b, value: a, receiver: object(n) })],
+    [(x) => over(over(make(), t, open(x)), a, open(x)), (n) => run(13, n, { key: t }), (n) => define(n, a, { get: UNDEFINED })],
+    [(x) => over(make(), a, { value: x }), (n) => run(13, n, { key: a }), (n) => define(n, a, { value: NULL }), gone],    // it is fixed
+    [(x) => { const n = over(make(x), b, open(x)); run(18, n, { value: integer(1) }); return n; }, unset, (n) => run(13, n, { key: b }), gone],
+  ];
+  const functions = [
+    [(x) => over(make(), a, { get: x, configurable: true }), (n) => define(n, a, { get: UNDEFINED })], [(x) => over(makeFunction(), s, { set: x, configurable: true }), (n) => define(n, s, { set: UNDEFINED })],
+    [(x) => over(make(), a, { get: x, set: x, configurable: true }), (n) => define(n, a, { get: UNDEFINED }), (n) => define(n, a, { set: UNDEFINED })],
+    [(x) => over(make(), a, { get: x, set: x, configurable: true }), (n) => define(n, a, { set: UNDEFINED }), (n) => define(n, a, { value: NULL })],
+    [(x) => over(make(), b, { get: x }), (n) => run(13, n, { key: b }), gone], [(x) => over(makeFunction(), b, { set: x, get: UNDEFINED }), (n) => define(n, b, { set: UNDEFINED }), gone],
+  ];
+  const own = (descriptor) => [(x) => over(payload(x), a, descriptor(x)), (n) => run(13, n, { key: a })];
+  const targets = [
+    [(x) => proxy(payload(x)), (n) => run(3, n)], [(x) => proxy(payload(x), 0), gone], [(x) => { proxy(payload(x), 0); return proxy(payload(x)); }, (n) => run(3, n), (n) => gone(n - 1)],
+    [(x) => proxy(proxy(payload(x), 0), 0), (n) => run(3, n), (n) => run(3, n - 1)],
+  ];
+  const revoked = () => { const n = proxy(0); run(3, n); return n; };
+  const cases = [
+    [[make], any.concat(targets, [own(open)])],
+    [[makeFunction, () => makeFunction(object(0))], any.concat(functions, [own(open), own((x) => ({ get: x, configurable: true })), own((x) => ({ set: x, configurable: true }))])],
+    [[() => proxy(0), revoked], any.concat(targets)],
+  ];
+  for (const [makers, namings] of cases) {
+    for (const made of makers) {
+      for (const [names, ...ends] of namings) {
+        begun();
+        const x = made(), name = named(x), by = names(name);
+        for (const end of ends) { releases(14, x); end(by); }
+        releases(0, x); releases(2, x);
+        make(); make();
+      }
+    }
+  }
+  // by several at once; the sheet's names, a receiver and an inherited property do not count
+  begun();
+  const f = makeFunction(), F = callable(f), o = make(F), p = proxy(o), O = object(o), P = object(p);
+  define(o, a, { get: F, set: F, configurable: true }); define(o, s, open(F)); define(f, a, open(P));
+  for (const n of [f, o, p]) releases(14, n);
+  run(13, f, { key: a }); run(11, p, { key: a, receiver: P }, [answered(P)]); run(12, p, { key: b, value: P, receiver: P }, [yes]);
+  releases(14, f); releases(14, o); releases(0, p); releases(0, o); releases(0, f);
+  // an object that names itself, straight and through a proxy; two and three that name one another
+  begun();
+  const self = make(), selves = makeFunction();
+  define(self, a, open(object(self))); releases(14, self); define(self, a, { value: NULL }); releases(0, self);
+  define(selves, a, { get: callable(selves), set: callable(selves), configurable: true }); define(selves, b, open(callable(selves))); releases(14, selves);
+  define(selves, a, { value: NULL }); releases(14, selves); run(13, selves, { key: b }); releases(0, selves);
+  const fixed = make();
+  define(fixed, a, { value: object(fixed) }); run(7, fixed); releases(14, fixed); run(13, fixed, { key: a }); releases(14, fixed);
+  begun();
+  const one = make(), two = make(object(one)), three = proxy(two);
+  define(one, a, open(object(two))); releases(14, one); releases(14, two); releases(0, three); releases(14, two); run(13, one, { key: a }); releases(14, one); releases(0, two); releases(0, one);
+  const ring = make(), back = proxy(ring, 0);
+  run(5, ring, { value: object(back) }); releases(14, ring); releases(14, back); run(10, ring, { key: a }); run(3, back); releases(14, back); releases(0, ring); releases(0, back);
+}
+
+// Refusals of step 17 in their order, and a released number in every place.
+function fixedReleaseRefusals(enter, run, make, makeFunction, proxy, define) {
+  const yes = answered(boolean(true)), s = symbol(3);
+  const open = (value) => ({ value, writable: true, enumerable: true, configurable: true });
+  const releases = (n, o, answers) => { run(17, o, {}, answers); endedAs(n); };
+
+  emptied();
+  const a = enter('a'), o = make(), named = make(), f = makeFunction(), free = make(), gone = make(), F = callable(f);
+  define(o, a, open(object(named))); releases(0, gone);
+  // 1, then 2, then 14, over the step; then the sheet's
+  const sheets = [[1, []], [1, [65]], [1, [1, 0]], [1, [1, 1].concat(ZERO, [0])], [2, sheetBytes([answered(object(gone))])], [2, sheetBytes([answered(callable(99))])], [3, sheetBytes([answered(callable(o))])],
+    [3, sheetBytes([thrown(string(99))])], [3, sheetBytes([listed([symbol(256)])])]];
+  for (const n of [named, free, gone, 32, 255]) {
+    const step = stepBytes({ code: 17, object: n });
+    for (const bytes of [step.slice(0, 57), step.concat([0]), stepBytes({ code: 17, object: n, key: a }), stepBytes({ code: 17, object: n, value: integer(0) }), stepBytes({ code: 17, object: n, value: NULL }), stepBytes({ code: 17, object: n, receiver: F }), stepBytes({ code: 17, object: n, descriptor: { get: NULL } }), stepBytes({ code: 17, object: n, descriptor: { enumerable: false } })]) {
+      doStep(bytes, [0], 9); endedAs(1); doStep(bytes, [], 0); endedAs(1);
+    }
+    for (const [number, bytes] of sheets) { doStep(step, bytes, 9); endedAs(n === named ? 14 : n === free ? number : 2); }
+  }
+  releases(14, named, [yes]); releases(2, gone, [yes]); releases(14, named, [answered(object(named))]);
+  // 13, then the release; its sheet may name it
+  const spare = make();
+  if (spare !== gone) throw new Error('the released number is not taken');
+  releases(0, spare, [yes]); run(1, 0, { value: NULL }, [yes]); releases(0, spare, [thrown(object(spare)), listed([a])]); releases(0, free, Array.from({ length: FULL.answers }, () => yes)); releases(2, free);
+  // the output is not used
+  run(17, make(), {}, [], 0); endedAs(0); run(17, make(), {}, [], 100); endedAs(0); run(17, named, {}, [], 100); endedAs(14);
+
+  // each part of a step, a sheet, a descriptor by itself, a page: the number of an object, of a function and of a proxy
+  emptied();
+  const key = enter('a'), base = make(), g = makeFunction(), G = callable(g), p = proxy(base), P = object(p);
+  const left = [make(), makeFunction(), proxy(base)];
+  for (const n of left) releases(0, n);
+  const whole = { value: G, writable: true, enumerable: true, configurable: true };
+  for (const n of left) {
+    for (let code = 3; code <= 19; code++) if (code !== 15 && code !== 16) run(code, n, { key: code > 7 && code < 14 ? key : ZERO, value: code === 5 ? NULL : code > 17 ? integer(1) : ZERO });
+    run(2, n, { value: integer(0) }); run(9, n, { key, descriptor: whole }); run(12, n, { key, value: G, receiver: P }); run(4, n, {}, [yes]);
+    refusesPage(2, objectNumber(n), [0, 47, 100]);
+    for (const v of [object(n), callable(n)]) {
+      const two = (...parts) => { run(...parts); endedAs(2); };
+      for (const code of [1, 16]) two(code, 0, { value: v });
+      for (const at of [base, g, p]) {
+        two(5, at, { value: v }); two(10, at, { key: v }); two(11, at, { key, receiver: v }); two(11, at, { key: v, receiver: G }); two(12, at, { key, value: v, receiver: G }); two(12, at, { key, value: G, receiver: v });
+        two(18, at, { value: v }); two(19, at, { value: v }); two(12, at, { key: string(99), value: v, receiver: NULL });
+        for (const d of [{ value: v }, { get: v }, { set: v }, { get: G, set: v }, { value: NULL, get: v }]) two(9, at, { key, descriptor: d });
+        for (const given of [answered(v), thrown(v), listed([v]), listed([key, v]), described({ value: v }), described({ get: v }), described({ get: NULL, set: v })]) { two(6, at, {}, [given]); two(6, at, {}, [yes, given]); two(10, at, { key }, [given]); }
+      }
+      two(2, base, { value: v }); two(16, 0, { value: NULL }, [answered(v)]); two(3, p, {}, [listed([v])]); two(17, p, {}, [thrown(v)]);
+      for (const d of [{ value: v }, { get: v }, { set: v, value: NULL }]) {
+        doAlone(3, descriptorBytes(d), []); endedAs(2);
+        for (const kind of [4, 5, 6]) {
+          doAlone(kind, descriptorBytes(d), descriptorBytes(whole)); endedAs(2); doAlone(kind, descriptorBytes(whole), descriptorBytes(Object.assign({ enumerable: true, configurable: true }, d))); endedAs(2);
+        }
+      }
+    }
+  }
+  // taken again, as another kind of object: its own name alone is right then
+  const again = [makeFunction(), proxy(base), make()];
+  if (again.join() !== left.join()) throw new Error('other numbers were taken');
+  for (const n of again) {
+    for (const v of [object(n), callable(n)]) { run(11, base, { key, receiver: v }); run(5, base, { value: v }); run(5, base, { value: NULL }); run(6, base, {}, [answered(v)]); run(9, g, { key, descriptor: { get: v, configurable: true } }); run(13, g, { key }); }
+    run(4, n, {}, [answered(NULL)]); run(14, n, {}, [listed([])]); run(3, n); run(2, n, { value: integer(0) });
+  }
+}
+
+// Numbers taken again, what is freed, and 32 live objects.
+function fixedReuse(enter, run, make, makeFunction, proxy, define) {
+  const yes = answered(boolean(true)), no = answered(boolean(false)), s = symbol(3);
+  const open = (value) => ({ value, writable: true, enumerable: true, configurable: true });
+  const releases = (n, o, answers) => { run(17, o, {}, answers); endedAs(n); };
+  const takes = (n, o) => { if (o !== n || latest.outcome !== 1) throw new Error('number ' + o + ' and not ' + n + ' is taken'); return o; };
+  const full = () => { for (const code of [1, 16]) { run(code, 0, { value: NULL }); endedAs(7); run(code, 0, { value: NULL }, [yes]); endedAs(7); } };
+
+  // the number released longest ago: not the last, the lowest or the highest
+  emptied();
+  let a = enter('a');
+  for (let n = 0; n < 6; n++) takes(n, make());
+  for (const n of [3, 1, 4]) releases(0, n);
+  takes(3, make()); takes(1, makeFunction()); releases(0, 0); takes(4, make()); releases(0, 3); takes(0, proxy(5)); takes(3, make()); takes(6, make());
+  releases(14, 5); releases(0, 0); releases(0, 5); releases(0, 6); takes(0, makeFunction()); takes(5, make(callable(0))); takes(6, proxy(5, 0)); takes(7, make());
+  // released and taken over and over: more than 32 times, among others that wait
+  for (let turn = 0; turn < 40; turn++) { releases(0, 7); releases(0, 1); takes(7, make()); takes(1, makeFunction()); }
+  for (let turn = 0; turn < 12; turn++) { const n = [2, 3, 4][turn % 3]; releases(0, n); if (turn > 0) takes([2, 3, 4][(turn - 1) % 3], make()); }
+  // none live; strings stay
+  for (const n of [6, 5, 0, 2, 1, 3, 7]) releases(0, n);
+  refusesPage(2, objectNumber(0), [0, 47]); run(6, 0); run(4, 7); enter('a'); enter('b');
+  for (const n of [4, 6, 5, 0, 2, 1, 3, 7, 8]) takes(n, make());
+  shows(4, []);
+
+  // an old number's new object has nothing of the old one: extensible, its own prototype, no properties, callable or not, its own traps
+  emptied();
+  const [b, c] = ['b', 'c'].map(enter), old = make(), after = make(), F = callable(makeFunction());
+  define(old, b, { value: integer(70000) }); define(after, b, open(integer(1))); define(old, c, { get: F, set: F }); define(after, c, open(integer(2))); run(18, old, { value: integer(1) });
+  shows(old, ['s000 ... 037011010000000000', 's001 ..- 080200000000000000 080200000000000000']);
+  releases(0, old); takes(old, makeFunction(object(after))); run(6, old); run(4, old); run(8, old, { key: b }); run(11, old, { key: b, receiver: NULL }); run(14, old); shows(old, []);
+  define(old, b, open(integer(3))); shows(old, ['s000 ecw 030300000000000000']); shows(after, ['s000 ecw 030100000000000000', 's001 ecw 030200000000000000']); run(11, old, { key: c, receiver: callable(old) });
+  releases(0, old); takes(old, proxy(after, 128)); run(11, old, { key: b, receiver: NULL }, [answered(a)]); run(11, old, { key: b, receiver: NULL }); run(10, old, { key: b }); run(14, old); refusesPage(3, objectNumber(old), [100]);
+  releases(0, old); takes(old, proxy(after, 64)); run(11, old, { key: b, receiver: NULL }); run(10, old, { key: b }, [yes]); run(10, old, { key: b }); run(3, old); run(10, old, { key: b });
+  releases(0, old); takes(old, make()); run(10, old, { key: b }); run(3, old); define(old, s, open(NULL)); run(14, old); run(5, old, { value: object(after) }); run(11, old, { key: b, receiver: object(old) });
+  // the order of what is left: rows of the released object stood among the others
+  const order = make(), away = make();
+  for (const key of [c, s, b, symbol(9), symbol(2)]) { define(away, key, open(NULL)); define(order, key, open(key)); define(away, symbol(100 + key[1]), open(NULL)); }
+  releases(0, away); run(14, order, {}, [], 45); shows(order, ['s001 ecw 050100000000000000', 's000 ecw 050000000000000000', 'y003 ecw 060300000000000000', 'y009 ecw 060900000000000000', 'y002 ecw 060200000000000000']);
+  takes(away, make(object(order))); shows(away, []); define(away, b, open(NULL)); define(order, symbol(1), open(NULL)); run(13, order, { key: s }); run(14, order, {}, [], 45); run(14, away); run(10, away, { key: c });
+
+  // a prototype and a target with a higher number; step 18 through it, refused midway and not; a ring; 10
+  emptied();
+  a = enter('a');
+  const low = make(), lower = make(), high = make(), higher = make();
+  releases(0, low); releases(0, lower); define(high, a, open(integer(1))); define(high, s, open(integer(2)));
+  takes(low, proxy(high, 32)); takes(lower, make(object(higher)));
+  run(11, low, { key: a, receiver: NULL }); run(18, low, { value: integer(1) }, [no]); run(6, high); run(5, higher, { value: object(lower) }); run(4, lower); releases(14, high); releases(14, higher);
+  const third = make();
+  define(third, a, open(object(low))); define(third, s, open(integer(3)));
+  const lists = proxy(third, 16);
+  run(18, lists, { value: integer(1) }, [described(open(object(low)))]); run(6, third); run(18, lists, { value: integer(1) }, [described(open(object(low))), described(open(integer(3)))]); run(19, third, { value: integer(1) });
+  run(5, higher, { value: object(low) }); run(10, lower, { key: symbol(8) }); run(5, high, { value: object(lower) }); run(10, lower, { key: symbol(8) }); run(11, lower, { key: a, receiver: object(lower) });
+
+  // a revoked proxy names nothing: its target is released, and its number taken by an object that the proxy never sees
+  emptied();
+  a = enter('a');
+  const target = make(), p = proxy(target);
+  define(target, a, open(integer(70000))); releases(14, target); run(3, p); releases(0, target); releases(2, target);
+  const methods = (n, answers) => {
+    for (let code = 4; code <= 14; code++) run(code, n, { key: code > 7 && code < 14 ? a : ZERO, value: code === 5 ? NULL : ZERO }, answers);
+    for (const code of [18, 19]) run(code, n, { value: integer(0) }, answers);
+  };
+  methods(p); run(3, p); takes(target, make()); define(target, a, open(integer(4464))); methods(p); releases(0, target); takes(target, makeFunction()); releases(0, target);
+  takes(target, proxy(p)); methods(target, [yes]); releases(14, p); run(3, p); run(3, target); releases(0, p); methods(target); releases(0, target); takes(p, make()); takes(target, make());
+  // over a proxy that is not revoked, whose target is: the inner one is named, and then not
+  const base = make(), inner = proxy(base), outer = proxy(inner, 0);
+  run(3, inner); releases(0, base); releases(14, inner); methods(outer); run(3, outer); releases(0, inner); releases(0, outer);
+  // step 18 that is refused midway, while a revoked proxy's target is gone
+  takes(base, make()); const q = takes(inner, proxy(base)); run(3, q); const held = takes(outer, make()); releases(0, base); define(held, a, open(object(q))); const over = takes(base, proxy(held, 32));
+  run(18, over, { value: integer(1) }); run(6, held); run(18, over, { value: integer(1) }, [no]); run(6, held); releases(14, q);
+
+  // 7: 32 live ones, however many were made
+  emptied();
+  a = enter('a');
+  for (let n = 0; n < FULL.objects; n++) takes(n, n % 3 === 2 ? proxy(0, n) : n % 3 === 1 ? makeFunction() : make());
+  full(); run(2, 0, { value: integer(0) }); endedAs(7); releases(14, 0); full();
+  for (const n of [31, 7, 1]) { releases(0, n); }
+  takes(31, make()); takes(7, makeFunction()); takes(1, proxy(3)); full();
+  for (let turn = 0; turn < 6; turn++) { releases(0, 4 + turn); takes(4 + turn, turn % 2 ? make() : proxy(3, 0)); full(); run(2, 3, { value: integer(0) }); endedAs(7); }
+  // all of them, and all again in that order; what is named waits
+  const all = [];
+  while (world.live.length > 0) { const n = world.live.filter((x) => waysNamed(x).size === 0).sort((x, y) => 7 * x % 32 - 7 * y % 32)[0]; releases(0, n); all.push(n); }
+  for (const n of all) takes(n, n % 2 ? makeFunction() : make());
+  full(); releases(0, 17); releases(0, 16); run(1, 0, { value: callable(17) }); run(1, 0, { value: NULL }, [yes]); takes(16, proxy(0)); full();
+
+  // 256 properties: what was released makes room
+  emptied();
+  const crowd = make(), other = make(), last = make();
+  for (let i = 0; i < FULL.strings; i++) doEnter('k' + i);
+  for (let i = 0; i < FULL.properties; i++) define(i % 4 === 3 ? crowd : other, string(i), open(integer(i)));
+  define(last, string(0), open(NULL)); endedAs(7); run(12, other, { key: string(3), value: NULL, receiver: object(other) }); endedAs(7);
+  define(other, string(0), open(object(crowd))); releases(14, crowd); define(other, string(0), open(integer(0))); define(last, string(0), open(NULL)); endedAs(7);
+  releases(0, crowd);
+  const rest = Array.from({ length: FULL.properties }, (_, i) => i).filter((i) => i % 4 !== 3);
+  shows(other, rest.map((i) => 's' + threeDigits(i) + ' ecw 03' + HEX[i] + '0'.repeat(14))); run(14, other, {}, [], 9 * rest.length);
+  for (let i = 0; i < 64; i++) { define(last, string(i), open(integer(i))); endedAs(0); }
+  define(last, string(64), open(NULL)); endedAs(7); takes(crowd, make()); shows(crowd, []); define(crowd, string(3), open(NULL)); endedAs(7);
+  releases(0, last); define(crowd, string(3), open(NULL)); endedAs(0); releases(0, other); takes(last, makeFunction()); takes(other, make()); shows(last, []); shows(other, []);
+  define(other, string(255), open(string(1))); endedAs(0); shows(crowd, ['s003 ecw 010000000000000000']); shows(other, ['s255 ecw 050100000000000000']); run(14, other);
 }

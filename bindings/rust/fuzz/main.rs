@@ -48,12 +48,12 @@ fn damaged_memory(generator: &mut Generator, pair: &mut Pair) {
     let (words, strings) = (pair.words.clone(), pair.strings.clone());
     let mut output = vec![0; 9 * 256];
     let refused_as_1 = [0, 1, 0, 0, 0, 0, 0, 0, 0, 0];
-    for size in [0, 1, 2, 1634, 1636] {
+    for size in [0, 1, 2, 1635, 1669, 1671] {
         pair.words = vec![0; size].into();
         assert_eq!(pair.step_library(&step, &[0], &mut output), refused_as_1);
         assert!(pair.words.iter().all(|w| *w == 0));
     }
-    for count in [(0, 33), (1, 257), (0, u64::MAX), (1, u64::MAX)] {
+    for count in [(0, 33), (1, 257), (3, 1 << 32), (4, 33), (0, u64::MAX), (1, u64::MAX), (3, u64::MAX), (4, u64::MAX)] {
         pair.words = words.clone();
         pair.words[count.0] = count.1;
         assert_eq!(pair.step_library(&step, &[0], &mut output), refused_as_1);
@@ -70,7 +70,7 @@ fn damaged_memory(generator: &mut Generator, pair: &mut Pair) {
         pair.words = words.clone();
         pair.strings = strings.clone();
         for _ in 0..1 + generator.random.below(20) {
-            let at = generator.random.below(1635);
+            let at = generator.random.below(1670);
             pair.words[at] = generator.random.next() >> generator.random.below(64);
             let at = generator.random.below(8449);
             pair.strings[at] = generator.random.next() as u16;
@@ -156,17 +156,19 @@ fn main() {
     let (tally, bytes) = work.unwrap().join().unwrap();
     println!("{} calls and {bytes} bytes of text in {:.1} s, no difference", tally.calls, start.elapsed().as_secs_f64());
     println!("results {}, thrown {}", tally.results, tally.thrown);
-    println!("refusals 1 to 13, of which 12 is of texts: {:?}", &tally.refusals[1..]);
+    println!("refusals 1 to 14, of which 12 is of texts: {:?}", &tally.refusals[1..]);
     println!("messages 1 to 32: {:?}", &tally.messages[1..]);
     println!("validations by the first test that failed, 0 (none) to 8: {:?}", tally.tests);
     println!("steps of each code: {:?}", tally.steps().collect::<Vec<_>>());
     println!("pages, and how often they were refused: {:?}", tally.pages);
     println!("functions, where they came and where they were refused: {:?}", tally.functions);
+    println!("releases, numbers that were taken again, and what was refused: {:?}", tally.releases);
     println!("steps of code 18 that changed the store and ended in a TypeError or a throw: {}", tally.midway);
     if count >= 100_000 {
         assert_eq!(tally.missing(), (vec![], vec![]), "refusals and messages that never came");
         assert!(tally.tests.iter().all(|n| *n > 0), "tests of validation that never failed");
         assert!(tally.functions.all(), "places of functions that never came");
         assert!(tally.pages.all(), "pages or refusals of them that never came");
+        assert!(tally.releases.all(), "releases or refusals of them that never came");
     }
 }

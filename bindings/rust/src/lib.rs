@@ -4,7 +4,7 @@
 //! which turns values into records and reports into values, is not proved but tested.
 //!
 //! A [`Store`] holds objects, properties and strings. A [`Step`] calls one of the essential internal methods of an object, makes an object, a
-//! function or a proxy, seals or freezes an object, or tests whether it is so. A proxy's handler is a set of [`Traps`] and, for each step, a list of
+//! function or a proxy, releases one, seals or freezes an object, or tests whether it is so. A proxy's handler is a set of [`Traps`] and, for each step, a list of
 //! [`Answer`]s: each call of a trap, a getter or a setter takes the next one. What comes back is a [`Report`]. [`Store::page`] lists an object's
 //! properties as text. A [`TextReader`] takes steps as lines of text and gives a row for each.
 //!

@@ -9,6 +9,7 @@
 //!         | "function" [prototype]                            makes a function; likewise
 //!         | "proxy" object ["traps" trap {"," trap}]          makes a proxy; traps by the names below, "all" or a mask
 //!         | "revoke" object
+//!         | "release" object
 //!         | "getPrototypeOf" object
 //!         | "setPrototypeOf" object prototype
 //!         | "isExtensible" object
@@ -385,6 +386,7 @@ const NAMES: &[&str] = &[
     "function",
     "proxy",
     "revoke",
+    "release",
     "getPrototypeOf",
     "setPrototypeOf",
     "isExtensible",
@@ -502,6 +504,7 @@ impl Parser<'_> {
             "function" => Step::MakeFunction { prototype: self.prototype_or_none()? },
             "proxy" => Step::MakeProxy { target: self.object()?, traps: if self.took("traps") { self.traps()? } else { Traps::NONE } },
             "revoke" => Step::Revoke { proxy: self.object()? },
+            "release" => Step::Release { object: self.object()? },
             "getPrototypeOf" => Step::GetPrototypeOf { object: self.object()? },
             "setPrototypeOf" => Step::SetPrototypeOf { object: self.object()?, prototype: self.prototype()? },
             "isExtensible" => Step::IsExtensible { object: self.object()? },

@@ -126,6 +126,7 @@ pub(crate) fn step_on(step: &Step, object: &str, strings: &Strings) -> String {
         Step::MakeProxy { traps: Traps::NONE, .. } => format!("proxy {object}"),
         Step::MakeProxy { traps, .. } => format!("proxy {object} traps {traps}"),
         Step::Revoke { .. } => format!("revoke {object}"),
+        Step::Release { .. } => format!("release {object}"),
         Step::GetPrototypeOf { .. } => format!("getPrototypeOf {object}"),
         Step::SetPrototypeOf { prototype, .. } => format!("setPrototypeOf {object} {}", prototype.map_or(Value::Null, Value::from)),
         Step::IsExtensible { .. } => format!("isExtensible {object}"),

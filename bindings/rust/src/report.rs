@@ -32,7 +32,7 @@ pub const REPORT_WORDS: usize = 10;
 pub enum Refusal {
     /// 1: the bytes are no step, sheet or descriptor, or the memory is no store or table.
     MalformedRecord = 1,
-    /// 2: the number of an object or of a function that is not there.
+    /// 2: the number of an object or of a function that is not there: it was never made, or it was released.
     ObjectNeverMade = 2,
     /// 3: a string was not entered or is too long, a function is named as another object or another object as a function, a part has a kind, or is
     /// an object, that its step cannot use, or a page is asked of a proxy.
@@ -43,7 +43,7 @@ pub enum Refusal {
     IncompleteCurrent = 5,
     /// 6: of the descriptors to be merged one is data and the other an accessor.
     DifferentKinds = 6,
-    /// 7: there is no room for another object, function, property or string.
+    /// 7: there is no room for another object, function, property or string. Of objects and functions the live ones count.
     StoreFull = 7,
     /// 8: an answer is asked for, and none is left.
     SheetSpent = 8,
@@ -57,6 +57,9 @@ pub enum Refusal {
     BrokenLine = 12,
     /// 13: the step ends, in a result, a TypeError or a throw, and an answer was not read. It comes after 7 to 10, and before 11.
     UnreadAnswers = 13,
+    /// 14: the object to be released is still named by a live object, itself included: as its prototype, as the value, getter or setter of a property,
+    /// or as the target of a proxy that is not revoked. It comes after 3, and before 4.
+    StillNamed = 14,
 }
 
 impl Refusal {
@@ -81,6 +84,7 @@ impl Refusal {
         Refusal::OutputTooSmall,
         Refusal::BrokenLine,
         Refusal::UnreadAnswers,
+        Refusal::StillNamed,
     ];
 
     /// The number: 1 for the first.
@@ -119,6 +123,7 @@ impl fmt::Display for Refusal {
             Refusal::OutputTooSmall => "the output is too small",
             Refusal::BrokenLine => "the line breaks its form or is too long",
             Refusal::UnreadAnswers => "the sheet has unread answers",
+            Refusal::StillNamed => "the object is still named",
         })
     }
 }

@@ -363,6 +363,12 @@ pub enum Step {
         /// The object.
         object: ObjectId,
     },
+    /// Releases an object, a function or a proxy that no object names, with its properties: its number counts as never made, until a new object takes
+    /// it.
+    Release {
+        /// The object.
+        object: ObjectId,
+    },
     /// SetIntegrityLevel: seals or freezes an object.
     ///
     /// Unlike any other step it can change the store without a result: what was changed before a TypeError or a throw stays changed.
@@ -410,6 +416,7 @@ impl Step {
             | Step::Set { object, .. }
             | Step::Delete { object, .. }
             | Step::OwnPropertyKeys { object }
+            | Step::Release { object }
             | Step::SetIntegrityLevel { object, .. }
             | Step::TestIntegrityLevel { object, .. } => Some(object),
         }
@@ -434,6 +441,7 @@ impl Step {
             Step::Delete { .. } => 13,
             Step::OwnPropertyKeys { .. } => 14,
             Step::MakeFunction { .. } => 16,
+            Step::Release { .. } => 17,
             Step::SetIntegrityLevel { .. } => 18,
             Step::TestIntegrityLevel { .. } => 19,
         }
@@ -464,7 +472,8 @@ impl Step {
             | Step::GetPrototypeOf { .. }
             | Step::IsExtensible { .. }
             | Step::PreventExtensions { .. }
-            | Step::OwnPropertyKeys { .. } => (None, None, None, None),
+            | Step::OwnPropertyKeys { .. }
+            | Step::Release { .. } => (None, None, None, None),
             Step::GetOwnProperty { key, .. } | Step::HasProperty { key, .. } | Step::Delete { key, .. } => (Some(key), None, None, None),
             Step::DefineOwnProperty { key, descriptor, .. } => (Some(key), None, None, Some(descriptor)),
             Step::Get { key, receiver, .. } => (Some(key), None, Some(receiver), None),

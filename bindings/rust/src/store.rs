@@ -7,7 +7,7 @@ use crate::validation::{Validation, ValidationTest};
 use crate::value::{FunctionId, ObjectId, PropertyKey, Prototype, StringId, Value};
 
 /// How many words a store has.
-pub const STORE_WORDS: usize = 1635;
+pub const STORE_WORDS: usize = 1670;
 
 /// How many 16-bit cells a table of strings has.
 pub const STRING_CELLS: usize = 8449;
@@ -21,7 +21,7 @@ pub const PAGE_LINE_BYTES: usize = 47;
 /// How many bytes hold the longest page: the names and a line for each property.
 pub const PAGE_BYTES: usize = (1 + MAXIMUM_PROPERTIES) * PAGE_LINE_BYTES;
 
-/// How many objects a store can hold, functions and proxies included.
+/// How many live objects a store can hold, functions and proxies included.
 pub const MAXIMUM_OBJECTS: usize = 32;
 
 /// How many properties the objects of a store can have between them.
@@ -42,7 +42,7 @@ pub const MAXIMUM_KEYS: usize = 256;
 /// How many calls of internal methods a step can make.
 pub const MAXIMUM_CALLS: usize = 2048;
 
-/// At most [`MAXIMUM_OBJECTS`] objects with [`MAXIMUM_PROPERTIES`] properties between them, and [`MAXIMUM_STRINGS`] strings of at most
+/// At most [`MAXIMUM_OBJECTS`] live objects with [`MAXIMUM_PROPERTIES`] properties between them, and [`MAXIMUM_STRINGS`] strings of at most
 /// [`MAXIMUM_UNITS`] code units.
 ///
 /// Two stores are equal if their memory is: the same calls from [`Store::new`] give equal stores.
@@ -72,7 +72,8 @@ impl Default for Store {
 
 impl std::fmt::Debug for Store {
     fn fmt(&self, f: &mut std::fmt::Formatter<'_>) -> std::fmt::Result {
-        f.debug_struct("Store").field("objects", &self.words[0]).field("properties", &self.words[1]).field("strings", &self.strings[0]).finish()
+        let (objects, properties, strings) = (self.object_count(), self.property_count(), self.string_count());
+        f.debug_struct("Store").field("objects", &objects).field("properties", &properties).field("strings", &strings).finish()
     }
 }
 
@@ -179,10 +180,11 @@ impl Store {
         self.string_units(s).map(String::from_utf16_lossy)
     }
 
-    /// How many objects were made, functions and proxies included.
+    /// How many objects there are, functions and proxies included: those made, without those released.
     #[must_use]
     pub fn object_count(&self) -> usize {
-        self.words[0] as usize
+        // a bit for each live object
+        self.words[3].count_ones() as usize
     }
 
     /// How many properties there are.
@@ -282,6 +284,34 @@ impl Store {
     /// ```
     pub fn revoke(&mut self, proxy: impl Into<ObjectId>) -> Result<(), Failure> {
         self.step(&Step::Revoke { proxy: proxy.into() }, &[]).into_boolean().map(|_| ())
+    }
+
+    /// Releases an object, a function or a proxy that no object names, and with it its properties. Its number counts as never made from then on. The
+    /// next object made takes the number that was released longest ago or, with none released, the next unused one.
+    ///
+    /// # Errors
+    /// A refusal: [`Refusal::StillNamed`] where a live object, itself included, has it as its prototype, as the value, getter or setter of a property
+    /// or, where that is a proxy that is not revoked, as its target.
+    ///
+    /// ```
+    /// use demnyaluz::{Failure, Refusal, Store, Traps};
+    ///
+    /// let mut store = Store::new();
+    /// let (exhibit, other) = (store.make_object(None)?, store.make_object(None)?);
+    /// let proxy = store.make_proxy(exhibit, Traps::NONE)?;
+    /// assert_eq!(store.release(exhibit), Err(Failure::Refused(Refusal::StillNamed)));
+    /// // a revoked proxy names nothing
+    /// store.revoke(proxy)?;
+    /// store.release(exhibit)?;
+    /// assert_eq!(store.is_extensible(exhibit, &[]), Err(Failure::Refused(Refusal::ObjectNeverMade)));
+    /// store.release(other)?;
+    /// // the numbers are taken again, in the order in which they were released
+    /// let next = [store.make_object(None)?, store.make_object(None)?, store.make_object(None)?];
+    /// assert_eq!(next.map(|o| o.0), [exhibit.0, other.0, 3]);
+    /// # Ok::<(), demnyaluz::Failure>(())
+    /// ```
+    pub fn release(&mut self, object: impl Into<ObjectId>) -> Result<(), Failure> {
+        self.step(&Step::Release { object: object.into() }, &[]).into_boolean().map(|_| ())
     }
 
     /// \[\[GetPrototypeOf]]; none is null.

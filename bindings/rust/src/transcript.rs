@@ -56,6 +56,11 @@ impl Transcript {
             }
             Call::Step { step: Step::MakeProxy { .. }, .. } => self.proxies.extend(outcome.object),
             Call::Step { step: Step::MakeFunction { .. }, .. } => self.functions.extend(outcome.object),
+            Call::Step { step: Step::Release { object }, .. } if report.outcome.is_ok() => {
+                // the number may be that of another object next
+                self.proxies.retain(|o| o != object);
+                self.functions.retain(|o| o != object);
+            }
             Call::Step { .. } => {}
         }
         if let Some(lines) = &mut self.last {
@@ -94,7 +99,7 @@ impl Transcript {
         failed.filter(|_| !self.differs)
     }
 
-    /// What an object is called: `f1` where a function was made by this number.
+    /// What an object is called: `f1` where the number is that of a function.
     fn name(&self, o: ObjectId) -> String {
         if self.functions.contains(&o) {
             FunctionId(o.0).to_string()

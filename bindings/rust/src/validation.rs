@@ -2,7 +2,7 @@
 use crate::descriptor::{Property, PropertyDescriptor};
 use crate::report::{Completion, Failure, Message, Refusal, Report};
 use crate::step::{Answer, Step, Traps};
-use crate::store::Store;
+use crate::store::{Store, MAXIMUM_OBJECTS};
 use crate::value::{ObjectId, PropertyKey, Value};
 use std::fmt;
 
@@ -162,23 +162,23 @@ impl Store {
     fn rejection(&mut self, step: &Step, report: Report, answers: &[Answer]) -> Option<ValidationTest> {
         match (*step, report.outcome) {
             (Step::DefineOwnProperty { object, key, descriptor }, Ok(Completion::Value(Value::Boolean(false)))) => {
-                match self.reached(object, Traps::DEFINE_PROPERTY) {
+                match self.reached(object, Traps::DEFINE_PROPERTY)? {
                     Reached::Ordinary(object) => self.first_failed(object, key, &descriptor, &[]),
                     Reached::Trap(_) => None,
                 }
             }
             (Step::DefineOwnProperty { object, key, descriptor }, Err(Failure::TypeError(Message::DefinedUnexpectedValue))) => {
-                let target = self.reached(object, Traps::DEFINE_PROPERTY).target()?;
+                let target = self.reached(object, Traps::DEFINE_PROPERTY)?.target()?;
                 self.first_failed(target, key, &descriptor, answers.get(1..)?)
             }
             // after its own trap's answer, a trap of the target's property
             (Step::DefineOwnProperty { object, key, .. }, Err(Failure::TypeError(Message::UnexpectedProperty))) => {
-                let target = self.reached(object, Traps::DEFINE_PROPERTY).target()?;
+                let target = self.reached(object, Traps::DEFINE_PROPERTY)?.target()?;
                 self.rejection_of_property(target, key, answers.get(1..)?)
             }
             (Step::GetOwnProperty { object, key }, Err(Failure::TypeError(Message::UnexpectedProperty))) => {
                 let (answer, rest) = answers.split_first()?;
-                let target = self.reached(object, Traps::GET_OWN_PROPERTY_DESCRIPTOR).target()?;
+                let target = self.reached(object, Traps::GET_OWN_PROPERTY_DESCRIPTOR)?.target()?;
                 // the target is asked first, and may have a trap too
                 self.rejection_of_property(target, key, rest).or_else(|| {
                     let Answer::Descriptor(answered) = answer else { return None };
@@ -206,20 +206,24 @@ impl Store {
         self.validate(extensible, descriptor, current.as_ref()).ok()?.failed
     }
 
-    /// Where a call ends that proxies without its trap hand on.
-    fn reached(&self, mut object: ObjectId, trap: Traps) -> Reached {
+    /// Where a call ends that proxies without its trap hand on: at a live object, none where it comes to a revoked proxy.
+    fn reached(&self, mut object: ObjectId, trap: Traps) -> Option<Reached> {
         loop {
+            let number = usize::from(object.0);
+            // a bit for each live object
+            if number >= MAXIMUM_OBJECTS || self.words()[3] >> number & 1 == 0 {
+                return None;
+            }
             // three words for each object: 2 and 3 are a proxy and a revoked one, then target and traps
-            let at = 3 + 3 * usize::from(object.0);
-            let [kind, target, traps] = [0, 1, 2].map(|i| self.words()[at + i]);
-            if kind < 2 {
-                return Reached::Ordinary(object);
-            }
+            let [kind, target, traps] = [0, 1, 2].map(|i| self.words()[38 + 3 * number + i]);
             let target = ObjectId(target as u8);
-            if traps & u64::from(trap.mask()) != 0 {
-                return Reached::Trap(target);
+            match kind {
+                0 | 1 => return Some(Reached::Ordinary(object)),
+                2 if traps & u64::from(trap.mask()) != 0 => return Some(Reached::Trap(target)),
+                2 => object = target,
+                // its target may have been released, and the number may be that of another object
+                _ => return None,
             }
-            object = target;
         }
     }
 }

@@ -20,7 +20,8 @@ macro_rules! numbers {
 }
 
 numbers! {
-    /// An object of the store, by its number in the order made: an ordinary object, a function or a proxy.
+    /// An object of the store, by its number: an ordinary object, a function or a proxy. Numbers are those of the order made, until objects are
+    /// released: what is made then takes the number that was released longest ago, so a number may name one object and later another.
     ///
     /// As a value it names an object that is no function; a value that names a function is a [`FunctionId`].
     ///

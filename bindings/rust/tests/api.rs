@@ -190,9 +190,10 @@ fn refusals_have_numbers_and_texts() {
         assert_eq!(Refusal::from_number(i as u64 + 1), Some(r));
         assert!(!r.to_string().is_empty());
     }
-    assert_eq!((Refusal::from_number(0), Refusal::from_number(14)), (None, None));
+    assert_eq!((Refusal::from_number(0), Refusal::from_number(15)), (None, None));
     assert_eq!(Failure::Refused(Refusal::SheetSpent).to_string(), "refused 8: the sheet has no next answer");
     assert_eq!(Failure::Refused(Refusal::UnreadAnswers).to_string(), "refused 13: the sheet has unread answers");
+    assert_eq!(Failure::Refused(Refusal::StillNamed).to_string(), "refused 14: the object is still named");
 }
 
 #[test]
@@ -865,7 +866,7 @@ fn a_refusal_brings_back_the_store() {
     assert_ne!(store, before);
 }
 
-/// Levels are 0 and 1 as Integer32, and 15, 17 and what is above 19 are no codes.
+/// Levels are 0 and 1 as Integer32, and 15 and what is above 19 are no codes; code 17 has no level.
 #[test]
 fn steps_of_another_level_or_code_are_refused() {
     let (mut store, o, _) = exhibit();
@@ -950,7 +951,118 @@ fn functions_are_numbered_among_the_objects() {
     }
     assert_eq!((store.object_count(), store.property_count()), (7, 0));
     // the marks of the functions, after the two counts
-    assert_eq!(store.words()[..3], [7, 0, 0b111_1001]);
+    assert_eq!(store.words()[..4], [7, 0, 0b111_1001, 0b111_1111]);
+}
+
+/// What is released is as if it had never been made, in every place, until its number is taken again; by what, nothing of the old one says.
+#[test]
+fn objects_are_released() {
+    let mut store = Store::new();
+    let (key, fixed) = (SymbolId(0), PropertyDescriptor::fixed(70_000));
+    let getter = |f: FunctionId| PropertyDescriptor { get: Some(f.into()), ..PropertyDescriptor::default() };
+    let data = |v: Value| PropertyDescriptor { value: Some(v), ..PropertyDescriptor::default() };
+    let other = store.make_object(None).unwrap();
+    let left = store.make_object(None).unwrap();
+    assert_eq!(store.define_own_property(left, key, fixed, &[]), Ok(true));
+    assert_eq!(store.freeze(left, &[]), Ok(true));
+    let handled = store.make_proxy(other, Traps::ALL).unwrap();
+    assert_eq!((store.object_count(), store.property_count()), (3, 1));
+    assert_eq!(told(&store.step(&Step::Release { object: left }, &[])), (Ok(Completion::Value(yes())), 0, 0));
+    assert_eq!((store.object_count(), store.property_count()), (2, 0));
+    assert_eq!(format!("{store:?}"), "Store { objects: 2, properties: 0, strings: 0 }");
+
+    // refusal 2 in every place
+    let receiver = Value::Null;
+    for step in [
+        Step::MakeProxy { target: left, traps: Traps::NONE },
+        Step::Revoke { proxy: left },
+        Step::GetPrototypeOf { object: left },
+        Step::SetPrototypeOf { object: left, prototype: None },
+        Step::IsExtensible { object: left },
+        Step::PreventExtensions { object: left },
+        Step::GetOwnProperty { object: left, key: key.into() },
+        Step::DefineOwnProperty { object: left, key: key.into(), descriptor: fixed },
+        Step::HasProperty { object: left, key: key.into() },
+        Step::Get { object: left, key: key.into(), receiver },
+        Step::Set { object: left, key: key.into(), value: 1.into(), receiver },
+        Step::Delete { object: left, key: key.into() },
+        Step::OwnPropertyKeys { object: left },
+        Step::Release { object: left },
+        Step::SetIntegrityLevel { object: left, level: IntegrityLevel::Frozen },
+        Step::TestIntegrityLevel { object: left, level: IntegrityLevel::Sealed },
+    ] {
+        is_refused(&mut store, &step, &[], Refusal::ObjectNeverMade);
+    }
+    let as_function = FunctionId(left.0);
+    for (prototype, value) in [(Prototype::from(left), Value::from(left)), (as_function.into(), as_function.into())] {
+        let object = other;
+        for step in [
+            Step::MakeObject { prototype: Some(prototype) },
+            Step::MakeFunction { prototype: Some(prototype) },
+            Step::SetPrototypeOf { object, prototype: Some(prototype) },
+            Step::Get { object, key: key.into(), receiver: value },
+            Step::Set { object, key: key.into(), value, receiver },
+            Step::Set { object, key: key.into(), value: receiver, receiver: value },
+            Step::DefineOwnProperty { object, key: key.into(), descriptor: data(value) },
+            Step::DefineOwnProperty { object, key: key.into(), descriptor: getter(as_function) },
+        ] {
+            is_refused(&mut store, &step, &[], Refusal::ObjectNeverMade);
+        }
+        for answer in [Answer::Value(value), Answer::Throw(value), Answer::Keys(vec![Value::from(key), value]), Answer::Descriptor(data(value))] {
+            is_refused(&mut store, &Step::IsExtensible { object: handled }, &[answer], Refusal::ObjectNeverMade);
+        }
+        assert_eq!(store.complete(&data(value)), Err(Refusal::ObjectNeverMade));
+        assert_eq!(store.validate(true, &data(value), None), Err(Refusal::ObjectNeverMade));
+        assert_eq!(store.merge(&fixed, &data(value)), Err(Refusal::ObjectNeverMade));
+    }
+    assert_eq!((store.page(left), store.page(as_function)), (Err(Refusal::ObjectNeverMade), Err(Refusal::ObjectNeverMade)));
+    assert_eq!(store.failed_test(&Step::GetOwnProperty { object: left, key: key.into() }, &[]), None);
+
+    // a function has the number now, extensible and without properties; then a proxy
+    let function = store.make_function(Some(handled.into())).unwrap();
+    assert_eq!(function.0, left.0);
+    assert_eq!((store.is_extensible(function, &[]), store.own_property_keys(function, &[])), (Ok(true), Ok(vec![])));
+    assert_eq!(store.define_own_property(function, key, getter(function), &[]), Ok(true));
+    is_refused(&mut store, &Step::Release { object: function.into() }, &[], Refusal::StillNamed);
+    is_refused(&mut store, &Step::Release { object: handled }, &[], Refusal::StillNamed);
+    is_refused(&mut store, &Step::Release { object: other }, &[], Refusal::StillNamed);
+    let stuck = store.make_object(None).unwrap();
+    assert_eq!(stuck, ObjectId(3));
+    store.release(stuck).unwrap();
+    assert_eq!(store.make_proxy(other, Traps::NONE), Ok(stuck));
+    assert_eq!(store.revoke(stuck), Ok(()));
+    assert_eq!(store.release(stuck), Ok(()));
+    // unread answers, which are tested before that
+    is_refused(&mut store, &Step::Release { object: function.into() }, &answers![yes()], Refusal::StillNamed);
+    let free = store.make_object(None).unwrap();
+    is_refused(&mut store, &Step::Release { object: free }, &answers![yes()], Refusal::UnreadAnswers);
+    is_refused(&mut store, &Step::Release { object: free }, &answers![Value::from(ObjectId(9))], Refusal::ObjectNeverMade);
+}
+
+/// A revoked proxy's target may be gone, and another object have its number, a proxy over the revoked one too: no call goes on behind it.
+#[test]
+fn tests_that_fail_are_told_beside_revoked_proxies() {
+    let mut store = Store::new();
+    let key = PropertyKey::from(SymbolId(0));
+    let target = store.make_object(None).unwrap();
+    let revoked = store.make_proxy(target, Traps::NONE).unwrap();
+    store.revoke(revoked).unwrap();
+    store.release(target).unwrap();
+    let over = store.make_proxy(revoked, Traps::NONE).unwrap();
+    assert_eq!(over, target);
+    for object in [over, revoked] {
+        let step = Step::DefineOwnProperty { object, key, descriptor: PropertyDescriptor::fixed(70_000) };
+        assert_eq!(store.failed_test(&step, &[]), None);
+        assert_eq!(store.step(&step, &[]).outcome, Err(Failure::TypeError(Message::RevokedProxy)));
+    }
+    // a number that was a proxy's, and is an ordinary object's
+    store.release(over).unwrap();
+    store.release(revoked).unwrap();
+    let (plain, counts) = (store.make_object(None).unwrap(), store.make_object(None).unwrap());
+    assert_eq!((plain, counts), (over, revoked));
+    assert_eq!(store.define_own_property(counts, key, PropertyDescriptor::fixed(70_000), &[]), Ok(true));
+    let step = Step::DefineOwnProperty { object: counts, key, descriptor: PropertyDescriptor::fixed(4_464) };
+    assert_eq!(store.failed_test(&step, &[]), Some(ValidationTest::Value));
 }
 
 /// Codes 4 to 14, 18 and 19 on a function and on an object, one after the other: the same reports, and functions stay what they are.
@@ -1748,6 +1860,7 @@ fn names_and_numbers_are_the_headers() {
         Step::Delete { object, key },
         Step::OwnPropertyKeys { object },
         Step::MakeFunction { prototype: None },
+        Step::Release { object },
         Step::SetIntegrityLevel { object, level: IntegrityLevel::Sealed },
         Step::TestIntegrityLevel { object, level: IntegrityLevel::Frozen },
     ];
@@ -1758,14 +1871,14 @@ fn names_and_numbers_are_the_headers() {
 /// The entries over slices, where they say more than a store shows.
 #[test]
 fn lent_memory_of_another_length_is_left() {
-    let (mut words, mut strings, mut state) = (vec![7; 1634], vec![7; 8448], vec![7; 9]);
+    let (mut words, mut strings, mut state) = (vec![7; 1669], vec![7; 8448], vec![7; 9]);
     assert!(!lent::empty_store(&mut words) && !lent::empty_strings(&mut strings) && !lent::text_start(&mut words, &mut strings, &mut state));
     let refused = [0, 1, 0, 0, 0, 0, 0, 0, 0, 0];
     assert_eq!(lent::step(&mut words, &strings, &[1; 58], &[0], &mut []).as_slice(), refused);
     assert_eq!(lent::enter_string(&mut strings, &[65]).as_ref(), refused);
     let mut output = [7; 100];
     assert_eq!(lent::page(&words, &[0; 8449], 0, &mut output), Err(Refusal::MalformedRecord));
-    assert_eq!(lent::page(&[0; 1635], &strings, 0, &mut output), Err(Refusal::MalformedRecord));
+    assert_eq!(lent::page(&[0; 1670], &strings, 0, &mut output), Err(Refusal::MalformedRecord));
     assert_eq!(output, [7; 100]);
     assert_eq!(lent::complete(&words, &strings, &[0; 29]).as_slice(), refused);
     assert_eq!(lent::merge(&words, &strings, &[0; 29], &[0; 29]).as_slice(), refused);
@@ -1885,6 +1998,7 @@ fn enums_that_grow_are_not_exhaustive() {
             | Step::Set { .. }
             | Step::Delete { .. }
             | Step::OwnPropertyKeys { .. }
+            | Step::Release { .. }
             | Step::SetIntegrityLevel { .. }
             | Step::TestIntegrityLevel { .. }
     ));
@@ -1918,6 +2032,7 @@ fn enums_that_grow_are_not_exhaustive() {
             | R::OutputTooSmall
             | R::BrokenLine
             | R::UnreadAnswers
+            | R::StillNamed
     )));
     use Message as M;
     assert!(M::ALL.iter().all(|m| named!(

@@ -179,7 +179,7 @@ fn functions() {
         assert!(matches!(report.outcome, Outcome::Result(Completion::Value(Value::Function(m))) if m == n + 1), "{report:?}");
         assert_eq!((report.answers, report.calls), (0, 0));
     }
-    assert_eq!(pair.words[..3], [32, 0, 0xffff_ffff]);
+    assert_eq!(pair.words[..5], [32, 0, 0xffff_ffff, 0xffff_ffff, 0]);
     refused(run(&mut pair, &step(16, 0, NONE, Value::Null), &[]), 7);
     refused(run(&mut pair, &step(1, 0, NONE, Value::Function(31)), &[]), 7);
     refused(run(&mut pair, &step(2, 31, NONE, Value::Integer32(0)), &[]), 3);
@@ -190,24 +190,187 @@ fn functions() {
     answered(run(&mut pair, &step(5, 31, NONE, Value::Function(0)), &[]), true);
 }
 
-/// A mark of what was not made, in memory that no calls left, does not make it a function.
+/// A mark of what is not live, in memory that no calls left, does not make it a function.
 #[test]
 fn marks() {
     let mut pair = Pair::new();
     pair.words[2] = u64::MAX;
     for n in 0..32 {
-        // the mark of the new one is set or cleared, and those above it are cleared
+        // the mark of the new one is set or cleared, and the others stay
         let code = if n % 3 == 1 { 16 } else { 1 };
         result(run(&mut pair, &step(code, 0, NONE, Value::Null), &[]));
-        if n == 0 {
-            assert_eq!(pair.words[..3], [1, 0, 0]);
-            pair.words[2] = u64::MAX << 1;
-        }
+        assert_eq!((pair.words[2] >> n & 1 == 1, pair.words[2] >> (n + 1)), (code == 16, u64::MAX >> (n + 1)));
     }
-    assert_eq!(pair.words[..3], [32, 0, (0..32).filter(|n| n % 3 == 1).map(|n| 1 << n).sum()]);
+    let functions: u64 = (0..32).filter(|n| n % 3 == 1).map(|n| 1 << n).sum();
+    assert_eq!(pair.words[..4], [32, 0, functions | 0xffff_ffff << 32, 0xffff_ffff]);
     // what was there before is no mark either, once the store is emptied
     assert!(demnyaluz::lent::empty_store(&mut pair.words));
-    assert_eq!(pair.words[..3], [0, 0, 0]);
+    assert_eq!(pair.words[..5], [0; 5]);
+}
+
+fn release(pair: &mut Pair, o: usize) -> Report {
+    run(pair, &step(17, o, NONE, NONE), &[])
+}
+
+#[track_caller]
+fn made(report: Report, number: u64) {
+    assert!(matches!(report.outcome, Outcome::Result(Completion::Value(Value::Object(n) | Value::Function(n))) if n == number), "{report:?}");
+}
+
+/// 32 live objects, whatever their numbers: what was released longest ago is taken first, over all 32 numbers and more than once around the ring.
+#[test]
+fn released_numbers() {
+    let mut pair = Pair::new();
+    for _ in 0..32 {
+        make(&mut pair);
+    }
+    for turn in 0..5 {
+        // 7 has no factor in common with 32: every number once, in another order than that of the numbers
+        let order: Vec<usize> = (0..32).map(|i| (7 * i + turn) % 32).collect();
+        for (released, o) in order.iter().enumerate() {
+            assert_eq!(pair.words[4], released as u64);
+            let report = answered(release(&mut pair, *o), true);
+            assert_eq!((report.answers, report.calls), (0, 0));
+            refused(release(&mut pair, *o), 2);
+        }
+        assert_eq!(pair.words[..5], [32, 0, pair.words[2], 0, 32]);
+        for o in &order[..20] {
+            let code = if o % 2 == 0 { 1 } else { 16 };
+            made(run(&mut pair, &step(code, 0, NONE, Value::Null), &[]), *o as u64);
+        }
+        // what goes again stands behind those that went before
+        answered(release(&mut pair, order[3]), true);
+        for o in order[20..].iter().chain([&order[3]]) {
+            made(run(&mut pair, &step(1, 0, NONE, Value::Null), &[]), *o as u64);
+        }
+        for (code, o, value) in [(1, 0, Value::Null), (16, 0, Value::Null), (2, order[20], Value::Integer32(0))] {
+            refused(run(&mut pair, &step(code, o, NONE, value), &[]), 7);
+        }
+        for o in 32..34 {
+            refused(release(&mut pair, o), 2);
+        }
+    }
+    // with none released the next unused number is taken
+    let mut pair = Pair::new();
+    refused(release(&mut pair, 0), 2);
+    for _ in 0..3 {
+        make(&mut pair);
+    }
+    answered(release(&mut pair, 1), true);
+    answered(release(&mut pair, 0), true);
+    for number in [1, 0, 3, 4] {
+        made(run(&mut pair, &step(1, 0, NONE, Value::Null), &[]), number);
+    }
+}
+
+/// The properties of all objects together are 256, and those of a released one make room; those of the others stay, in their order.
+#[test]
+fn released_properties() {
+    let mut pair = Pair::new();
+    for _ in 0..3 {
+        make(&mut pair);
+    }
+    for n in 0..256 {
+        result(run(&mut pair, &define([0, 1, 1, 2][n % 4], Value::Symbol(n as u64), plain_data(n as i32)), &[]));
+    }
+    refused(run(&mut pair, &define(0, Value::Symbol(1), plain_data(1)), &[]), 7);
+    answered(release(&mut pair, 1), true);
+    assert_eq!(pair.words[1], 128);
+    make(&mut pair);
+    for n in 0..128 {
+        result(run(&mut pair, &define(1, Value::Symbol(n), plain_data(1)), &[]));
+    }
+    refused(run(&mut pair, &define(1, Value::Symbol(128), plain_data(1)), &[]), 7);
+    answered(release(&mut pair, 0), true);
+    answered(release(&mut pair, 2), true);
+    assert_eq!(pair.words[1], 128);
+    answered(release(&mut pair, 1), true);
+    assert_eq!(pair.words[..5], [3, 0, 0, 0, 3]);
+}
+
+/// Every way to be named, and by which step it ends.
+#[test]
+fn named_objects() {
+    let with = |v: Value| Descriptor { value: Some(v), configurable: Some(true), ..Descriptor::default() };
+    let of = |get: Value, set: Value| Descriptor { get: Some(get), set: Some(set), configurable: Some(true), ..Descriptor::default() };
+    let key = Value::Symbol(0);
+    let delete = |o: usize| step(13, o, key, NONE);
+    // object 0 and function 1 are named by object 2, or by themselves
+    for (o, naming, ending) in [
+        (0, step(5, 2, NONE, Value::Object(0)), step(5, 2, NONE, Value::Null)),
+        (1, step(5, 2, NONE, Value::Function(1)), step(5, 2, NONE, Value::Null)),
+        (0, define(2, key, with(Value::Object(0))), delete(2)),
+        (1, define(2, key, with(Value::Function(1))), define(2, key, with(Value::Null))),
+        (1, define(2, key, of(Value::Function(1), NONE)), delete(2)),
+        (1, define(2, key, of(NONE, Value::Function(1))), define(2, key, of(NONE, NONE))),
+        (0, define(0, key, with(Value::Object(0))), delete(0)),
+        (1, define(1, key, with(Value::Function(1))), delete(1)),
+        (1, define(1, key, of(Value::Function(1), NONE)), delete(1)),
+        (1, define(1, key, of(NONE, Value::Function(1))), delete(1)),
+        (0, step(2, 0, NONE, Value::Integer32(0)), step(3, 3, NONE, NONE)),
+        (0, step(2, 0, NONE, Value::Integer32(2047)), step(17, 3, NONE, NONE)),
+        (0, define(2, key, with(Value::Object(0))), step(17, 2, NONE, NONE)),
+        (1, step(5, 2, NONE, Value::Function(1)), step(17, 2, NONE, NONE)),
+    ] {
+        let mut pair = Pair::new();
+        make(&mut pair);
+        make_function(&mut pair, Value::Null);
+        make(&mut pair);
+        result(run(&mut pair, &naming, &[]));
+        refused(release(&mut pair, o), 14);
+        // 2 and 3 come before 14, and 1 of the sheet after it
+        refused(run(&mut pair, &step(17, 9, NONE, NONE), &[Answer::Value(Value::Object(77))]), 2);
+        refused(pair.step(&step(17, o, NONE, NONE), &[], 0).report, 14);
+        refused(run(&mut pair, &step(17, o, NONE, NONE), &[Answer::Value(Value::Object(77))]), 14);
+        refused(run(&mut pair, &step(17, o, key, NONE), &[]), 1);
+        refused(run(&mut pair, &step(17, o, NONE, Value::Object(0)), &[]), 1);
+        result(run(&mut pair, &ending, &[]));
+        refused(run(&mut pair, &step(17, o, NONE, NONE), &[Answer::Value(Value::Null)]), 13);
+        refused(run(&mut pair, &step(17, o, NONE, NONE), &[Answer::Value(Value::Object(77))]), 2);
+        refused(pair.step(&step(17, o, NONE, NONE), &[], 0).report, 1);
+        answered(release(&mut pair, o), true);
+        refused(release(&mut pair, o), 2);
+    }
+}
+
+/// Proxies over proxies, each the target of the next: they go from the last to the first. A revoked one may stand before what takes its target's
+/// number, itself too.
+#[test]
+fn released_proxies() {
+    let mut pair = Pair::new();
+    make(&mut pair);
+    for target in 0..31 {
+        proxy(&mut pair, target, 0);
+    }
+    for o in 0..31 {
+        refused(release(&mut pair, o), 14);
+    }
+    for o in (0..32).rev() {
+        answered(release(&mut pair, o), true);
+    }
+    assert_eq!(pair.words[..5], [32, 0, 0, 0, 32]);
+    let mut pair = Pair::new();
+    make(&mut pair);
+    proxy(&mut pair, 0, 0);
+    result(run(&mut pair, &step(3, 1, NONE, NONE), &[]));
+    answered(release(&mut pair, 0), true);
+    // 0 is now a proxy over 1, which was one over 0
+    made(run(&mut pair, &step(2, 1, NONE, Value::Integer32(0)), &[]), 0);
+    for o in [0, 1] {
+        let told = run(&mut pair, &step(6, o, NONE, NONE), &[]);
+        assert!(matches!(told.outcome, Outcome::TypeError(1)), "{told:?}");
+    }
+    refused(release(&mut pair, 1), 14);
+    answered(release(&mut pair, 0), true);
+    answered(release(&mut pair, 1), true);
+    // a function under the number of a revoked proxy's target
+    make(&mut pair);
+    proxy(&mut pair, 0, 0);
+    result(run(&mut pair, &step(3, 1, NONE, NONE), &[]));
+    answered(release(&mut pair, 0), true);
+    made(make_function(&mut pair, Value::Null), 0);
+    answered(release(&mut pair, 0), true);
+    assert_eq!((pair.page(0, &[]), pair.page(1, &[])), (Err(2), Err(3)));
 }
 
 #[test]
@@ -287,7 +450,7 @@ fn numbers() {
             refused(run(&mut pair, &step(code, 0, NONE, level), &[]), refusal);
         }
     }
-    for code in [0, 15, 17, 20] {
+    for code in [0, 15, 20] {
         refused(run(&mut pair, &step(code, 0, NONE, Value::Integer32(0)), &[]), 1);
     }
 }
@@ -355,7 +518,7 @@ fn pages() {
     }
     assert_eq!(pair.page(31, &[]), Err(3));
     let kept = (pair.words.clone(), pair.strings.clone());
-    for (at, count) in [(0, 33), (1, 257), (0, u64::MAX), (1, u64::MAX)] {
+    for (at, count) in [(0, 33), (1, 257), (3, 1 << 32), (4, 33), (0, u64::MAX), (1, u64::MAX), (3, u64::MAX), (4, u64::MAX)] {
         pair.words[at] = count;
         for o in [0, 30, 31, 32, u64::MAX] {
             assert_eq!((pair.page(o, &output), pair.page(o, &[])), (Err(1), Err(1)));
@@ -367,7 +530,7 @@ fn pages() {
         assert_eq!(pair.page(30, &output), Err(1));
     }
     pair.strings = kept.1;
-    for length in [0, 1, 1634, 1636] {
+    for length in [0, 1, 1635, 1669, 1671] {
         pair.words = kept.0.iter().copied().chain([0]).take(length).collect();
         assert_eq!(pair.page(30, &output), Err(1));
     }
@@ -445,7 +608,7 @@ fn unread_answers() {
         // 2 and 3 come before, and so does 7
         refused(run(&mut pair, &step(6, 9, NONE, NONE), std::slice::from_ref(spare)), 2);
         refused(run(&mut pair, &step(3, 0, NONE, NONE), std::slice::from_ref(spare)), 3);
-        while pair.world.objects.len() < 32 {
+        while pair.world.live().count() < 32 {
             make(&mut pair);
         }
         for code in [1, 16] {

@@ -38,6 +38,7 @@ fn every_step_has_a_line() {
         ("proxy o3 traps all", Step::MakeProxy { target: O, traps: Traps::ALL }),
         ("proxy o3 traps 2047", Step::MakeProxy { target: O, traps: Traps::ALL }),
         ("revoke o3", Step::Revoke { proxy: O }),
+        ("release o3", Step::Release { object: O }),
         ("getPrototypeOf o3", Step::GetPrototypeOf { object: O }),
         ("setPrototypeOf o3 null", Step::SetPrototypeOf { object: O, prototype: None }),
         ("setPrototypeOf o3 o3", Step::SetPrototypeOf { object: O, prototype: Some(O.into()) }),
@@ -68,6 +69,7 @@ fn a_step_may_be_on_a_function() {
     for line in [
         "proxy o3 traps get",
         "revoke o3",
+        "release o3",
         "getPrototypeOf o3",
         "setPrototypeOf o3 null",
         "isExtensible o3",
@@ -205,7 +207,7 @@ const VALUE: &str = "a value (as undefined, null, true, 70000, -0.5, \"text\", o
 const OBJECT: &str = "an object (o0 to o255) or a function (f0 to f255)";
 const PROTOTYPE: &str = "null, an object (o0 to o255) or a function (f0 to f255)";
 const FIELD: &str = "a field (value, writable, get, set, enumerable or configurable)";
-const STEP: &str = "a step (string, object, function, proxy, revoke, getPrototypeOf, setPrototypeOf, isExtensible, preventExtensions, \
+const STEP: &str = "a step (string, object, function, proxy, revoke, release, getPrototypeOf, setPrototypeOf, isExtensible, preventExtensions, \
                     getOwnPropertyDescriptor, defineProperty, has, get, set, deleteProperty, ownKeys, seal, freeze, isSealed, isFrozen)";
 const TRAP: &str = "a trap (getPrototypeOf, setPrototypeOf, isExtensible, preventExtensions, getOwnPropertyDescriptor, defineProperty, has, \
                     get, set, deleteProperty, ownKeys), 'all' or a mask of at most 2047";
@@ -396,6 +398,7 @@ fn readable_calls_are_read_again() {
         "proxy o0 traps 1365",
         "proxy o0 traps 682",
         "revoke o1",
+        "release o1",
         "getPrototypeOf o1",
         "setPrototypeOf o1 null",
         "setPrototypeOf o1 o2",

@@ -110,11 +110,41 @@ fn pages_are_printed_after_the_steps() {
     let ran = steps(&["--pages", "-"], &input);
     assert_eq!((ran.status.code(), text_of(ran.stderr)), (Some(0), String::new()));
     assert_eq!(text_of(ran.stdout), expected.join("\n"));
+    // those that are left, in the order of their numbers, each by the name that it has now
+    let input = [
+        "object",
+        "function",
+        "object",
+        "set o2 y0 1",
+        "set o0 y1 f1",
+        "release f1            # refused: o0 names it",
+        "deleteProperty o0 y1",
+        "release o2",
+        "release f1",
+        "release o0",
+        "release o0            # refused: released",
+        "function              # f2",
+        "proxy f2              # refused: a function",
+        "object                # o1",
+        "set f2 y2 o1",
+        "object o1             # o0",
+        "proxy o0              # o3",
+        "object                # o4",
+        "release o3",
+        "function              # f3",
+        "release o4",
+        "proxy o0              # o4",
+    ]
+    .join("\n");
+    let expected = ["o0:", names, "", "o1:", names, "", "f2:", names, "y002 ecw 070100000000000000                   ", "", "f3:", names, ""];
+    let ran = steps(&["--pages", "-"], &input);
+    assert_eq!((ran.status.code(), text_of(ran.stderr)), (Some(0), String::new()));
+    assert_eq!(text_of(ran.stdout), expected.join("\n"));
     // from a file too, and without an object there is no page
     let file = Steps::new("pages", "object\n");
     let ran = steps(&["--pages", file.0.to_str().unwrap()], "");
     assert_eq!((ran.status.code(), text_of(ran.stdout)), (Some(0), format!("o0:\n{names}\n")));
-    for input in ["", "string \"a\"\n", "has o0 y0\nobject o0\n"] {
+    for input in ["", "string \"a\"\n", "has o0 y0\nobject o0\n", "object\nrelease o0\n"] {
         let ran = steps(&["--pages", "-"], input);
         assert_eq!((ran.status.code(), ran.stdout, ran.stderr), (Some(0), vec![], vec![]), "{input}");
     }
@@ -331,7 +361,7 @@ fn rows_that_do_not_belong_to_the_calls_are_errors() {
         (format!("{ROWS}01 0 1 0 0 -\n"), 0, malformed(1, "object", "01 0 1 0 0 -", "expected a decimal number as line, found '01'")),
         (format!("{ROWS}1 +1 0 0 0 -\n"), 0, malformed(1, "object", "1 +1 0 0 0 -", "expected a decimal number as outcome, found '+1'")),
         (format!("{ROWS}1 4 0 0 0 -\n"), 0, malformed(1, "object", "1 4 0 0 0 -", "expected outcome 0 to 3, found 4")),
-        (format!("{ROWS}1 0 14 0 0 -\n"), 0, malformed(1, "object", "1 0 14 0 0 -", "expected the number of a refusal, found 14")),
+        (format!("{ROWS}1 0 15 0 0 -\n"), 0, malformed(1, "object", "1 0 15 0 0 -", "expected the number of a refusal, found 15")),
         (format!("{ROWS}1 2 33 0 0 -\n"), 0, malformed(1, "object", "1 2 33 0 0 -", "expected the number of a message, found 33")),
         (format!("{ROWS}1 0 7 0 1 -\n"), 0, malformed(1, "object", "1 0 7 0 1 -", "expected no answers and no calls with a refusal, found 0 and 1")),
         (format!("{ROWS}1 0 7 65 1 -\n"), 0, malformed(1, "object", "1 0 7 65 1 -", "expected at most 64 answers, found 65")),
@@ -499,6 +529,87 @@ fn the_example_runs() {
         assert!(told.lines().any(|l| l == line), "{line}");
     }
     assert!(told.ends_with("   70000 (0 answers, 2 calls)\n"));
+}
+
+/// A number is called by what has it: a function, a proxy or another object, each until it is released.
+#[test]
+fn released_numbers_have_other_names() {
+    let text = [
+        "function",
+        "release o0",
+        "object",
+        "get f0 y0",
+        "proxy o0 traps get",
+        "release o0",
+        "get o1 y0 answers: 1",
+        "revoke o1",
+        "release o0",
+        "release o1",
+        "release o1",
+        "release o1",
+        "function",
+        "function",
+        "get o1 y0",
+        "release f1",
+        "release f0",
+        "proxy o5",
+        "object",
+        "object",
+        "has f0 y0",
+    ]
+    .join("\n");
+    let rows = [
+        "1 1 0 0 0 080000000000000000",
+        "2 1 0 0 0 020100000000000000",
+        "3 1 0 0 0 070000000000000000",
+        "4 0 3 0 0 -",
+        "5 1 0 0 0 070100000000000000",
+        "6 0 14 0 0 -",
+        "7 1 0 1 2 030100000000000000",
+        "8 1 0 0 0 020100000000000000",
+        "9 1 0 0 0 020100000000000000",
+        "10 1 0 0 0 020100000000000000",
+        "11 0 2 0 0 -",
+        "12 0 2 0 0 -",
+        "13 1 0 0 0 080000000000000000",
+        "14 1 0 0 0 080100000000000000",
+        "15 0 3 0 0 -",
+        "16 1 0 0 0 020100000000000000",
+        "17 1 0 0 0 020100000000000000",
+        "18 0 2 0 0 -",
+        "19 1 0 0 0 070100000000000000",
+        "20 1 0 0 0 070000000000000000",
+        "21 1 0 0 3 020000000000000000",
+    ];
+    let unusable = "refused 3, a string was not entered or is too long, or a part has a kind that cannot be used";
+    let shown = [
+        "1: function: f0 (0 answers, 0 calls)".to_string(),
+        "2: release f0: true (0 answers, 0 calls)".to_string(),
+        "3: object: o0 (0 answers, 0 calls)".to_string(),
+        format!("4: get o0 y0 receiver f0: {unusable}"),
+        "5: proxy o0 traps get: o1 (0 answers, 0 calls)".to_string(),
+        "6: release o0: refused 14, the object is still named".to_string(),
+        "7: get o1 y0, handler answers 1: 1 (1 answer, 2 calls)".to_string(),
+        "8: revoke o1: true (0 answers, 0 calls)".to_string(),
+        "9: release o0: true (0 answers, 0 calls)".to_string(),
+        "10: release o1: true (0 answers, 0 calls)".to_string(),
+        "11 to 12: release o1: refused 2, an object was never made".to_string(),
+        "13 to 14: function: f0 to f1 (0 answers, 0 calls)".to_string(),
+        format!("15: get f1 y0 receiver o1: {unusable}"),
+        "16: release f1: true (0 answers, 0 calls)".to_string(),
+        "17: release f0: true (0 answers, 0 calls)".to_string(),
+        "18: proxy o5: refused 2, an object was never made".to_string(),
+        "19: object: o1 (0 answers, 0 calls)".to_string(),
+        "20: object: o0 (0 answers, 0 calls)".to_string(),
+        "21: has o0 y0: false (0 answers, 3 calls)".to_string(),
+    ];
+    let file = Steps::new("released", &text);
+    let ran = file.rows(&format!("{ROWS}{}\n", rows.join("\n")));
+    assert_eq!(text_of(ran.stderr), "");
+    assert_eq!(text_of(ran.stdout).lines().collect::<Vec<_>>(), shown);
+    // and the reports are these
+    let ran = steps(&["--cells", "-"], &text);
+    assert_eq!(String::from_utf8(demnyaluz::run_text(&ran.stdout)).unwrap(), format!("{ROWS}{}\n", rows.join("\n")));
 }
 
 /// Lines alike are one line: the same call with the same outcome, or with the next object each time. Answers alike are told together.

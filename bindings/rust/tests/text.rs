@@ -220,7 +220,9 @@ fn bytes_that_are_no_record_are_refused_as_1_and_not_as_12() {
     for line in [
         "- - - - - - -",
         "00 00 - 010000000000000000 - - -",
-        "11 00 - - - - -",
+        "14 00 - - - - -",
+        "11 00 - 010000000000000000 - - -",
+        "11 00 050000000000000000 - - - -",
         "10 01 - 010000000000000000 - - -",
         "10 00 - 010000000000000000 010000000000000000 - -",
         "ff 00 - - - - -",
@@ -376,15 +378,52 @@ fn code_units_stand_high_byte_first() {
     assert_eq!(rows[5], "1 0 0 1 050100000000000000050000000000000000");
 }
 
-/// In a record of 58 bytes 15, 17 and 20 are no codes, whatever else it holds.
+/// A release in each line of step 11 that is not refused, and the numbers that are taken again.
+#[test]
+fn objects_are_released_in_lines() {
+    let (nil, o0, o1, f1) = ("010000000000000000", "070000000000000000", "070100000000000000", "080100000000000000");
+    let release = |o: u8| format!("11 {o:02x} - - - - -");
+    let with = |value: &str| format!("09 00 060000000000000000 - - 0800{value}{} -", "00".repeat(18));
+    let (yes, refused) = ("1 0 0 0 020100000000000000".to_string(), |number: u8| format!("0 {number} 0 0 -"));
+    let lines: Vec<(String, String)> = vec![
+        (release(0), refused(2)),
+        (MAKE.to_string(), format!("1 0 0 0 {o0}")),
+        (format!("10 00 - {o0} - - -"), format!("1 0 0 0 {f1}")),
+        (release(0), refused(14)),
+        (format!("11 00 - - - - 0101{nil}"), refused(14)),
+        ("11 00 - - - - 41".to_string(), refused(14)),
+        (format!("11 01 - - - - 0101{nil}"), refused(13)),
+        ("11 01 - - - - 41".to_string(), refused(1)),
+        (format!("11 01 - - - - 0101{}", "07".to_string() + &"ff".repeat(8)), refused(2)),
+        (with(f1), "1 0 0 3 020100000000000000".to_string()),
+        (release(1), refused(14)),
+        (with(o0), "1 0 0 3 020000000000000000".to_string()),
+        (format!("05 01 - {nil} - - -"), "1 0 0 1 020100000000000000".to_string()),
+        (release(1), refused(14)),
+        (release(0), yes.clone()),
+        (release(0), refused(2)),
+        (format!("0b 01 060000000000000000 - {o0} - -"), refused(2)),
+        (format!("06 01 - - - - 0104{o0}"), refused(2)),
+        (release(1), yes),
+        (format!("10 00 - {nil} - - -"), "1 0 0 0 080000000000000000".to_string()),
+        (MAKE.to_string(), format!("1 0 0 0 {o1}")),
+        ("0e 00 - - - - -".to_string(), "1 0 0 1 -".to_string()),
+        (format!("01 00 - {f1} - - -"), refused(3)),
+        (MAKE.to_string(), "1 0 0 0 070200000000000000".to_string()),
+    ];
+    let rows = rows_of(&lines.iter().map(|(line, _)| line.as_str()).collect::<Vec<_>>());
+    assert_eq!(rows, lines.into_iter().map(|(_, row)| row).collect::<Vec<_>>());
+}
+
+/// In a record of 58 bytes 15 and 20 are no codes, whatever else it holds.
 #[test]
 fn records_of_codes_that_are_none_are_refused_as_1() {
-    let (mut words, mut strings) = (vec![0; 1635], vec![0; 8449]);
+    let (mut words, mut strings) = (vec![0; 1670], vec![0; 8449]);
     assert!(lent::empty_store(&mut words) && lent::empty_strings(&mut strings));
     let mut random = Random::new(15);
     for i in 0..200 {
         let mut step: Vec<u8> = (0..58).map(|_| if i % 2 == 0 { 0 } else { random.next() as u8 }).collect();
-        step[0] = random.pick(&[15, 17, 20]);
+        step[0] = random.pick(&[15, 20]);
         let report = lent::step(&mut words, &strings, &step, &[0], &mut [0; 2304]);
         assert_eq!(report.as_slice(), [0, 1, 0, 0, 0, 0, 0, 0, 0, 0]);
     }
@@ -565,7 +604,7 @@ fn there_is_room_for_256_keys() {
 #[derive(Default, Debug)]
 struct Outcomes {
     bytes: usize,
-    refusals: [usize; 14],
+    refusals: [usize; 15],
     results: usize,
     errors: usize,
     thrown: usize,
@@ -654,7 +693,7 @@ fn random_bytes_are_as_the_plain_implementation_says() {
 fn reading_starts_only_in_memory_of_the_right_lengths() {
     assert_eq!((TEXT_STATE_WORDS, TEXT_LINE_BYTES, TEXT_ROW_BYTES), (10, 16_384, 4_800));
     for (words, strings, state) in
-        [(1634, 8449, 10), (1636, 8449, 10), (0, 8449, 10), (1635, 8448, 10), (1635, 8450, 10), (1635, 8449, 9), (1635, 8449, 11), (1635, 0, 0)]
+        [(1669, 8449, 10), (1671, 8449, 10), (0, 8449, 10), (1670, 8448, 10), (1670, 8450, 10), (1670, 8449, 9), (1670, 8449, 11), (1670, 0, 0)]
     {
         let (mut a, mut b, mut c) = (vec![7; words], vec![7; strings], vec![7; state]);
         assert!(!lent::text_start(&mut a, &mut b, &mut c));
@@ -707,7 +746,7 @@ fn memory_that_is_no_readers_is_refused() {
         edit(&mut reader);
         reader
     };
-    for size in [0, 1, 1634, 1636] {
+    for size in [0, 1, 1635, 1669, 1671] {
         refuses(&change(&|r| r.words = vec![0; size].into()), "the words' length");
     }
     for size in [0, 1, 8448, 8450] {
@@ -722,8 +761,11 @@ fn memory_that_is_no_readers_is_refused() {
     for size in [0, 1, 100, 4_799] {
         refuses(&change(&|r| r.rows = vec![0; size].into()), "room for a row");
     }
-    for (at, count) in [(0, 33), (0, u64::MAX), (1, 257), (1, u64::MAX)] {
+    for (at, count) in [(0, 33), (0, u64::MAX), (1, 257), (1, u64::MAX), (4, 33), (4, u64::MAX)] {
         refuses(&change(&|r| r.words[at] = count), "the store's counts");
+    }
+    for above in [32, 33, 63] {
+        refuses(&change(&|r| r.words[3] |= 1 << above), "the store's marks");
     }
     refuses(&change(&|r| r.strings[0] = 257), "the table's count");
     refuses(&change(&|r| r.state.fill(u64::MAX)), "the state");
@@ -936,10 +978,28 @@ fn the_day_is_a_page_that_can_be_read() {
         "171: has o16 \"name\", handler answers f1: true (1 answer, 1 call)".to_string(),
         "174: object, answers true: refused 7, there is no room".to_string(),
         "176: isExtensible o17: true (0 answers, 1 call)".to_string(),
+        // what is released, and what takes its number, by its own name
+        "177: release f13: refused 14, the object is still named".to_string(),
+        "178: release f1: refused 14, the object is still named".to_string(),
+        "181: release o20: refused 14, the object is still named".to_string(),
+        "182: release o9: true (0 answers, 0 calls)".to_string(),
+        "184: release o20: true (0 answers, 0 calls)".to_string(),
+        "185: release o20: refused 2, an object was never made".to_string(),
+        "187: has o16 \"name\", handler answers o9: refused 2, an object was never made".to_string(),
+        "188: object: o9 (0 answers, 0 calls)".to_string(),
+        "189: isFrozen o9: false (0 answers, 1 call)".to_string(),
+        "190: ownKeys o9: [] (0 answers, 1 call)".to_string(),
+        "191: function o9: f20 (0 answers, 0 calls)".to_string(),
+        "192: function: refused 7, there is no room".to_string(),
+        "194: proxy o17, answers true: refused 7, there is no room".to_string(),
+        "196: release o16: true (0 answers, 0 calls)".to_string(),
+        format!("197: proxy f20: refused 3, {unusable}"),
+        "199: get o16 \"visits\", handler answers 4464: 4464 (1 answer, 2 calls)".to_string(),
+        "202: release o17: true (0 answers, 0 calls)".to_string(),
     ] {
         assert!(page.lines().any(|l| l == line), "{line}");
     }
-    assert!(page.ends_with(&format!("177: getOwnPropertyDescriptor o0 \"visits\": {fixed} (0 answers, 1 call)\n")));
+    assert!(page.ends_with(&format!("203: getOwnPropertyDescriptor o0 \"visits\": {fixed} (0 answers, 1 call)\n")));
     // every line of the day is shown, those alike together
     let shown: Vec<(usize, usize)> = page.lines().map(|l| l.split_once(':').unwrap().0).map(numbers).collect();
     assert!(shown.windows(2).all(|w| w[0].1 + 1 == w[1].0));

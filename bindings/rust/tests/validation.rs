@@ -96,7 +96,7 @@ fn own_property_step(s: &record::Step) -> Step {
 /// How often each test rejected a descriptor: in a result false, by message 14, by message 10 of code 8 and by message 10 of code 9.
 type Rejections = [[u64; 9]; 4];
 
-/// Steps on one store, mostly those of codes 8 and 9.
+/// Steps on one store, mostly those of codes 8 and 9; numbers of objects are used again.
 fn rejections(seed: u64, size: usize) -> Rejections {
     let mut generator = Generator::new(seed);
     generator.habits = Habits { damage: 1000, keys: 4, flags: 6, ..generator.habits };
@@ -104,7 +104,7 @@ fn rejections(seed: u64, size: usize) -> Rejections {
     let (mut pair, mut store) = (Pair::new(), Store::new());
     for _ in 0..size {
         let (bytes, sheet) = generator.step_and_sheet(&pair.world);
-        if !matches!(bytes[0], 1 | 2 | 8 | 9 | 16) && !generator.random.once_in(8) {
+        if !matches!(bytes[0], 1 | 2 | 8 | 9 | 16 | 17) && !generator.random.once_in(8) {
             continue;
         }
         let read = record::read(&pair.world, &bytes, &sheet).ok().filter(|(s, _)| matches!(s.code, 8 | 9));

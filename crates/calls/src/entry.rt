@@ -110,13 +110,13 @@ fn go_down(words: &[u64], o: u64, trap: u64, depth: usize, s: Progress) -> Enter
     Entered::Failed(Failure::Refused(10), with_calls(s, calls))
 }
 
-// `depth` is how many calls deep methods may still go. An ordinary object is there at once.
+// `depth` is how many calls deep methods may still go. An ordinary object is there at once, if a call is left and no more calls than levels, as in every run.
 pub fn enter(words: &[u64], o: u64, trap: u64, depth: usize, s: Progress) -> Entered
     requires { ⌜ (isStore (now words) ≡ true) × (trap < 64) ⌝ }
     ensures { λ r. ⌜ r ≡ entering trap (storeOf (now (words .entry))) o depth s ⌝ }
 {
-    if 0 < depth {
-        if 0 < s.calls {
+    if 0 < s.calls {
+        if s.calls <= depth {
             if is_ordinary(store_read::object_at(words, o)) {
                 return Entered::Ordinary(o, depth - 1, with_calls(s, s.calls - 1));
             }

@@ -2,11 +2,9 @@
 use Prim.Native.Nat.{ℕ, zero, suc, _-_, _<_}
 use native.Mathlib.Omega.{arith}
 use mathlib.Core.Path.{_≡_, refl, sym, _∙_}
-use mathlib.Core.Bool.{Bool, true, false, false≢true}
+use mathlib.Core.Bool.{true, false≢true}
 use mathlib.Core.Option.{Option, none, some}
 use mathlib.Core.List.{List}
-use borrow.Author.Tests.{ltb-true, ltb-false}
-use lib.Dec.{ltb}
 use Rattle.value.specs.declared.PropertyKey.{PropertyKey}
 use Rattle.property.specs.declared.OwnProperty.{OwnProperty}
 use Rattle.property.specs.declared.Validation.{Validation}
@@ -15,9 +13,8 @@ use Rattle.store.specs.declared.ProxyObject.{ProxyObject}
 use Rattle.store.specs.declared.Object.{Object}
 use Rattle.store.specs.declared.Object.the-variants.{Ordinary, Proxy}
 use Rattle.store.specs.Store.{lookup, own}
-use Rattle.store.specs.Words.{storeOf, isStore, wordAt}
-use Rattle.store.proofs.WordLaws.{sized}
-use Rattle.store_read.proofs.ReadLaws.{lookup-missing}
+use Rattle.store.specs.Words.{storeOf}
+use Rattle.store_read.proofs.ReadLaws.{lookup-below}
 use Rattle.internal_methods.specs.Monad.{State, Out, done, M, pure}
 use Rattle.internal_methods.specs.Methods.{Context}
 use Rattle.internal_methods.specs.Ordinary.{ordinaryGetOwnProperty, applyValidation}
@@ -34,14 +31,12 @@ pub ordinary-known : (x : Option Object) (r : OrdinaryObject) → x ≡ some (Or
 ordinary-known x r e = rw e
 
 -- an ordinary object's number is below 32
-pub ordinary-below : (words : List ℕ) (o : ℕ) → isStore words ≡ true → isOrdinary (lookup (storeOf words) o) ≡ true → o < 32
-ordinary-below words o h e = go (ltb o (wordAt words 0)) refl
+pub ordinary-below : (words : List ℕ) (o : ℕ) → isOrdinary (lookup (storeOf words) o) ≡ true → o < 32
+ordinary-below words o e = go (lookup (storeOf words) o) refl e
   where
-    go : (b : Bool) → ltb o (wordAt words 0) ≡ b → o < 32
-    go true q = omega (arith, ltb-true o (wordAt words 0) q, sized words h .objects)
-    go false q =
-        let z : lookup (storeOf words) o ≡ none = lookup-missing words o (omega (arith, ltb-false o (wordAt words 0) q)) in
-        absurd (false≢true (rw z at e))
+    go : (x : Option Object) → lookup (storeOf words) o ≡ x → isOrdinary x ≡ true → o < 32
+    go none q h = absurd (false≢true h)
+    go (some x) q h = lookup-below words o x q
 
 -- an ordinary object tells the property that the store has
 module _ (c : Context) (sheet : List ℕ) (o : ℕ) (k : PropertyKey) (g : ℕ → ProxyObject → M OwnProperty) (p : OwnProperty) (t : State) where

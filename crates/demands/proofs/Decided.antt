@@ -1,21 +1,22 @@
 -- Demand 1 holds of every call of every list of calls. Assumes nothing.
-use Prim.Native.Nat.{ℕ, _+_, _-_, _≤_}
+use Prim.Native.Nat.{ℕ, suc, _+_, _-_, _≤_}
 use native.Mathlib.Nat.{le-refl, le-suc, le-trans}
 use native.Mathlib.Omega.{arith}
 use mathlib.Core.Path.{_≡_, refl, sym, ap, _∙_, subst}
 use mathlib.Core.Bool.{Bool, true, false, cond, false≢true}
 use mathlib.Core.Option.{Option, none, some}
-use mathlib.Core.List.{List, [], _∷_, _++_}
+use mathlib.Core.List.{List, [], _∷_, _++_, map}
 use lib.Dec.{leb, ltb}
 use lib.ListN.{length}
 use borrow.Author.Tests.{ltb-false, leb-true, leb-false, le-leb, lt-leb, le-ltb}
 use Rattle.text.specs.Strings.{Entry, entering, numberOf, enter, maximumLength, maximumStrings}
 use Rattle.text.specs.Strings as entry
-use Rattle.store.specs.Store.{Store, World, maximumProperties}
+use Rattle.store.specs.declared.Object.{Object}
+use Rattle.store.specs.Store.{Store, World, isLive, liveCount, maximumObjects, maximumProperties}
+use Rattle.store.proofs.NumberLaws.{count, numbered-fresh, live-counted}
 use Rattle.internal_methods.specs.declared.Failure.{Failure}
 use Rattle.internal_methods.specs.declared.Failure.the-variants.{Refused, TypeError, Thrown}
 use Rattle.internal_methods.specs.Monad.{Answer, State, state, Out, failed, done}
-use Rattle.internal_methods.proofs.StoreClosed.{Closed}
 use Rattle.internal_methods.proofs.Budget as met
 use Rattle.internal_methods.proofs.Longer.{Suffix, spent-reads-all, unread-free}
 use Rattle.internal_methods.proofs.Longer as longer
@@ -29,14 +30,14 @@ use Rattle.steps.specs.Response.{Ending, refused, result, typeError, thrown, Ef
 use Rattle.steps.specs.Step.{contextOf, recordTests, refusing, outputHolds, withStore, responding, unread, ended, ran, runWith, step, callsMade}
 use Rattle.steps.specs.StringEntry.{enterString}
 use Rattle.steps.specs.Run.{Call, worldAt}
-use Rattle.demands.specs.Refusals.{Accepted, by-result, by-typeError, by-throw, endingOf, leftIn, leaving, Refusal, inadmissible, full, spent, unreadable, exhausted, short, MayWrite, Unless, otherwise, LeftOf, StepDecided, EntryRefusal, long, EntryDecided}
+use Rattle.demands.specs.Refusals.{Accepted, by-result, by-typeError, by-throw, endingOf, leftIn, leaving, occupied, Refusal, inadmissible, full, spent, unreadable, exhausted, short, MayWrite, Unless, otherwise, LeftOf, StepDecided, EntryRefusal, long, EntryDecided}
 use Rattle.demands.specs.Refusals as refusal
 use Rattle.steps.proofs.Made.{names-made, sheet-counted}
 use Rattle.steps.proofs.Sequences.{joined, settled, Once, performs-once}
 use Rattle.steps.proofs.Performs.{Fails, Performs, crowded, method, rejected, performs}
 use Rattle.steps.proofs.Lifted.{perform-longer}
 use Rattle.steps.proofs.Runs.{Crowded, by-objects, by-properties, crowded-ran, full-ran, exhausted-ran, seven, nine, ten}
-use Rattle.steps.proofs.Places.{closed-at}
+use Rattle.steps.proofs.Places.{Coherent, coherent-at}
 use Rattle.steps.proofs.Steps.{Ends, step-is, ends, EntryEnds, entry-ends}
 use Rattle.steps.proofs.Steps as how
 
@@ -50,10 +51,17 @@ not-accepted n e h (by-throw v) = false≢true cc
 
 -- Runs --------------------------------------------------------------------------------------
 
+-- how many numbers have a live object, by their marks
+pub occupied-counted : (xs : List (Option Object)) → occupied xs ≡ count (map isLive xs)
+unfolding occupied count
+occupied-counted [] = refl
+occupied-counted (none ∷ xs) = occupied-counted xs ∙ omega arith
+occupied-counted (some x ∷ xs) = ap suc (occupied-counted xs) ∙ omega arith
+
 -- what is known of the run once the records passed
-module _ (ω : World) (bytes sheet : List ℕ) (closed : Closed (ω .store)) (passes : firstFailing (recordTests ω bytes sheet) ≡ none) where
+module _ (ω : World) (bytes sheet : List ℕ) (coherent : Coherent (ω .store)) (passes : firstFailing (recordTests ω bytes sheet) ≡ none) where
   abbrev runs : Performs (contextOf ω) maximumCalls (asked bytes)
-  runs = performs (contextOf ω) maximumCalls closed (asked bytes) (names-made ω bytes sheet passes .operation)
+  runs = performs (contextOf ω) maximumCalls (coherent .closed) (numbered-fresh (ω .store) (coherent .numbered)) (asked bytes) (names-made ω bytes sheet passes .operation)
 
   pub ran-fails : (f : Failure) (s : State) → ran ω bytes sheet .0 ≡ failed f s → Fails (contextOf ω) f s
   unfolding ran
@@ -106,9 +114,13 @@ left-leaving others (done r s) = refl
 spent-met : (ω : World) (s : State) → Fails (contextOf ω) (Refused 8) s → s .answers ≡ []
 spent-met ω s (method τ (met.spent e)) = e
 
-module _ (ω : World) (bytes sheet output : List ℕ) (closed : Closed (ω .store)) where
+module _ (ω : World) (bytes sheet output : List ℕ) (coherent : Coherent (ω .store)) where
+  -- as many objects are live as numbers have one
+  occupied-live : occupied (ω .store .objects) ≡ liveCount (ω .store)
+  occupied-live = occupied-counted (ω .store .objects) ∙ sym (live-counted (ω .store) (coherent .numbered))
+
   no-room : firstFailing (recordTests ω bytes sheet) ≡ none → Crowded ω bytes sheet → Refusal ω bytes sheet output 7
-  no-room p (by-objects m h) = refusal.crowded p m h
+  no-room p (by-objects m h) = refusal.crowded p m (subst (λ (n : ℕ). maximumObjects ≤ n) (sym occupied-live) h)
   no-room p (by-properties l r h) = full p l r h
 
   -- a failure of the run is a refusal by its number, or is accepted
@@ -155,7 +167,7 @@ module _ (ω : World) (bytes sheet output : List ℕ) (closed : Closed (ω .stor
   ended-unread : (x : Out Result) (a : Answer) (rest : List Answer) → firstFailing (recordTests ω bytes sheet) ≡ none → ran ω bytes sheet .0 ≡ x → unread x ≡ a ∷ rest
       → Accepted (endingOf x) × (leftIn x ≡ a ∷ rest)
   ended-unread (failed (Refused n) s) a rest p e u = absurd (false≢true cc)
-  ended-unread (failed (TypeError n) s) a rest p e u = (errs n s (ran-fails ω bytes sheet closed p _ s e), u)
+  ended-unread (failed (TypeError n) s) a rest p e u = (errs n s (ran-fails ω bytes sheet coherent p _ s e), u)
   ended-unread (failed (Thrown v) s) a rest p e u = (by-throw v, u)
   ended-unread (done r s) a rest p e u = (by-result r, u)
 
@@ -177,8 +189,8 @@ module _ (ω : World) (bytes sheet output : List ℕ) (closed : Closed (ω .stor
 
   shaped : {x : Effect} → Ends ω bytes sheet output x → Shape x
   shaped (how.inadmissible p) = refuses (inadmissible p)
-  shaped (how.refuses {n = n} {s = s} p e) = refuses (met-refusal n s p (ends-in e) (ran-fails ω bytes sheet closed p _ s (ends-in e)))
-  shaped (how.errs {n = n} {s = s} {σ = σ} p e u) = accepts (errs n s (ran-fails ω bytes sheet closed p _ s (ends-in e))) (consumed s (typeError n) p (ap leftIn (ends-in e)) u) (failing _ s σ _ e (λ _ _ q. refusal.MayWrite.by-typeError n q)) (otherwise refl) refl
+  shaped (how.refuses {n = n} {s = s} p e) = refuses (met-refusal n s p (ends-in e) (ran-fails ω bytes sheet coherent p _ s (ends-in e)))
+  shaped (how.errs {n = n} {s = s} {σ = σ} p e u) = accepts (errs n s (ran-fails ω bytes sheet coherent p _ s (ends-in e))) (consumed s (typeError n) p (ap leftIn (ends-in e)) u) (failing _ s σ _ e (λ _ _ q. refusal.MayWrite.by-typeError n q)) (otherwise refl) refl
   shaped (how.throws {v = v} {s = s} {σ = σ} p e u) = accepts (by-throw v) (consumed s (thrown v) p (ap leftIn (ends-in e)) u) (failing _ s σ _ e (λ _ _ q. refusal.MayWrite.by-throw v q)) (otherwise refl) refl
   shaped (how.leaves {a = a} {rest = rest} p e) = let (accepted, l) = ended-unread _ a rest p refl e in refuses (unread-refusal a rest p accepted l)
   shaped (how.short p e u h) = refuses (short p (ends-in e) u h)
@@ -209,7 +221,7 @@ module _ (ω : World) (bytes sheet output : List ℕ) (closed : Closed (ω .stor
   -- a condition that holds refuses the step
   refused-by : (n : ℕ) → Refusal ω bytes sheet output n → ending ≡ refused n
   refused-by n (inadmissible e) = ended-in (step-is ω bytes sheet output _ _ e refl)
-  refused-by n (refusal.crowded p m h) = ended-in (run-ends _ p (crowded-ran ω bytes sheet m h))
+  refused-by n (refusal.crowded p m h) = ended-in (run-ends _ p (crowded-ran ω bytes sheet m (subst (λ (n : ℕ). maximumObjects ≤ n) occupied-live h)))
   refused-by n (full {τ = τ} {s = s} p l r h) = let (t, e) = full-ran ω bytes sheet τ s l r h in ended-in (run-ends _ p e)
   refused-by n (spent p e h) = ended-in (run-ends _ p e)
   refused-by n (unreadable used a r p q u e h) = ended-in (run-ends _ p e)
@@ -249,7 +261,7 @@ module _ (ω : World) (bytes sheet output : List ℕ) (closed : Closed (ω .stor
       → LeftOf (leftIn (perform maximumCalls (contextOf ω) (asked bytes) .run (state (sheetOf sheet ++ more) maximumCalls) .0)) more
   unfolding ran
   all-read {s} e p more = subst (λ (l : List Answer). LeftOf l more) (left-is (later more .1) (later more .0)) (suffix-left (spent-reads-all (settled (perform maximumCalls (contextOf ω) (asked bytes))) (perform-longer maximumCalls (contextOf ω) (asked bytes)) _ s (ap (joined (ran ω bytes sheet .1)) e)
-      (spent-met ω s (ran-fails ω bytes sheet closed p _ s e)) more))
+      (spent-met ω s (ran-fails ω bytes sheet coherent p _ s e)) more))
 
   decided : StepDecided ω bytes sheet output
   decided = record {
@@ -261,12 +273,12 @@ module _ (ω : World) (bytes sheet output : List ℕ) (closed : Closed (ω .stor
     strings = strings-in _ shape;
     consumes = consumed-in _ shape;
     reads = λ e p more. all-read e p more;
-    depth = λ p n h. ran-depth ω bytes sheet closed p n h;
+    depth = λ p n h. ran-depth ω bytes sheet coherent p n h;
   }
 
 -- Demand 1 for steps: at every place of every list of calls, whatever the bytes of the step, the sheet and the output
 pub step-decided : (calls : List Call) (i : ℕ) (bytes sheet output : List ℕ) → StepDecided (worldAt calls i) bytes sheet output
-step-decided calls i bytes sheet output = decided (worldAt calls i) bytes sheet output (closed-at calls i)
+step-decided calls i bytes sheet output = decided (worldAt calls i) bytes sheet output (coherent-at calls i)
 
 -- A string --------------------------------------------------------------------------------
 

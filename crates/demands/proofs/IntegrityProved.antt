@@ -127,7 +127,7 @@ module _ (c : Context) (o : ℕ) (k : PropertyKey) (d : PropertyDescriptor) (bec
       (λ s f. ensures-bind (getOwnProperty-exact n c o k r e) λ t g.
       ensures-bind (isExtensible-exact n c o r e) λ x i.
       subst (λ (b : Bool). Ensures (applyValidation c o k t (validate b d t)) (λ w. w .0 ≡ true → Redefined w)) (sym (i ∙ shut)) (apply-ordinary t g _ refl))
-      (λ p f. let z : some (Ordinary r) ≡ some (Proxy p) = sym e ∙ f in absurd (false≢true cc))
+      (λ p f. let z : some (Ordinary r) ≡ some (Proxy p) = sym e ∙ f .found in absurd (false≢true cc))
 
 -- The turns -----------------------------------------------------------------------------------------
 
@@ -226,7 +226,7 @@ module _ (n : ℕ) (c : Context) (o : ℕ) (level : Level) where
   prevents zero σ r e = ensures-fails _
   prevents (suc d) σ r e = ensures-dispatch σ o
       (λ s f. ensures-pure _ (record { object = record { prototype = s .prototype; extensible = false }; found = lookup-put σ o (Ordinary s) _ f; shut = refl }))
-      (λ p f. let z : some (Ordinary r) ≡ some (Proxy p) = sym e ∙ f in absurd (false≢true cc))
+      (λ p f. let z : some (Ordinary r) ≡ some (Proxy p) = sym e ∙ f .found in absurd (false≢true cc))
 
   lists : (σ : Store) → Solid σ → Ensures (call σ .ownPropertyKeys o) (λ ks. Pending ks σ)
   lists σ h = ensures-weaken (ownPropertyKeys-report n (over c σ) o) (λ ks u. record {

@@ -1,4 +1,5 @@
 pub mod RowsHold
+pub mod Carrying
 pub mod LastingHolds
 pub mod Decided
 pub mod FurtherHold
@@ -7,3 +8,6 @@ pub mod IntegrityProved
 pub mod NamesHold
 pub mod PagesHold
 pub mod PageReading
+pub mod NamingHolds
+pub mod ReleasesHold
+pub mod OrderHolds

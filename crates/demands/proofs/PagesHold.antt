@@ -1,5 +1,6 @@
 -- What is said of pages holds. Assumes nothing.
 use Prim.Native.Nat.{ℕ, zero, suc, _+_, _*_, _/_, _%_, _≤_, _<_}
+use native.Mathlib.Nat.{le-refl, le-trans, le-suc, le-of-lt}
 use native.Mathlib.Omega.{arith}
 use mathlib.Core.Path.{_≡_, refl, sym, ap, _∙_, subst}
 use mathlib.Core.Bool.{Bool, true, false, _||_, false≢true}
@@ -23,7 +24,7 @@ use Rattle.store.specs.OwnKeys.{ordinaryOwnPropertyKeys}
 use Rattle.internal_methods.specs.Monad.{done, state}
 use Rattle.internal_methods.specs.KeyList.{hasKey}
 use Rattle.internal_methods.specs.Internal.{methods}
-use Rattle.internal_methods.proofs.Base.{frozenAs, isAbsent, here, at-base}
+use Rattle.internal_methods.proofs.Base.{frozenAs, isAbsent, here}
 use Rattle.internal_methods.proofs.KeyListLaws.{own-keys-has}
 use Rattle.internal_methods.proofs.OrdinaryRuns.{own-run, keys-run}
 use Rattle.record.specs.Sheet.{sheetOf}
@@ -38,19 +39,19 @@ use Rattle.steps.specs.Run.{Call, Event, At, effect, run, worldAt}
 use Rattle.steps.proofs.Steps.{ends, resulted}
 use Rattle.steps.proofs.Outputs.{front, behind}
 use Rattle.steps.proofs.Pages.{PageEnds, page-ends, page-leaves, length-key, length-line, line-formed, names-formed, length-names, length-lines, shownKey, keys-shown, length-page}
-use Rattle.steps.proofs.Made.{element-below}
 use Rattle.steps.proofs.Places.{happened-from}
 use Rattle.steps.proofs.KnownKeys.{KnownKeys, known-at}
 use Rattle.demands.specs.Pages.{PageRefusal, missing, proxied, short, PageDecided, lineAt, keyAt, Lists, Says, lacks, has, PagesSay, ShowsPage, SaysFixed, PagesLast}
 use Rattle.demands.proofs.AcceptsHold.{reads-run}
+use Rattle.demands.proofs.Carrying.{within}
 use Rattle.demands.proofs.LastingHolds.{fixed-learnt, shut-learnt, absent-learnt}
 
 -- Demand 1 ----------------------------------------------------------------------------------
 
-none-above : {A : Type 0} (l : List A) (i : ℕ) → length l ≤ i → getElem? l i ≡ none
-none-above [] i h = refl
-none-above (x ∷ l) zero h = absurd (omega arith)
-none-above (x ∷ l) (suc i) h = none-above l i (omega arith)
+element-below : {A : Type 0} (l : List A) (i : ℕ) → i < length l → (x : A) × (getElem? l i ≡ some x)
+element-below [] i h = absurd (omega (arith, h))
+element-below (x ∷ l) zero h = (x, refl)
+element-below (x ∷ l) (suc i) h = element-below l i (omega (arith, h))
 
 above-none : {A : Type 0} (l : List A) (i : ℕ) → getElem? l i ≡ none → length l ≤ i
 above-none [] i h = omega arith
@@ -63,13 +64,13 @@ refused-is m n h = cc
 module _ (ω : World) (o : ℕ) (output : List ℕ) where
   page-refused-by : (n : ℕ) → PageRefusal ω o output n → propertyPage ω o output .response .ending ≡ refused n
   unfolding propertyPage lookup
-  page-refused-by n (missing h) = rw (none-above (ω .store .objects) o h)
+  page-refused-by n (missing h) = rw h
   page-refused-by n (proxied e) = rw e
   page-refused-by n (short e h) = rw (e, lt-leb (length (page ω o)) (length output) (omega (arith, h, length-page ω o)))
 
   page-only-by : (n : ℕ) {x : Effect} → PageEnds ω o output x → x .response .ending ≡ refused n → PageRefusal ω o output n × (x ≡ refusing n ω output)
   unfolding lookup
-  page-only-by n (PageEnds.missing e) h = let q : 2 ≡ n = refused-is 2 n h in (subst (PageRefusal ω o output) q (missing (above-none (ω .store .objects) o e)), ap (λ (i : ℕ). refusing i ω output) q)
+  page-only-by n (PageEnds.missing e) h = let q : 2 ≡ n = refused-is 2 n h in (subst (PageRefusal ω o output) q (missing e), ap (λ (i : ℕ). refusing i ω output) q)
   page-only-by n (PageEnds.proxied e) h = let q : 3 ≡ n = refused-is 3 n h in (subst (PageRefusal ω o output) q (proxied e), ap (λ (i : ℕ). refusing i ω output) q)
   page-only-by n (PageEnds.short e f) h = let q : 11 ≡ n = refused-is 11 n h in (subst (PageRefusal ω o output) q (short e (omega (arith, leb-false (length (page ω o)) (length output) f, length-page ω o))), ap (λ (i : ℕ). refusing i ω output) q)
   page-only-by n (PageEnds.writes e f) h = let z : result (result.page (page ω o)) ≡ refused n = h in absurd (false≢true cc)
@@ -285,10 +286,10 @@ module _ (calls : List Call) where
 
   pub pages-last : PagesLast (run calls)
   pages-last = record {
-    fixed = λ i j e f o k v text l he hf t s.
+    fixed = λ i j e f o k v text l n he hf t s.
         let shown = shown-at j o f text hf s in
-        subst (λ (x : List ℕ). SaysFixed x k v) (sym (shown .is)) (fixed-says j o k v _ refl (at-base (here (shown .found)) (fixed-learnt calls i e o k v he t j l)));
-    hidden = λ i j m e f g o k text l n he hf hg small t a s.
+        subst (λ (x : List ℕ). SaysFixed x k v) (sym (shown .is)) (fixed-says j o k v _ refl (fixed-learnt calls i e o k v he t j l n .at (here (shown .found))));
+    hidden = λ i j m e f g o k text l n u he hf hg small t a s.
         let shown = shown-at m o g text hg s in
-        subst (λ (x : List ℕ). Says x k absent) (sym (shown .is)) (absent-says m o k small _ refl (at-base (here (shown .found)) (absent-learnt calls j f o k hf (shut-learnt calls i e o he t j l) a m n) .1));
+        subst (λ (x : List ℕ). Says x k absent) (sym (shown .is)) (absent-says m o k small _ refl (absent-learnt calls j f o k hf (shut-learnt calls i e o he t j l (within (suc i) j u (le-refl (suc i)) (le-of-lt n))) a m n (within (suc j) m u (le-trans l (le-suc j)) (le-refl m)) .at (here (shown .found)) .1));
   }

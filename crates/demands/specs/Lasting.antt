@@ -1,5 +1,5 @@
--- Demand 3 of docs/REFERENCE.md: what was once reported fixed stays fixed. Assumes nothing.
-use Prim.Native.Nat.{ℕ, _<_}
+-- Demand 3 of docs/REFERENCE.md: what was once reported fixed stays fixed, until the object is released. Assumes nothing.
+use Prim.Native.Nat.{ℕ, suc, _≤_, _<_}
 use mathlib.Core.Path.{_≡_}
 use mathlib.Core.Bool.{Bool, true, false}
 use mathlib.Core.List.{List}
@@ -9,10 +9,10 @@ use Rattle.value.specs.Value.{sameValue}
 use Rattle.property.specs.declared.Property.{Property}
 use Rattle.property.specs.declared.Property.the-variants.{Data}
 use Rattle.internal_methods.specs.KeyList.{hasKey}
-use Rattle.steps.specs.Operation.{Operation, getPrototypeOf, isExtensible, preventExtensions, getOwnProperty, hasProperty, get, delete, ownPropertyKeys, asked}
+use Rattle.steps.specs.Operation.{Operation, getPrototypeOf, isExtensible, preventExtensions, getOwnProperty, hasProperty, get, delete, ownPropertyKeys, release, asked}
 use Rattle.steps.specs.Perform.{Result, value, descriptor, absent, keys, boolean}
-use Rattle.steps.specs.Response.{Ending, result}
-use Rattle.steps.specs.Run.{Call, step, Event, At}
+use Rattle.steps.specs.Response.{result}
+use Rattle.steps.specs.Run.{step, Event, At}
 
 -- the event is a step that asks for this operation and ends in this result
 pub record Tells (e : Event) (asks : Operation) (r : Result) : Type 0 where
@@ -53,26 +53,30 @@ pub record IsDataWith (v : Value) (r : Result) : Type 0 where
   pub is : r ≡ descriptor (Data current writable enumerable configurable)
   pub same : sameValue current v ≡ true
 
--- what holds once e at place i has reported o's property k fixed with the value v
+-- from one place on, and before another, no event releases o
+pub record Unreleased (events : List Event) (from to : ℕ) (o : ℕ) : Type 0 where
+  pub none : (l : ℕ) (e : Event) → from ≤ l → l < to → At events l e → Tells e (release o) (boolean true) → ⊥
+
+-- what holds once e at place i has reported o's property k fixed with the value v, while o is not released
 pub record StaysFixed (events : List Event) (i : ℕ) (o : ℕ) (k : PropertyKey) (v : Value) : Type 0 where
   -- [[GetOwnProperty]] of the key gives data with the same value ever after
-  pub described : (j : ℕ) (f : Event) (r : Result) → i < j → At events j f → Tells f (getOwnProperty o k) r → IsDataWith v r
+  pub described : (j : ℕ) (f : Event) (r : Result) → i < j → Unreleased events (suc i) j o → At events j f → Tells f (getOwnProperty o k) r → IsDataWith v r
   -- [[Get]] of the key gives the same value ever after, whatever the receiver
-  pub read : (j : ℕ) (f : Event) (receiver w : Value) → i < j → At events j f → Tells f (get o k receiver) (value w) → sameValue w v ≡ true
+  pub read : (j : ℕ) (f : Event) (receiver w : Value) → i < j → Unreleased events (suc i) j o → At events j f → Tells f (get o k receiver) (value w) → sameValue w v ≡ true
   -- each list of [[OwnPropertyKeys]] after it has the key
-  pub listed : (j : ℕ) (f : Event) (ks : List PropertyKey) → i < j → At events j f → Tells f (ownPropertyKeys o) (keys ks) → hasKey k ks ≡ true
+  pub listed : (j : ℕ) (f : Event) (ks : List PropertyKey) → i < j → Unreleased events (suc i) j o → At events j f → Tells f (ownPropertyKeys o) (keys ks) → hasKey k ks ≡ true
   -- [[Delete]] of the key is never true after it
-  pub undeleted : (j : ℕ) (f : Event) → i < j → At events j f → Tells f (delete o k) (boolean true) → ⊥
+  pub undeleted : (j : ℕ) (f : Event) → i < j → Unreleased events (suc i) j o → At events j f → Tells f (delete o k) (boolean true) → ⊥
 
--- what holds once the event at place i has reported o non-extensible
+-- what holds once the event at place i has reported o non-extensible, while o is not released
 pub record StaysNonExtensible (events : List Event) (i : ℕ) (o : ℕ) : Type 0 where
   -- [[IsExtensible]] is never true after it
-  pub closed : (j : ℕ) (f : Event) → i < j → At events j f → Tells f (isExtensible o) (boolean true) → ⊥
+  pub closed : (j : ℕ) (f : Event) → i < j → Unreleased events (suc i) j o → At events j f → Tells f (isExtensible o) (boolean true) → ⊥
   -- any two results of [[GetPrototypeOf]] after it are the same
-  pub prototype : (j l : ℕ) (f g : Event) (p q : Value) → i < j → i < l → At events j f → At events l g
+  pub prototype : (j l : ℕ) (f g : Event) (p q : Value) → i < j → i < l → Unreleased events (suc i) j o → Unreleased events (suc i) l o → At events j f → At events l g
       → Tells f (getPrototypeOf o) (value p) → Tells g (getPrototypeOf o) (value q) → sameValue p q ≡ true
   -- a key that is reported absent after it is not shown as own after that
-  pub hidden : (j l : ℕ) (f g : Event) (k : PropertyKey) → i < j → j < l → At events j f → At events l g → ReportsAbsent o k f → ShowsOwn o k g → ⊥
+  pub hidden : (j l : ℕ) (f g : Event) (k : PropertyKey) → i < j → j < l → Unreleased events (suc i) l o → At events j f → At events l g → ReportsAbsent o k f → ShowsOwn o k g → ⊥
 
 -- the single claim about a list of events
 pub record Lasting (events : List Event) : Type 0 where

@@ -6,3 +6,4 @@ pub mod Accepts
 pub mod Integrity
 pub mod Names
 pub mod Pages
+pub mod Releases

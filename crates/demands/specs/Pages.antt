@@ -30,7 +30,7 @@ use Rattle.steps.specs.Step.{refusing, step}
 use Rattle.steps.specs.Page.{names, keyColumn, line, LineFormed, shownOn, page, propertyPage}
 use Rattle.steps.specs.Run.{Call, Event, At, run, worldAt}
 use Rattle.steps.specs.Run as call
-use Rattle.demands.specs.Lasting.{ReportsFixed, ReportsNonExtensible, ReportsAbsent}
+use Rattle.demands.specs.Lasting.{ReportsFixed, ReportsNonExtensible, ReportsAbsent, Unreleased}
 
 -- 46 characters and a line feed
 abbrev pub lineSize : ℕ
@@ -40,8 +40,8 @@ lineSize = 47
 
 -- the conditions under which there is no page
 pub data PageRefusal (ω : World) (o : ℕ) (output : List ℕ) : ℕ → Type 0 where
-  -- 2: no object has the number
-  missing : length (ω .store .objects) ≤ o → PageRefusal ω o output 2
+  -- 2: no live object has the number
+  missing : lookup (ω .store) o ≡ none → PageRefusal ω o output 2
   -- 3: it is a proxy
   proxied : {p : ProxyObject} → lookup (ω .store) o ≡ some (Proxy p) → PageRefusal ω o output 3
   -- 11: the names and each own key take a line, and the output has fewer bytes
@@ -103,10 +103,10 @@ pub record SaysFixed (text : List ℕ) (k : PropertyKey) (v : Value) : Type 0 wh
 
 pub record PagesLast (events : List Event) : Type 0 where
   -- what was once reported fixed is so on every later page
-  pub fixed : (i j : ℕ) (e f : Event) (o : ℕ) (k : PropertyKey) (v : Value) (text : List ℕ) → i < j → At events i e → At events j f
+  pub fixed : (i j : ℕ) (e f : Event) (o : ℕ) (k : PropertyKey) (v : Value) (text : List ℕ) → i < j → Unreleased events (suc i) j o → At events i e → At events j f
       → ReportsFixed o k v e → ShowsPage f o text → SaysFixed text k v
   -- a key that was reported absent after a non-extensible report is on no later page
-  pub hidden : (i j l : ℕ) (e f g : Event) (o : ℕ) (k : PropertyKey) (text : List ℕ) → i < j → j < l → At events i e → At events j f → At events l g → keyNumber k < 1000
+  pub hidden : (i j l : ℕ) (e f g : Event) (o : ℕ) (k : PropertyKey) (text : List ℕ) → i < j → j < l → Unreleased events (suc i) l o → At events i e → At events j f → At events l g → keyNumber k < 1000
       → ReportsNonExtensible o e → ReportsAbsent o k f → ShowsPage g o text → Says text k absent
 
 -- Reading back --------------------------------------------------------------------------------

@@ -3,11 +3,12 @@ use Prim.Native.Nat.{ℕ, suc, _+_, _-_, _≤_, _<_}
 use mathlib.Core.Path.{_≡_}
 use mathlib.Core.Logic.{_↔_}
 use mathlib.Core.Bool.{true, false}
-use mathlib.Core.Option.{none, some}
+use mathlib.Core.Option.{Option, none, some}
 use mathlib.Core.List.{List, [], _∷_, _++_}
 use lib.ListN.{length}
 use Rattle.value.specs.declared.Value.{Value}
 use Rattle.text.specs.Strings.{numberOf, maximumLength, maximumStrings}
+use Rattle.store.specs.declared.Object.{Object}
 use Rattle.store.specs.Store.{Store, World, maximumObjects, maximumProperties}
 use Rattle.internal_methods.specs.declared.Failure.the-variants.{Refused, TypeError, Thrown}
 use Rattle.internal_methods.specs.Monad.{Answer, throw, State, state, Out, failed, done}
@@ -43,12 +44,18 @@ abbrev pub leaving : List Answer → Out Result → Out Result
 leaving rest (failed f s) = failed f (state rest (s .calls))
 leaving rest (done r s) = done r (state rest (s .calls))
 
+-- how many numbers have a live object
+unfoldable pub occupied : List (Option Object) → ℕ
+occupied [] = 0
+occupied (none ∷ xs) = occupied xs
+occupied (some x ∷ xs) = suc (occupied xs)
+
 -- the refusals of docs/REFERENCE.md, by their numbers: each condition says why
 pub data Refusal (ω : World) (bytes sheet output : List ℕ) : ℕ → Type 0 where
-  -- 1 to 4 over the step, then 1 to 3 over the sheet: the first test that fails
+  -- 1 to 3, 14 and 4 over the step, then 1 to 3 over the sheet: the first test that fails
   inadmissible : {n : ℕ} → firstFailing (recordTests ω bytes sheet) ≡ some n → Refusal ω bytes sheet output n
-  -- 7: an object is to be made, and 32 are there
-  crowded : firstFailing (recordTests ω bytes sheet) ≡ none → makesObject (asked bytes) ≡ true → maximumObjects ≤ length (ω .store .objects) → Refusal ω bytes sheet output 7
+  -- 7: an object is to be made, and 32 are live
+  crowded : firstFailing (recordTests ω bytes sheet) ≡ none → makesObject (asked bytes) ≡ true → maximumObjects ≤ occupied (ω .store .objects) → Refusal ω bytes sheet output 7
   -- 7: 256 properties are there, and with room for one more the same step ends in true, with one property more
   full : {τ : Store} {s : State} → firstFailing (recordTests ω bytes sheet) ≡ none → maximumProperties ≤ length (ω .store .properties)
       → runWith ω bytes (suc (length (ω .store .properties))) (sheetOf sheet) maximumCalls ≡ (done (boolean true) s, τ)

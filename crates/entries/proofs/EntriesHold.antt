@@ -22,6 +22,11 @@ use Rattle.demands.proofs.PagesHold.{page-decided, pages-say, pages-last}
 use Rattle.demands.proofs.PageReading.{pages-read}
 use Rattle.demands.proofs.IntegrityProved.{integrity-holds}
 use Rattle.demands.proofs.NamesHold.{names-decided, object-made, names-last}
+use Rattle.demands.proofs.NamingHolds.{naming-decided}
+use Rattle.demands.proofs.ReleasesHold.{released}
+use Rattle.demands.proofs.OrderHolds.{releases-hold}
+use Rattle.store.proofs.NumberLaws.{Numbered}
+use Rattle.steps.proofs.Places.{coherent-at}
 use Rattle.steps.proofs.Outputs.{output-is}
 use Rattle.steps.proofs.Pages.{page-output-is}
 use Rattle.reporting.specs.Seen.{responseSeen}
@@ -98,6 +103,7 @@ unfolding run
 kept m n cs rs outs h s t ds =
     let z : world m ≡ empty = rw (s, t) in
     let f = follows h ds in
+    let last : world n ≡ worldFrom empty cs (length cs) = f .after ∙ ap (λ (ω : World). worldFrom ω cs (length cs)) z in
     let seen : eventsSeen cs rs outs ≡ run cs = f .seen ∙ ap (λ (ω : World). runFrom ω cs) z in
     record {
       reports-are = f .reports ∙ ap (λ (ω : World). map reported (runFrom ω cs)) z;
@@ -105,13 +111,16 @@ kept m n cs rs outs h s t ds =
       seen = seen;
       lasting = subst Lasting (sym seen) (lasting cs);
       further = subst Further (sym seen) (further cs);
-      decided = λ bytes sheet output. subst (λ (ω : World). StepDecided ω bytes sheet output) (sym (f .after ∙ ap (λ (ω : World). worldFrom ω cs (length cs)) z)) (step-decided cs (length cs) bytes sheet output);
+      decided = λ bytes sheet output. subst (λ (ω : World). StepDecided ω bytes sheet output) (sym last) (step-decided cs (length cs) bytes sheet output);
       entry-decided = λ units. entry-decided (world n) units;
       page-decided = λ o output. page-decided (world n) o output;
       integrity = λ bytes sheet output. integrity-holds (world n) bytes sheet output;
       names = λ o. names-decided (world n) o;
-      objects = λ bytes sheet output. object-made (world n) bytes sheet output;
+      objects = λ bytes sheet output. object-made (world n) (subst (λ (ω : World). Numbered (ω .store)) (sym last) (coherent-at cs (length cs) .numbered)) bytes sheet output;
       names-last = names-last cs;
+      naming = λ o. naming-decided (storeOf (n .words)) o;
+      released = λ bytes sheet output o a. released (world n) bytes sheet output o a;
+      releases = releases-hold cs;
       pages-say = pages-say cs;
       pages-last = subst PagesLast (sym seen) (pages-last cs);
       pages-read = pages-read cs;

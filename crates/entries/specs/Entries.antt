@@ -3,6 +3,7 @@ use Prim.Native.Nat.{ℕ}
 use mathlib.Core.Path.{_≡_}
 use mathlib.Core.List.{List, [], _∷_, map}
 use Rattle.steps.specs.declared.Report.{Report}
+use Rattle.steps.specs.Operation.{release, asked}
 use Rattle.steps.specs.Response.{Ending, reportOf}
 use Rattle.steps.specs.Step.{outputAfterEnding}
 use Rattle.steps.specs.Run.{Call, Event, run}
@@ -13,7 +14,8 @@ use Rattle.demands.specs.Refusals.{StepDecided, EntryDecided}
 use Rattle.demands.specs.Integrity.{IntegrityHolds}
 use Rattle.demands.specs.Names.{NamesDecided, ObjectMade, NamesLast}
 use Rattle.demands.specs.Pages.{PageDecided, PagesSay, PagesLast, PagesRead}
-use Rattle.store.specs.Words.{worldOf}
+use Rattle.demands.specs.Releases.{NamingDecided, Released, ReleasesHold}
+use Rattle.store.specs.Words.{storeOf, worldOf}
 use Rattle.reporting.specs.Seen.{responseSeen}
 use Rattle.reporting.specs.Memory.{Stepped, StringEntered, Paged}
 
@@ -69,6 +71,9 @@ pub record Kept (calls : List Call) (reports : List Report) (outputs : List (Lis
   pub names : (o : ℕ) → NamesDecided (worldOf (m .words) (m .cells)) o  -- which values of kinds 7 and 8 pass refusals 2 and 3
   pub objects : (bytes sheet output : List ℕ) → ObjectMade (worldOf (m .words) (m .cells)) bytes sheet output  -- of steps 1, 2 and 16 that come next
   pub names-last : NamesLast calls
+  pub naming : (o : ℕ) → NamingDecided (storeOf (m .words)) o  -- what refusal 14 looks at
+  pub released : (bytes sheet output : List ℕ) (o : ℕ) → asked bytes ≡ release o → Released (worldOf (m .words) (m .cells)) bytes sheet output o  -- of a release that comes next
+  pub releases : ReleasesHold calls  -- what is named is live, and which number comes next
   pub pages-say : PagesSay calls  -- a page says what [[OwnPropertyKeys]] and [[GetOwnProperty]] answer
   pub pages-last : PagesLast (eventsSeen calls reports outputs)  -- what was once reported fixed is so on every later page
   pub pages-read : PagesRead calls  -- keys and properties are read back from a page's bytes

@@ -2,6 +2,7 @@
 use Prim.Native.Nat.{ℕ, zero, suc}
 use mathlib.Core.Path.{_≡_, refl, sym, _∙_, subst}
 use mathlib.Core.Bool.{Bool, true, false, not, cond, false≢true, true≢false}
+use lib.Dec.{eqb}
 use lib.ListN.{length}
 use Rattle.value.specs.declared.Value.{Value}
 use Rattle.value.specs.declared.PropertyKey.{PropertyKey}
@@ -18,13 +19,15 @@ use Rattle.property.proofs.ValidateLaws.{validate-adds}
 use Rattle.store.specs.declared.OrdinaryObject.{OrdinaryObject}
 use Rattle.store.specs.declared.Object.{Object}
 use Rattle.store.specs.Store.{Store, put, add, own, withProperty, withoutProperty}
+use Rattle.store.specs.Release.{release}
 use Rattle.store.proofs.StoreLaws.{samePlace, place-eq, own-put, own-add, own-with, own-without}
+use Rattle.store.proofs.ReleaseLaws.{own-released}
 use Rattle.internal_methods.specs.Methods.{Context, Written}
 use Rattle.internal_methods.specs.Ordinary.{reaches, withPrototype, ordinarySetPrototypeOf, applyValidation, ordinaryDefineOwnProperty, setOnReceiver, setData, ordinarySet, ordinaryDelete}
 use Rattle.internal_methods.specs.Proxy.{proxySetPrototypeOf, proxyPreventExtensions, proxyDefineOwnProperty, proxySet, proxyDelete}
 use Rattle.internal_methods.specs.Internal.{methods}
 use Rattle.internal_methods.proofs.Ensures.{Ensures, ensures-pure, ensures-fails, ensures-bind, ensures-if, ensures-throwIf, ensures-then, ensures-option, ensures-dispatch}
-use Rattle.internal_methods.proofs.Base.{Base, here, over, at-base, Shut}
+use Rattle.internal_methods.proofs.Base.{Base, here, over, Shut}
 use Rattle.internal_methods.proofs.Reading.{isExtensible-exact, getOwnProperty-exact}
 
 -- P holds of every own key
@@ -40,7 +43,7 @@ module _ {P : PropertyKey → Type 0} where
   addable-key h = record { holds = λ b r _ _. h }
 
   pub addable-shut : {σ : Store} {o : ℕ} (k : PropertyKey) → Shut σ o → Addable P σ o k
-  addable-shut k shut = record { holds = λ b r base e. absurd (true≢false (sym e ∙ at-base base shut)) }
+  addable-shut k shut = record { holds = λ b r base e. absurd (true≢false (sym e ∙ shut .at base)) }
 
   -- The stores that methods leave ---------------------------------------------------------
 
@@ -49,6 +52,13 @@ module _ {P : PropertyKey → Type 0} where
 
   pub keys-add : (σ : Store) (x : Object) (c : Bool) → OwnKeys P σ → OwnKeys P (add σ x c)
   keys-add σ x c h = record { holds = λ b l q e. h .holds b l q (sym (own-add σ x c b l) ∙ e) }
+
+  pub keys-released : (σ : Store) (o : ℕ) → OwnKeys P σ → OwnKeys P (release σ o)
+  keys-released σ o h = record { holds = λ b l q e. go b l q (eqb o b) (sym (own-released σ o b l) ∙ e) }
+    where
+      go : (b : ℕ) (l : PropertyKey) (q : Property) (t : Bool) → cond t Absent (own σ b l) ≡ Present q → P l
+      go b l q true e = absurd (false≢true cc)
+      go b l q false e = h .holds b l q e
 
   keys-with : (σ : Store) (o : ℕ) (k : PropertyKey) (p : Property) → P k → OwnKeys P σ → OwnKeys P (withProperty σ o k p)
   keys-with σ o k p m h = record { holds = λ b l q e. go b l q (samePlace o k b l) refl (sym (own-with σ o k p b l) ∙ e) }

@@ -1,7 +1,7 @@
 -- The calls that are left end a step, and the fuel never does; and all the ways in which a method can fail. Assumes nothing.
 use Prim.Native.Nat.{ℕ, zero, suc, _≤_}
 use native.Mathlib.Nat.{le-refl, le-suc, le-trans, le-of-suc-le-suc, not-suc-le-zero}
-use mathlib.Core.Path.{_≡_, refl, sym, subst}
+use mathlib.Core.Path.{_≡_, refl, sym, _∙_, subst}
 use mathlib.Core.Bool.{Bool, true, false}
 use mathlib.Core.Option.{Option, none, some}
 use mathlib.Core.List.{List, [], _∷_}
@@ -12,18 +12,23 @@ use Rattle.store.specs.declared.Object.{Object}
 use Rattle.store.specs.declared.Object.the-variants.{Ordinary, Proxy}
 use Rattle.store.specs.Store.{Store, lookup}
 use Rattle.value.specs.declared.PropertyKey.{PropertyKey}
+use Rattle.property.specs.declared.PropertyDescriptor.{PropertyDescriptor}
+use Rattle.property.specs.declared.Property.{Property}
 use Rattle.property.specs.declared.OwnProperty.{OwnProperty}
 use Rattle.property.specs.declared.OwnProperty.the-variants.{Absent, Present}
 use Rattle.property.specs.declared.Validation.{Validation}
 use Rattle.property.specs.declared.Validation.the-variants.{Rejected, Unchanged, Becomes}
+use Rattle.property.specs.Validate.{validate}
+use Rattle.property.proofs.ValueLaws.{validate-by}
 use Rattle.internal_methods.specs.declared.Failure.{Failure}
 use Rattle.internal_methods.specs.declared.Failure.the-variants.{Refused, TypeError, Thrown}
 use Rattle.internal_methods.specs.Monad.{Answer, State, state, Out, M, pure, fails, next, _>>=_, _>>_, throwIf, throwAny, answered, ask, counted, tick, dispatched, dispatch, if_then_else_}
 use Rattle.internal_methods.specs.Methods.{Context, Methods, Written}
 use Rattle.internal_methods.specs.Ordinary.{isFull, applyValidation}
 use Rattle.internal_methods.specs.Internal.{methods}
-use Rattle.internal_methods.proofs.Walk.{Message, message, Any, AnswerBy, MethodsBy, Relation, Asking, askValue-by, askBoolean-by, askPrototype-by, askDescriptor-by, askKeys-by, level-by}
-use Rattle.internal_methods.proofs.StoreClosed.{Made, MadeValue, Closed, Kept, kept-same, kept-put, kept-with, kept-without}
+use Rattle.internal_methods.proofs.Walk.{Message, message, Any, any-descriptor, AnswerBy, MethodsBy, Relation, Asking, askValue-by, askBoolean-by, askPrototype-by, askDescriptor-by, askKeys-by, level-by}
+use Rattle.internal_methods.proofs.StoreClosed.{Made, MadeValue, MadeProperty, MadeDescriptor, Closed, undefined-made, Kept, kept-same, kept-put, kept-with, kept-without}
+use Rattle.internal_methods.proofs.Room.{OwnIn, not-both}
 
 abbrev pub MadeAnswer : Store → Answer → Type 0
 MadeAnswer σ a = AnswerBy (MadeValue σ) a
@@ -140,14 +145,14 @@ module _ {c : Context} {n : ℕ} {A : Type 0} {Q : A → Type 0} where
   -- one call fewer is left to the method that o has
   pub steady-dispatch : {f f′ : OrdinaryObject → M A} {g g′ : ProxyObject → M A} (o : ℕ) → Made (c .store) o
       → ((r : OrdinaryObject) → lookup (c .store) o ≡ some (Ordinary r) → Steady c n (f r) (f′ r) Q)
-      → ((p : ProxyObject) → lookup (c .store) o ≡ some (Proxy p) → Steady c n (g p) (g′ p) Q)
+      → ((p : ProxyObject) → lookup (c .store) o ≡ some (Proxy p) → p .revoked ≡ false → Steady c n (g p) (g′ p) Q)
       → Steady c (suc n) (dispatch (c .store) o f g) (dispatch (c .store) o f′ g′) Q
   unfolding dispatch dispatched tick next _>>=_
   steady-dispatch {f} {f′} {g} {g′} o (x, e) hf hg = record { runs = λ s le ms. go (s .answers) (s .calls) le ms }
     where
       body : (x : Object) → lookup (c .store) o ≡ some x → Steady c n (dispatched (some x) f g) (dispatched (some x) f′ g′) Q
       body (Ordinary r) e = hf r e
-      body (Proxy p) e = steady-throwIf 1 (p .revoked) (message 1 tt) (λ _. hg p e)
+      body (Proxy p) e = steady-throwIf 1 (p .revoked) (message 1 tt) (hg p e)
 
       found : Steady c n (dispatched (lookup (c .store) o) f g) (dispatched (lookup (c .store) o) f′ g′) Q
       found = subst (λ y. Steady c n (dispatched y f g) (dispatched y f′ g′) Q) (sym e) (body x e)
@@ -198,15 +203,22 @@ unfolding if_then_else_
 steady-room c n true e w k = steady-fails _ (λ t. full e)
 steady-room c n false e w k = steady-pure w k
 
-pub applyValidation-steady : (c : Context) (n : ℕ) → Closed (c .store) → (o : ℕ) (k : PropertyKey) (current : OwnProperty) (v : Validation)
-    → Steady c n (applyValidation c o k current v) (applyValidation c o k current v) (KeptBy c)
-unfolding applyValidation
-applyValidation-steady c n closed o k current (Rejected t) = steady-pure _ (kept-same (c .store) closed)
-applyValidation-steady c n closed o k current Unchanged = steady-pure _ (kept-same (c .store) closed)
-applyValidation-steady c n closed o k Absent (Becomes p) = steady-room c n (isFull c) refl _ (kept-with (c .store) o k p closed)
-applyValidation-steady c n closed o k (Present q) (Becomes p) = steady-pure _ (kept-with (c .store) o k p closed)
+module _ (c : Context) (n : ℕ) (closed : Closed (c .store)) where
+  pub applyValidation-steady : (o : ℕ) → Made (c .store) o → (k : PropertyKey) (current : OwnProperty) (v : Validation) → ((p : Property) → v ≡ Becomes p → MadeProperty (c .store) p)
+      → Steady c n (applyValidation c o k current v) (applyValidation c o k current v) (KeptBy c)
+  unfolding applyValidation
+  applyValidation-steady o m k current (Rejected t) h = steady-pure _ (kept-same (c .store) closed)
+  applyValidation-steady o m k current Unchanged h = steady-pure _ (kept-same (c .store) closed)
+  applyValidation-steady o m k Absent (Becomes p) h = steady-room c n (isFull c) refl _ (kept-with (c .store) o k p closed m (h p refl))
+  applyValidation-steady o m k (Present q) (Becomes p) h = steady-pure _ (kept-with (c .store) o k p closed m (h p refl))
 
-abbrev pub steady-relation : (c : Context) (n : ℕ) → Closed (c .store) → Relation c (c .allowance) (Made (c .store)) (MadeValue (c .store)) (λ _ _. Any)
+  -- what validation makes of an own property names what the property or the descriptor does
+  pub validated-steady : (o : ℕ) (r : OrdinaryObject) → lookup (c .store) o ≡ some (Ordinary r) → (k : PropertyKey) (current : OwnProperty) → OwnIn c o k current → (x : Bool) (d : PropertyDescriptor) → MadeDescriptor (c .store) d
+      → Steady c n (applyValidation c o k current (validate x d current)) (applyValidation c o k current (validate x d current)) (KeptBy c)
+  validated-steady o r e k current own x d m = applyValidation-steady o (Ordinary r, e) k current (validate x d current)
+      (validate-by (undefined-made (c .store)) d m x current (λ q f. closed .named o k q (sym (own r e) ∙ f)))
+
+abbrev pub steady-relation : (c : Context) (n : ℕ) → Closed (c .store) → Relation c (c .allowance) (Made (c .store)) (MadeValue (c .store)) (OwnIn c)
 steady-relation c n closed = record {
   reads = λ Q m m′. Steady c n m m′ Q;
   writes = λ m m′. Steady c n m m′ (KeptBy c);
@@ -226,16 +238,16 @@ steady-relation c n closed = record {
   idle = λ b. steady-pure _ (kept-same (c .store) closed);
   puts = λ o r m. steady-pure _ (kept-put (c .store) o (Ordinary r) closed m);
   removes = λ o k. steady-pure _ (kept-without (c .store) o k closed);
-  applies = λ o r e k current _ v. applyValidation-steady c n closed o k current v;
+  applies = validated-steady c n closed;
   object = λ v m. m .made;
   prototype = closed .ordinary;
   target = closed .proxy;
-  own-found = λ o r e k. tt;
-  own-answered = λ o p e k x. tt;
+  own-found = λ o r e k r′ e′. refl;
+  own-answered = λ o p e k x r e′. absurd (not-both (sym e ∙ e′));
 }
 
 abbrev pub SteadyMethods : Context → ℕ → Methods → Methods → Type 0
-SteadyMethods c n call call′ = MethodsBy (λ A Q m m′. Steady c n m m′ Q) (λ m m′. Steady c n m m′ (KeptBy c)) (Made (c .store)) (MadeValue (c .store)) (λ _ _. Any) call call′
+SteadyMethods c n call call′ = MethodsBy (λ A Q m m′. Steady c n m m′ Q) (λ m m′. Steady c n m m′ (KeptBy c)) (Made (c .store)) (MadeValue (c .store)) (OwnIn c) call call′
 
 -- with no call left each method is refused, whatever the fuel
 abbrev StopsMethods : Methods → Type 0
@@ -249,10 +261,10 @@ methods-stop zero c = record {
   isExtensible = λ o _. stops-fails;
   preventExtensions = λ o _. stops-fails;
   getOwnProperty = λ o k _. stops-fails;
-  defineOwnProperty = λ o k d _. stops-fails;
+  defineOwnProperty = λ o k d _ _. stops-fails;
   hasProperty = λ o k _. stops-fails;
   get = λ o k receiver _. stops-fails;
-  set = λ o k v receiver _ _. stops-fails;
+  set = λ o k v receiver _ _ _. stops-fails;
   delete = λ o k _. stops-fails;
   ownPropertyKeys = λ o _. stops-fails;
 }
@@ -262,10 +274,10 @@ methods-stop (suc n) c = record {
   isExtensible = λ o _. stops-dispatch _ _ _ _;
   preventExtensions = λ o _. stops-dispatch _ _ _ _;
   getOwnProperty = λ o k _. stops-dispatch _ _ _ _;
-  defineOwnProperty = λ o k d _. stops-dispatch _ _ _ _;
+  defineOwnProperty = λ o k d _ _. stops-dispatch _ _ _ _;
   hasProperty = λ o k _. stops-dispatch _ _ _ _;
   get = λ o k receiver _. stops-dispatch _ _ _ _;
-  set = λ o k v receiver _ _. stops-dispatch _ _ _ _;
+  set = λ o k v receiver _ _ _. stops-dispatch _ _ _ _;
   delete = λ o k _. stops-dispatch _ _ _ _;
   ownPropertyKeys = λ o _. stops-dispatch _ _ _ _;
 }
@@ -277,10 +289,10 @@ none-left h h′ = record {
   isExtensible = λ o _. steady-stops (h .isExtensible o tt) (h′ .isExtensible o tt);
   preventExtensions = λ o _. steady-stops (h .preventExtensions o tt) (h′ .preventExtensions o tt);
   getOwnProperty = λ o k _. steady-stops (h .getOwnProperty o k tt) (h′ .getOwnProperty o k tt);
-  defineOwnProperty = λ o k d _. steady-stops (h .defineOwnProperty o k d tt) (h′ .defineOwnProperty o k d tt);
+  defineOwnProperty = λ o k d _ _. steady-stops (h .defineOwnProperty o k d tt (any-descriptor d)) (h′ .defineOwnProperty o k d tt (any-descriptor d));
   hasProperty = λ o k _. steady-stops (h .hasProperty o k tt) (h′ .hasProperty o k tt);
   get = λ o k receiver _. steady-stops (h .get o k receiver tt) (h′ .get o k receiver tt);
-  set = λ o k v receiver _ _. steady-stops (h .set o k v receiver tt tt) (h′ .set o k v receiver tt tt);
+  set = λ o k v receiver _ _ _. steady-stops (h .set o k v receiver tt tt tt) (h′ .set o k v receiver tt tt tt);
   delete = λ o k _. steady-stops (h .delete o k tt) (h′ .delete o k tt);
   ownPropertyKeys = λ o _. steady-stops (h .ownPropertyKeys o tt) (h′ .ownPropertyKeys o tt);
 }

@@ -4,9 +4,9 @@ use native.Mathlib.Nat.{le-refl, le-suc, le-trans, le-of-suc-le-suc, not-suc-le-
 use mathlib.Core.Path.{_≡_, refl, sym, ap, _∙_, subst}
 use mathlib.Core.Bool.{Bool, true, false, not, _||_, cond, false≢true}
 use mathlib.Core.Option.{Option, none, some}
-use mathlib.Core.List.{List, [], _∷_, _++_}
+use mathlib.Core.List.{List, [], _∷_}
 use lib.Dec.{eqb}
-use lib.ListN.{length, getElem?, set}
+use lib.ListN.{length, getD, set}
 use borrow.Author.Tests.{eqb-true, eqb-false, ne-eqb}
 use Rattle.value.specs.declared.Value.{Value}
 use Rattle.value.specs.declared.PropertyKey.{PropertyKey}
@@ -24,13 +24,15 @@ use Rattle.store.specs.declared.ProxyObject.{ProxyObject}
 use Rattle.store.specs.declared.Object.{Object}
 use Rattle.store.specs.declared.Object.the-variants.{Ordinary, Proxy}
 use Rattle.store.specs.Store.{Store, lookup, put, add, withProperty, withoutProperty}
-use Rattle.store.proofs.StoreLaws.{lookup-put, lookup-put-other, lookup-add}
+use Rattle.store.specs.Release.{isNamed, release}
+use Rattle.store.proofs.StoreLaws.{Fresh, lookup-put, lookup-put-other, lookup-add}
+use Rattle.store.proofs.ReleaseLaws.{lookup-released-other, lookup-left, unnamed-prototype}
 use Rattle.internal_methods.specs.Methods.{Context, Written}
 use Rattle.internal_methods.specs.Ordinary.{reaches, withPrototype, ordinarySetPrototypeOf, applyValidation, ordinaryDefineOwnProperty, setOnReceiver, setData, ordinarySet, ordinaryDelete}
 use Rattle.internal_methods.specs.Proxy.{proxySetPrototypeOf, proxyPreventExtensions, proxyDefineOwnProperty, proxySet, proxyDelete}
 use Rattle.internal_methods.specs.Internal.{methods}
 use Rattle.internal_methods.proofs.Ensures.{Ensures, ensures-pure, ensures-fails, ensures-if, ensures-throwIf, ensures-then, ensures-option, ensures-dispatch}
-use Rattle.internal_methods.proofs.StoreClosed.{Made, MadeValue, MadeObject}
+use Rattle.internal_methods.proofs.StoreClosed.{Made, MadeValue, MadeObject, add-cases}
 
 -- the chain from v has n ordinary objects, and then ends in a proxy or a value that is no object
 pub data Chain (σ : Store) : ℕ → Value → Type 0 where
@@ -59,31 +61,37 @@ chain-unique (ordinary {q = a} {r = r} e l c) (ordinary {q = b} {r = s} f g d) h
 
 -- The number of ordinary objects ------------------------------------------------------
 
-abbrev ordinaries : List Object → ℕ
+abbrev ordinaries : List (Option Object) → ℕ
 ordinaries [] = 0
-ordinaries (Ordinary r ∷ os) = suc (ordinaries os)
-ordinaries (Proxy p ∷ os) = ordinaries os
+ordinaries (none ∷ os) = ordinaries os
+ordinaries (some (Ordinary r) ∷ os) = suc (ordinaries os)
+ordinaries (some (Proxy p) ∷ os) = ordinaries os
 
-ordinaries-all : (os : List Object) → ordinaries os ≤ length os
+ordinaries-all : (os : List (Option Object)) → ordinaries os ≤ length os
 ordinaries-all [] = zero-le
-ordinaries-all (Ordinary r ∷ os) = suc-le-suc (ordinaries-all os)
-ordinaries-all (Proxy p ∷ os) = le-trans (ordinaries-all os) (le-suc _)
+ordinaries-all (none ∷ os) = le-trans (ordinaries-all os) (le-suc _)
+ordinaries-all (some (Ordinary r) ∷ os) = suc-le-suc (ordinaries-all os)
+ordinaries-all (some (Proxy p) ∷ os) = le-trans (ordinaries-all os) (le-suc _)
 
 -- a proxy is none of them
-ordinaries-fewer : (os : List Object) (q : ℕ) (p : ProxyObject) → getElem? os q ≡ some (Proxy p) → ordinaries os < length os
+ordinaries-fewer : (os : List (Option Object)) (q : ℕ) (p : ProxyObject) → getD os q none ≡ some (Proxy p) → ordinaries os < length os
 ordinaries-fewer [] q p e = absurd (false≢true cc)
-ordinaries-fewer (Ordinary r ∷ os) zero p e = absurd (false≢true cc)
-ordinaries-fewer (Ordinary r ∷ os) (suc q) p e = suc-le-suc (ordinaries-fewer os q p e)
-ordinaries-fewer (Proxy s ∷ os) zero p e = suc-le-suc (ordinaries-all os)
-ordinaries-fewer (Proxy s ∷ os) (suc q) p e = le-trans (ordinaries-fewer os q p e) (le-suc _)
+ordinaries-fewer (none ∷ os) zero p e = absurd (false≢true cc)
+ordinaries-fewer (none ∷ os) (suc q) p e = le-trans (ordinaries-fewer os q p e) (le-suc _)
+ordinaries-fewer (some (Ordinary r) ∷ os) zero p e = absurd (false≢true cc)
+ordinaries-fewer (some (Ordinary r) ∷ os) (suc q) p e = suc-le-suc (ordinaries-fewer os q p e)
+ordinaries-fewer (some (Proxy s) ∷ os) zero p e = suc-le-suc (ordinaries-all os)
+ordinaries-fewer (some (Proxy s) ∷ os) (suc q) p e = le-trans (ordinaries-fewer os q p e) (le-suc _)
 
 -- one fewer, where a proxy takes its place
-ordinaries-set : (os : List Object) (q : ℕ) (r : OrdinaryObject) (p : ProxyObject) → getElem? os q ≡ some (Ordinary r) → ordinaries os ≡ suc (ordinaries (set os q (Proxy p)))
+ordinaries-set : (os : List (Option Object)) (q : ℕ) (r : OrdinaryObject) (p : ProxyObject) → getD os q none ≡ some (Ordinary r) → ordinaries os ≡ suc (ordinaries (set os q (some (Proxy p))))
 ordinaries-set [] q r p e = absurd (false≢true cc)
-ordinaries-set (Ordinary s ∷ os) zero r p e = refl
-ordinaries-set (Ordinary s ∷ os) (suc q) r p e = ap suc (ordinaries-set os q r p e)
-ordinaries-set (Proxy s ∷ os) zero r p e = absurd (false≢true cc)
-ordinaries-set (Proxy s ∷ os) (suc q) r p e = ordinaries-set os q r p e
+ordinaries-set (none ∷ os) zero r p e = absurd (false≢true cc)
+ordinaries-set (none ∷ os) (suc q) r p e = ordinaries-set os q r p e
+ordinaries-set (some (Ordinary s) ∷ os) zero r p e = refl
+ordinaries-set (some (Ordinary s) ∷ os) (suc q) r p e = ap suc (ordinaries-set os q r p e)
+ordinaries-set (some (Proxy s) ∷ os) zero r p e = absurd (false≢true cc)
+ordinaries-set (some (Proxy s) ∷ os) (suc q) r p e = ordinaries-set os q r p e
 
 -- A chain is no longer than that -------------------------------------------------------
 
@@ -260,20 +268,12 @@ ends-without σ o k h = record {
       (n, chain-kept (record { keeps = λ q x f. (x, f, alike-refl x) }) c);
 }
 
--- the last object of a list, or another
-last-or : {A C : Type 0} (l : List A) (x : A) (i : ℕ) (y : A) → getElem? (l ++ (x ∷ [])) i ≡ some y → (x ≡ y → C) → (getElem? l i ≡ some y → C) → C
-last-or [] x zero y e f g = f cc
-last-or [] x (suc i) y e f g = absurd (false≢true cc)
-last-or (z ∷ l) x zero y e f g = g e
-last-or (z ∷ l) x (suc i) y e f g = last-or l x i y e f g
-
 -- a new object's chain goes on through one that ended before
-pub ends-add : (σ : Store) (x : Object) (b : Bool) → MadeObject σ x → Ends σ → Ends (add σ x b)
-unfolding lookup add
-ends-add σ x b mx h = record { chain = λ v m. from v m (objectOf v) refl }
+pub ends-add : (σ : Store) → Fresh σ → (x : Object) (b : Bool) → MadeObject σ x → Ends σ → Ends (add σ x b)
+ends-add σ fresh x b mx h = record { chain = λ v m. from v m (objectOf v) refl }
   where
     kept : {n : ℕ} {v : Value} → Chain σ n v → Chain (add σ x b) n v
-    kept c = chain-kept (record { keeps = λ q z f. (z, lookup-add σ x b q z f, alike-refl z) }) c
+    kept c = chain-kept (record { keeps = λ q z f. (z, lookup-add σ fresh x b q z f, alike-refl z) }) c
 
     new : (v : Value) (q : ℕ) → objectOf v ≡ some q → (y : Object) → lookup (add σ x b) q ≡ some y → MadeObject σ y → (n : ℕ) × Chain (add σ x b) n v
     new v q e (Ordinary r) f m = let (n, c) = h .chain (r .prototype) m in (suc n, ordinary {r = r} e f (kept c))
@@ -283,9 +283,22 @@ ends-add σ x b mx h = record { chain = λ v m. from v m (objectOf v) refl }
     from v m none e = (0, value e)
     from v m (some q) e =
         let (y, f) = m .made q e in
-        last-or (σ .objects) x q y f
+        add-cases σ fresh x b q y f
         (λ s. new v q e y f (subst (MadeObject σ) s mx))
         (λ g. let (n, c) = h .chain v (record { made = λ o w. let s : q ≡ o = cc in subst (Made σ) s (y, g) }) in (n, kept c))
+
+-- an object that is not named is on no chain but its own
+pub ends-released : (σ : Store) (o : ℕ) → Ends σ → isNamed σ o ≡ false → Ends (release σ o)
+ends-released σ o h n = record {
+  chain = λ v m.
+      let (k, c) = h .chain v (record { made = λ q e. let (x, f) = m .made q e in (x, lookup-left σ o q x f .1) }) in
+      (k, left c (λ q e. let (x, f) = m .made q e in lookup-left σ o q x f .0));
+}
+  where
+    left : {k : ℕ} {v : Value} → Chain σ k v → ((q : ℕ) → objectOf v ≡ some q → eqb o q ≡ false) → Chain (release σ o) k v
+    left (value e) other = value e
+    left (proxy {q = q} {p = p} e f) other = proxy {p = p} e (lookup-released-other σ o q (other q e) ∙ f)
+    left (ordinary {q = q} {r = r} e f c) other = ordinary {r = r} e (lookup-released-other σ o q (other q e) ∙ f) (left c (λ b g. unnamed-prototype σ o q b r n f g))
 
 -- 10.1.2.1 step 8: o is not on the chain that it now goes on with
 ends-set : (σ : Store) (o : ℕ) (r : OrdinaryObject) (v : Value) → lookup σ o ≡ some (Ordinary r) → MadeValue σ v → reaches (length (σ .objects)) σ o v ≡ false

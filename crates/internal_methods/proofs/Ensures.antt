@@ -11,6 +11,7 @@ use Rattle.store.specs.Store.{Store, lookup}
 use Rattle.internal_methods.specs.declared.Failure.{Failure}
 use Rattle.internal_methods.specs.declared.Failure.the-variants.{Refused, TypeError}
 use Rattle.internal_methods.specs.Monad.{State, Out, failed, done, M, pure, fails, next, _>>=_, _>>_, throwIf, throwAny, if_then_else_, dispatched, dispatch}
+use Rattle.internal_methods.proofs.Base.{Active}
 
 -- of a method that fails nothing is said
 pub record Ensures {A : Type 0} (m : M A) (Q : A → Type 0) : Type 0 where
@@ -75,7 +76,7 @@ module _ {A : Type 0} {Q : A → Type 0} where
 
   pub ensures-dispatch : {f : OrdinaryObject → M A} {g : ProxyObject → M A} (σ : Store) (o : ℕ)
       → ((r : OrdinaryObject) → lookup σ o ≡ some (Ordinary r) → Ensures (f r) Q)
-      → ((p : ProxyObject) → lookup σ o ≡ some (Proxy p) → Ensures (g p) Q)
+      → ((p : ProxyObject) → Active σ o p → Ensures (g p) Q)
       → Ensures (dispatch σ o f g) Q
   unfolding dispatch dispatched
   ensures-dispatch {f} {g} σ o hf hg = ensures-then _ (λ _. go (lookup σ o) refl)
@@ -83,4 +84,4 @@ module _ {A : Type 0} {Q : A → Type 0} where
       go : (x : Option Object) → lookup σ o ≡ x → Ensures (dispatched x f g) Q
       go none e = ensures-fails (Refused 2)
       go (some (Ordinary r)) e = hf r e
-      go (some (Proxy p)) e = ensures-throwIf 1 (p .revoked) (λ _. hg p e)
+      go (some (Proxy p)) e = ensures-throwIf 1 (p .revoked) (λ f. hg p (record { found = e; unrevoked = f }))

@@ -19,7 +19,7 @@ use Rattle.internal_methods.specs.KeyList.{hasKey, Sorted}
 use Rattle.internal_methods.specs.Proxy.{absentOrConfigurable, sortedBy, sorted, proxyOwnPropertyKeys}
 use Rattle.internal_methods.specs.Internal.{methods}
 use Rattle.internal_methods.proofs.Ensures.{Ensures, ensures-pure, ensures-fails, ensures-bind, ensures-if, ensures-throwAny, ensures-then, ensures-weaken, ensures-dispatch}
-use Rattle.internal_methods.proofs.Base.{frozenAs, isAbsent, here, Under, at-base, through, Frozen}
+use Rattle.internal_methods.proofs.Base.{frozenAs, isAbsent, here, Under, at-base, on-base, through, Frozen}
 use Rattle.internal_methods.proofs.Reading.{isExtensible-report, Faithful, getOwnProperty-report, frozen-told}
 use Rattle.internal_methods.proofs.KeyListLaws.{own-keys-has, Admitted, admitted}
 
@@ -79,7 +79,7 @@ keys-tied {σ} {o} targetKeys result s x u sorts a t = record {
   base = t .base;
   holds = record {
     fixed = λ k v f.
-        let frozen : Frozen σ o k v = record { number = t .number; object = t .object; base = t .base; holds = f } in
+        let frozen : Frozen σ o k v = on-base (record { number = t .number; object = t .object; base = t .base; holds = f }) in
         a .fixed k (sorts .fixed k v frozen (t .holds .fixed k v f));
     shown = λ shut k. a .exact (at-base (t .base) u ∙ shut) k ∙ sym (sorts .parts k) ∙ t .holds .shown shut k;
   };

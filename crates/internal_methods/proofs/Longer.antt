@@ -161,7 +161,7 @@ longer-tick = record {
 
 module _ {A : Type 0} where
   pub longer-dispatch : {f : OrdinaryObject → M A} {g : ProxyObject → M A} (σ : Store) (o : ℕ)
-      → ((r : OrdinaryObject) → lookup σ o ≡ some (Ordinary r) → Longer (f r)) → ((p : ProxyObject) → lookup σ o ≡ some (Proxy p) → Longer (g p))
+      → ((r : OrdinaryObject) → lookup σ o ≡ some (Ordinary r) → Longer (f r)) → ((p : ProxyObject) → lookup σ o ≡ some (Proxy p) → p .revoked ≡ false → Longer (g p))
       → Longer (dispatch σ o f g)
   unfolding dispatch dispatched
   longer-dispatch {f} {g} σ o hf hg = longer-bind longer-tick (λ _. go (lookup σ o) refl)
@@ -169,7 +169,7 @@ module _ {A : Type 0} where
       go : (x : Option Object) → lookup σ o ≡ x → Longer (dispatched x f g)
       go none e = longer-fails _
       go (some (Ordinary r)) e = hf r e
-      go (some (Proxy p)) e = longer-throwIf 1 (p .revoked) (λ _. hg p e)
+      go (some (Proxy p)) e = longer-throwIf 1 (p .revoked) (hg p e)
 
 -- The methods: of their objects and values nothing need be known
 
@@ -219,10 +219,10 @@ longer-relation c = record {
   idle = λ b. longer-pure _;
   puts = λ o r _. longer-pure _;
   removes = λ o k. longer-pure _;
-  applies = λ o r e k current _ v. applyValidation-longer c o k current v;
+  applies = λ o r e k current _ x d _. applyValidation-longer c o k current _;
   object = λ v _ q _. tt;
   prototype = λ o r _. tt;
-  target = λ o p _. tt;
+  target = λ o p _ _. tt;
   own-found = λ o r e k. tt;
   own-answered = λ o p e k x. tt;
 }

@@ -12,7 +12,6 @@ use Rattle.property.specs.declared.Validation.{Validation}
 use Rattle.property.specs.declared.Validation.the-variants.{Rejected, Unchanged, Becomes}
 use Rattle.property.specs.Validate.{validate}
 use Rattle.property.proofs.ValidateLaws.{validate-adds}
-use Rattle.store.specs.declared.Object.the-variants.{Ordinary}
 use Rattle.store.specs.Store.{own}
 use Rattle.internal_methods.specs.declared.Failure.the-variants.{TypeError}
 use Rattle.internal_methods.specs.Monad.{State, Out, M, _>>_, throwIf, if_then_else_}
@@ -22,7 +21,7 @@ use Rattle.internal_methods.specs.Proxy.{proxyPreventExtensions, proxyDe
 use Rattle.internal_methods.specs.Internal.{methods}
 use Rattle.internal_methods.proofs.Walk.{Any, askBoolean-by}
 use Rattle.internal_methods.proofs.Ensures.{Ensures}
-use Rattle.internal_methods.proofs.Base.{here, at-base, at-target, Shut}
+use Rattle.internal_methods.proofs.Base.{here, at-target, Shut}
 use Rattle.internal_methods.proofs.Reading.{isExtensible-exact, getOwnProperty-exact}
 use Rattle.internal_methods.proofs.Room.{Alike, Same, same-pure, same-fails, same-bind, same-dispatch, same-asking, keeps, puts-kept, methods-roomy}
 
@@ -64,7 +63,7 @@ unfolding methods proxyPreventExtensions
 preventExtensions-fits zero c o = same-fails _ refl
 preventExtensions-fits (suc n) c o = same-dispatch (c .store) o
     (λ r e. same-pure _ (puts-kept (c .store) o _))
-    (λ p e. fits-if _
+    (λ p e _. fits-if _
     (preventExtensions-fits n c (p .target))
     (same-bind (askBoolean-by same-asking (c .strings)) λ answer _. fits-if _
     (same-pure _ (le-refl _))
@@ -85,9 +84,9 @@ defineOwnProperty-fits (suc n) c o k d shut = same-dispatch (c .store) o
     (λ r e.
     same-bind (fits-ensured (methods-roomy n c .getOwnProperty o k tt) (getOwnProperty-exact n c o k r e)) λ current f.
     same-bind (fits-ensured (methods-roomy n c .isExtensible o tt) (isExtensible-exact n c o r e)) λ x g.
-    apply-fits c o k d x (g ∙ at-base (here e) shut) current f _ refl)
-    (λ p e. fits-if _
-    (defineOwnProperty-fits n c (p .target) k d (at-target e shut))
+    apply-fits c o k d x (g ∙ shut .at (here e)) current f _ refl)
+    (λ p e u. fits-if _
+    (defineOwnProperty-fits n c (p .target) k d (at-target (record { found = e; unrevoked = u }) shut))
     (same-bind (askBoolean-by same-asking (c .strings)) λ answer _. fits-if _
     (same-pure _ (le-refl _))
     (same-bind (fits-itself (methods-roomy n c .getOwnProperty (p .target) k tt)) λ targetDesc _.

@@ -94,13 +94,13 @@ reader-tick = record { ended = λ s. go (s .answers) (s .calls) }
 
 module _ {A : Type 0} where
   pub reader-dispatch : {f : OrdinaryObject → M A} {g : ProxyObject → M A} (σ : Store) (o : ℕ)
-      → ((r : OrdinaryObject) → lookup σ o ≡ some (Ordinary r) → Reader (f r)) → ((p : ProxyObject) → lookup σ o ≡ some (Proxy p) → Reader (g p)) → Reader (dispatch σ o f g)
-  unfolding dispatch dispatched throwIf
+      → ((r : OrdinaryObject) → lookup σ o ≡ some (Ordinary r) → Reader (f r)) → ((p : ProxyObject) → lookup σ o ≡ some (Proxy p) → p .revoked ≡ false → Reader (g p)) → Reader (dispatch σ o f g)
+  unfolding dispatch dispatched throwIf fails _>>=_ next
   reader-dispatch {f} {g} σ o hf hg = reader-bind reader-tick (λ _. go (lookup σ o) refl)
     where
-      revoked : (b : Bool) (p : ProxyObject) → Reader (g p) → Reader (throwIf 1 b >> g p)
-      revoked true p h = reader-bind (reader-fails _ refl) (λ _. h)
-      revoked false p h = reader-bind (reader-pure _) (λ _. h)
+      revoked : (b : Bool) (p : ProxyObject) → (b ≡ false → Reader (g p)) → Reader (throwIf 1 b >> g p)
+      revoked true p h = record { ended = λ s. other refl }
+      revoked false p h = reader-bind (reader-pure _) (λ _. h refl)
 
       go : (x : Option Object) → lookup σ o ≡ x → Reader (dispatched x f g)
       go none e = reader-fails _ refl
@@ -219,10 +219,10 @@ reader-relation c = record {
   idle = λ b. reader-pure _;
   puts = λ o r _. reader-pure _;
   removes = λ o k. reader-pure _;
-  applies = λ o r e k current _ v. applyValidation-reader c o k current v;
+  applies = λ o r e k current _ x d _. applyValidation-reader c o k current _;
   object = λ v _ q _. tt;
   prototype = λ o r _. tt;
-  target = λ o p _. tt;
+  target = λ o p _ _. tt;
   own-found = λ o r e k. tt;
   own-answered = λ o p e k x. tt;
 }

@@ -15,14 +15,14 @@ use Rattle.property.specs.declared.OwnProperty.the-variants.{Absent, Present}
 use Rattle.property.proofs.ValidateLaws.{configurable-not-frozen}
 use Rattle.store.specs.declared.OrdinaryObject.{OrdinaryObject}
 use Rattle.store.specs.declared.ProxyObject.{ProxyObject}
-use Rattle.store.specs.declared.Object.the-variants.{Ordinary, Proxy}
+use Rattle.store.specs.declared.Object.the-variants.{Ordinary}
 use Rattle.store.specs.Store.{Store, lookup, own}
 use Rattle.internal_methods.specs.Methods.{Context}
 use Rattle.internal_methods.specs.Ordinary.{ordinaryHasProperty, ordinaryGet}
 use Rattle.internal_methods.specs.Proxy.{proxyGetPrototypeOf, proxyIsExtensible, proxyGetOwnProperty, proxyHasProperty, proxyGet, fixesOther}
 use Rattle.internal_methods.specs.Internal.{methods}
 use Rattle.internal_methods.proofs.Ensures.{Ensures, ensures-pure, ensures-fails, ensures-bind, ensures-if, ensures-throwIf, ensures-then, ensures-weaken, ensures-all, ensures-dispatch}
-use Rattle.internal_methods.proofs.Base.{frozenAs, isAbsent, here, Under, at-base, through, at-target, Frozen, Shut, Rooted, Lacking}
+use Rattle.internal_methods.proofs.Base.{frozenAs, isAbsent, Active, here, Under, at-base, on-base, through, on-proxy, at-target, Frozen, Shut, Rooted, Lacking}
 use Rattle.internal_methods.proofs.Tied.{Tied, tied-refl, tied-trans, tied-undefined, tied-descriptor}
 
 -- [[IsExtensible]]
@@ -46,7 +46,7 @@ abbrev pub Faithful : Store → ℕ → PropertyKey → OwnProperty → Type 0
 Faithful σ o k d = Under σ o (λ b r. Tied (r .extensible) (own σ b k) d)
 
 -- one more proxy: what its checks tie to the target's report is tied to the base
-on-top : {σ : Store} {o : ℕ} {p : ProxyObject} {d : OwnProperty} (k : PropertyKey) (t : OwnProperty) (x : Bool) → lookup σ o ≡ some (Proxy p)
+on-top : {σ : Store} {o : ℕ} {p : ProxyObject} {d : OwnProperty} (k : PropertyKey) (t : OwnProperty) (x : Bool) → Active σ o p
     → Faithful σ (p .target) k t → Under σ (p .target) (λ b r. x ≡ r .extensible) → Tied x t d → Faithful σ o k d
 on-top {d = d} k t x e f u h =
     let same : x ≡ f .object .extensible = at-base (f .base) u in
@@ -85,7 +85,7 @@ pub getOwnProperty-exact : (n : ℕ) (c : Context) (o : ℕ) (k : PropertyKey) (
     → Ensures (methods n c .getOwnProperty o k) (λ d. d ≡ own (c .store) o k)
 unfolding methods
 getOwnProperty-exact zero c o k r e = ensures-fails _
-getOwnProperty-exact (suc n) c o k r e = ensures-dispatch (c .store) o (λ s f. ensures-pure _ refl) (λ p f. absurd (false≢true cc))
+getOwnProperty-exact (suc n) c o k r e = ensures-dispatch (c .store) o (λ s f. ensures-pure _ refl) (λ p f. let g = f .found in absurd (false≢true cc))
 
 pub isExtensible-exact : (n : ℕ) (c : Context) (o : ℕ) (r : OrdinaryObject) → lookup (c .store) o ≡ some (Ordinary r)
     → Ensures (methods n c .isExtensible o) (λ x. x ≡ r .extensible)
@@ -93,19 +93,19 @@ isExtensible-exact n c o r e = ensures-weaken (isExtensible-report n c o) (λ x 
 
 -- a report that is frozen says that the base is, and a base that is frozen makes the report so
 pub frozen-learnt : {σ : Store} {o : ℕ} (k : PropertyKey) (d : OwnProperty) (v : Value) → Faithful σ o k d → frozenAs v d ≡ true → Frozen σ o k v
-frozen-learnt k d v f h = record { number = f .number; object = f .object; base = f .base; holds = sym (f .holds .froze v) ∙ h }
+frozen-learnt k d v f h = on-base (record { number = f .number; object = f .object; base = f .base; holds = sym (f .holds .froze v) ∙ h })
 
 pub frozen-told : {σ : Store} {o : ℕ} (k : PropertyKey) (d : OwnProperty) (v : Value) → Faithful σ o k d → Frozen σ o k v → frozenAs v d ≡ true
-frozen-told k d v f h = f .holds .froze v ∙ at-base (f .base) h
+frozen-told k d v f h = f .holds .froze v ∙ h .at (f .base)
 
 -- and so with an object that is not extensible and lacks a key
 pub lacking-learnt : {σ : Store} {o : ℕ} (k : PropertyKey) → Faithful σ o k Absent → Shut σ o → Lacking σ o k
 lacking-learnt k f shut =
-    let s = at-base (f .base) shut in
-    record { number = f .number; object = f .object; base = f .base; holds = (s, sym (f .holds .shown s)) }
+    let s = shut .at (f .base) in
+    on-base (record { number = f .number; object = f .object; base = f .base; holds = (s, sym (f .holds .shown s)) })
 
 pub lacking-told : {σ : Store} {o : ℕ} (k : PropertyKey) (d : OwnProperty) → Faithful σ o k d → Lacking σ o k → isAbsent d ≡ true
-lacking-told k d f h = let b = at-base (f .base) h in f .holds .shown (b .0) ∙ b .1
+lacking-told k d f h = let b = h .at (f .base) in f .holds .shown (b .0) ∙ b .1
 
 -- [[Get]]
 
@@ -177,11 +177,11 @@ getPrototypeOf-report (suc n) c o = ensures-dispatch (c .store) o
 
 pub rooted-learnt : {σ : Store} {o : ℕ} (v : Value) → SamePrototype σ o v → Shut σ o → Rooted σ o v
 rooted-learnt v u shut =
-    let s = at-base (u .base) shut in
-    record { number = u .number; object = u .object; base = u .base; holds = (s, same-sym (u .object .prototype) v ∙ u .holds s) }
+    let s = shut .at (u .base) in
+    on-base (record { number = u .number; object = u .object; base = u .base; holds = (s, same-sym (u .object .prototype) v ∙ u .holds s) })
 
 pub rooted-told : {σ : Store} {o : ℕ} (v w : Value) → SamePrototype σ o v → Rooted σ o w → sameValue v w ≡ true
-rooted-told v w u h = let b = at-base (u .base) h in same-like v (u .object .prototype) w (u .holds (b .0)) ∙ b .1
+rooted-told v w u h = let b = h .at (u .base) in same-like v (u .object .prototype) w (u .holds (b .0)) ∙ b .1
 
 -- [[HasProperty]]
 
@@ -196,8 +196,8 @@ has-yes k = record { fixed = λ v u. refl; shown = λ h. absurd (true≢false h)
 has-absent : {σ : Store} {o : ℕ} (k : PropertyKey) (b : Bool) → Faithful σ o k Absent → HasTied σ o k b
 has-absent k b f = record { fixed = λ v u. absurd (false≢true (frozen-told k Absent v f u)); shown = λ _ shut. lacking-learnt k f shut }
 
-has-through : {σ : Store} {o : ℕ} {p : ProxyObject} (k : PropertyKey) (b : Bool) → lookup σ o ≡ some (Proxy p) → HasTied σ (p .target) k b → HasTied σ o k b
-has-through k b e h = record { fixed = λ v u. h .fixed v (at-target e u); shown = λ f shut. through e (h .shown f (at-target e shut)) }
+has-through : {σ : Store} {o : ℕ} {p : ProxyObject} (k : PropertyKey) (b : Bool) → Active σ o p → HasTied σ (p .target) k b → HasTied σ o k b
+has-through k b e h = record { fixed = λ v u. h .fixed v (at-target e u); shown = λ f shut. on-proxy (e .found) (h .shown f (at-target e shut)) }
 
 pub hasProperty-report : (n : ℕ) (c : Context) (o : ℕ) (k : PropertyKey) → Ensures (methods n c .hasProperty o k) (HasTied (c .store) o k)
 unfolding methods ordinaryHasProperty proxyHasProperty
@@ -219,6 +219,6 @@ hasProperty-report (suc n) c o k = ensures-dispatch (c .store) o
           ensures-throwIf _ _ λ iii.
           ensures-pure _ (has-through k false e (record {
             fixed = λ v w. absurd (false≢true (sym (configurable-not-frozen t v (not-false _ i)) ∙ frozen-told k (Present t) v f w));
-            shown = λ _ shut. absurd (true≢false (sym (not-false x iii) ∙ u .holds ∙ at-base (u .base) shut));
+            shown = λ _ shut. absurd (true≢false (sym (not-false x iii) ∙ u .holds ∙ shut .at (u .base)));
           }))
     ]))))

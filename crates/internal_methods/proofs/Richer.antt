@@ -93,10 +93,10 @@ falls-ask = record { falls = λ s. go (s .calls) (s .answers) }
     go n (Answer.keys ks ∷ l) = le-refl n
     go n (Answer.throw v ∷ l) = le-refl n
 
-falls-revoked : (b : Bool) → Falls (throwIf 1 b)
-unfolding throwIf
-falls-revoked true = falls-fails _
-falls-revoked false = falls-pure _
+falls-revoked : {A : Type 0} {m : M A} (b : Bool) → (b ≡ false → Falls m) → Falls (throwIf 1 b >> m)
+unfolding throwIf fails _>>=_ next
+falls-revoked true h = record { falls = λ s. le-refl _ }
+falls-revoked false h = falls-bind (falls-pure _) (λ _. h refl)
 
 module _ {n l : ℕ} {A : Type 0} where
   pub richer-pure : (a : A) → Richer n l (pure a) (pure a)
@@ -140,10 +140,10 @@ richer-ask = record { shifted = λ k s i j. go k (s .calls) (s .answers); falls 
     go k i (Answer.keys ks ∷ l) = done (le-refl i)
     go k i (Answer.throw v ∷ l) = failed (λ e. absurd (false≢true e))
 
-richer-revoked : {n l : ℕ} (b : Bool) → Richer n l (throwIf 1 b) (throwIf 1 b)
-unfolding throwIf
-richer-revoked true = richer-fails _ refl
-richer-revoked false = richer-pure _
+richer-revoked : {n l : ℕ} {A : Type 0} {m m′ : M A} (b : Bool) → (b ≡ false → Richer n l m m′) → Richer n l (throwIf 1 b >> m) (throwIf 1 b >> m′)
+unfolding throwIf fails _>>=_ next
+richer-revoked true h = record { shifted = λ k s i j. failed (λ e. absurd (false≢true e)); falls = record { falls = λ s. le-refl _ } }
+richer-revoked false h = richer-bind (richer-pure _) (λ _. h refl)
 
 -- The call that begins: one fewer is left, or none was
 
@@ -161,24 +161,24 @@ module _ {n l : ℕ} {A : Type 0} {f f′ : M A} (h : Richer n l f f′) where
 module _ {A : Type 0} (σ : Store) (o : ℕ) where
   -- the body of the kind that o has
   found : {n l : ℕ} {f f′ : OrdinaryObject → M A} {g g′ : ProxyObject → M A} → ((r : OrdinaryObject) → lookup σ o ≡ some (Ordinary r) → Richer n l (f r) (f′ r))
-      → ((p : ProxyObject) → lookup σ o ≡ some (Proxy p) → Richer n l (g p) (g′ p)) → Richer n l (dispatched (lookup σ o) f g) (dispatched (lookup σ o) f′ g′)
+      → ((p : ProxyObject) → lookup σ o ≡ some (Proxy p) → p .revoked ≡ false → Richer n l (g p) (g′ p)) → Richer n l (dispatched (lookup σ o) f g) (dispatched (lookup σ o) f′ g′)
   unfolding dispatched
   found {n} {l} {f} {f′} {g} {g′} hf hg = go (lookup σ o) refl
     where
       go : (x : Option Object) → lookup σ o ≡ x → Richer n l (dispatched x f g) (dispatched x f′ g′)
       go none e = richer-fails _ refl
       go (some (Ordinary r)) e = hf r e
-      go (some (Proxy p)) e = richer-bind (richer-revoked (p .revoked)) (λ _. hg p e)
+      go (some (Proxy p)) e = richer-revoked (p .revoked) (hg p e)
 
   found-falls : {f : OrdinaryObject → M A} {g : ProxyObject → M A} → ((r : OrdinaryObject) → lookup σ o ≡ some (Ordinary r) → Falls (f r))
-      → ((p : ProxyObject) → lookup σ o ≡ some (Proxy p) → Falls (g p)) → Falls (dispatched (lookup σ o) f g)
+      → ((p : ProxyObject) → lookup σ o ≡ some (Proxy p) → p .revoked ≡ false → Falls (g p)) → Falls (dispatched (lookup σ o) f g)
   unfolding dispatched
   found-falls {f} {g} hf hg = go (lookup σ o) refl
     where
       go : (x : Option Object) → lookup σ o ≡ x → Falls (dispatched x f g)
       go none e = falls-fails _
       go (some (Ordinary r)) e = hf r e
-      go (some (Proxy p)) e = falls-bind (falls-revoked (p .revoked)) (λ _. hg p e)
+      go (some (Proxy p)) e = falls-revoked (p .revoked) (hg p e)
 
 -- with no call left it is refused, and with some one is spent
 pub record Spends (l : ℕ) {A : Type 0} (m : M A) : Type 0 where
@@ -192,7 +192,7 @@ module _ {A : Type 0} where
   spends-fails = record { stops = λ a. refl; spends = λ a i h. absurd (not-suc-le-zero h); falls = falls-fails _ }
 
   spends-dispatch : {l : ℕ} {f : OrdinaryObject → M A} {g : ProxyObject → M A} (σ : Store) (o : ℕ) → ((r : OrdinaryObject) → lookup σ o ≡ some (Ordinary r) → Falls (f r))
-      → ((p : ProxyObject) → lookup σ o ≡ some (Proxy p) → Falls (g p)) → Spends l (dispatch σ o f g)
+      → ((p : ProxyObject) → lookup σ o ≡ some (Proxy p) → p .revoked ≡ false → Falls (g p)) → Spends l (dispatch σ o f g)
   unfolding dispatch tick _>>=_ next
   spends-dispatch {l} {f} {g} σ o hf hg = record {
     stops = λ a. refl;
@@ -230,11 +230,11 @@ beside-itself {l} {A} {m} h = record { shifted = λ k s i j. go k (s .answers) (
 
 module _ {n l : ℕ} {A : Type 0} where
   richer-dispatch : {f f′ : OrdinaryObject → M A} {g g′ : ProxyObject → M A} (σ : Store) (o : ℕ) → ((r : OrdinaryObject) → lookup σ o ≡ some (Ordinary r) → Richer n l (f r) (f′ r))
-      → ((p : ProxyObject) → lookup σ o ≡ some (Proxy p) → Richer n l (g p) (g′ p)) → Richer (suc n) (suc l) (dispatch σ o f g) (dispatch σ o f′ g′)
+      → ((p : ProxyObject) → lookup σ o ≡ some (Proxy p) → p .revoked ≡ false → Richer n l (g p) (g′ p)) → Richer (suc n) (suc l) (dispatch σ o f g) (dispatch σ o f′ g′)
   unfolding dispatch tick _>>=_
   richer-dispatch σ o hf hg = record {
     shifted = λ k s i j. ticked (found σ o hf hg) (s .answers) (s .calls) k i j;
-    falls = spends-dispatch {l = 0} σ o (λ r e. hf r e .falls) (λ p e. hg p e .falls) .falls;
+    falls = spends-dispatch {l = 0} σ o (λ r e. hf r e .falls) (λ p e l. hg p e l .falls) .falls;
   }
 
 -- The methods
@@ -276,10 +276,10 @@ richer-relation c n l = record {
   idle = λ b. richer-pure _;
   puts = λ o r _. richer-pure _;
   removes = λ o k. richer-pure _;
-  applies = λ o r e k current _ v. applyValidation-richer c o k current v;
+  applies = λ o r e k current _ x d _. applyValidation-richer c o k current _;
   object = λ v _ q _. tt;
   prototype = λ o r _. tt;
-  target = λ o p _. tt;
+  target = λ o p _ _. tt;
   own-found = λ o r e k. tt;
   own-answered = λ o p e k x. tt;
 }
@@ -299,16 +299,16 @@ methods-spend zero c = record {
   isExtensible = λ o _. spends-fails;
   preventExtensions = λ o _. spends-fails;
   getOwnProperty = λ o k _. spends-fails;
-  defineOwnProperty = λ o k d _. spends-fails;
+  defineOwnProperty = λ o k d _ _. spends-fails;
   hasProperty = λ o k _. spends-fails;
   get = λ o k receiver _. spends-fails;
-  set = λ o k v receiver _ _. spends-fails;
+  set = λ o k v receiver _ _ _. spends-fails;
   delete = λ o k _. spends-fails;
   ownPropertyKeys = λ o _. spends-fails;
 }
 methods-spend (suc l) c = level-by (richer-relation c 0 0) (methods l c) (methods l c) (fall-alike (methods-spend l c)) _ _ (record {
-  reading = λ o _ f g. spends-dispatch (c .store) o (λ r e. f r e .falls) (λ p e. g p e .falls);
-  writing = λ o _ f g. spends-dispatch (c .store) o (λ r e. f r e .falls) (λ p e. g p e .falls);
+  reading = λ o _ f g. spends-dispatch (c .store) o (λ r e. f r e .falls) (λ p e l. g p e l .falls);
+  writing = λ o _ f g. spends-dispatch (c .store) o (λ r e. f r e .falls) (λ p e l. g p e l .falls);
 })
   where
     fall-alike : SpendsMethods l (methods l c) → RicherMethods 0 0 (methods l c) (methods l c)
@@ -318,10 +318,10 @@ methods-spend (suc l) c = level-by (richer-relation c 0 0) (methods l c) (method
       isExtensible = λ o _. beside-itself (h .isExtensible o tt);
       preventExtensions = λ o _. beside-itself (h .preventExtensions o tt);
       getOwnProperty = λ o k _. beside-itself (h .getOwnProperty o k tt);
-      defineOwnProperty = λ o k d _. beside-itself (h .defineOwnProperty o k d tt);
+      defineOwnProperty = λ o k d _ m. beside-itself (h .defineOwnProperty o k d tt m);
       hasProperty = λ o k _. beside-itself (h .hasProperty o k tt);
       get = λ o k receiver _. beside-itself (h .get o k receiver tt);
-      set = λ o k v receiver _ _. beside-itself (h .set o k v receiver tt tt);
+      set = λ o k v receiver _ _ _. beside-itself (h .set o k v receiver tt tt tt);
       delete = λ o k _. beside-itself (h .delete o k tt);
       ownPropertyKeys = λ o _. beside-itself (h .ownPropertyKeys o tt);
     }
@@ -334,10 +334,10 @@ methods-richer zero l c i = let h = methods-spend zero c in let h′ = methods-s
   isExtensible = λ o _. none-left (h .isExtensible o tt) (h′ .isExtensible o tt);
   preventExtensions = λ o _. none-left (h .preventExtensions o tt) (h′ .preventExtensions o tt);
   getOwnProperty = λ o k _. none-left (h .getOwnProperty o k tt) (h′ .getOwnProperty o k tt);
-  defineOwnProperty = λ o k d _. none-left (h .defineOwnProperty o k d tt) (h′ .defineOwnProperty o k d tt);
+  defineOwnProperty = λ o k d _ m. none-left (h .defineOwnProperty o k d tt m) (h′ .defineOwnProperty o k d tt m);
   hasProperty = λ o k _. none-left (h .hasProperty o k tt) (h′ .hasProperty o k tt);
   get = λ o k receiver _. none-left (h .get o k receiver tt) (h′ .get o k receiver tt);
-  set = λ o k v receiver _ _. none-left (h .set o k v receiver tt tt) (h′ .set o k v receiver tt tt);
+  set = λ o k v receiver _ _ _. none-left (h .set o k v receiver tt tt tt) (h′ .set o k v receiver tt tt tt);
   delete = λ o k _. none-left (h .delete o k tt) (h′ .delete o k tt);
   ownPropertyKeys = λ o _. none-left (h .ownPropertyKeys o tt) (h′ .ownPropertyKeys o tt);
 }

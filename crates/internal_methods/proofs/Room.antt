@@ -1,6 +1,6 @@
 -- Refusal 7 of a property: with room for one more the same run is done, and the store has one property more. Assumes nothing.
 use Prim.Native.Nat.{ℕ, zero, suc, _≤_, suc-le-suc}
-use native.Mathlib.Nat.{le-refl, le-trans, le-suc}
+use native.Mathlib.Nat.{le-refl}
 use native.Mathlib.Omega.{arith}
 use mathlib.Core.Path.{_≡_, refl, sym, ap, _∙_}
 use mathlib.Core.Bool.{Bool, true, false, not, cond, false≢true}
@@ -22,6 +22,7 @@ use Rattle.store.specs.declared.Object.the-variants.{Ordinary, Proxy}
 use Rattle.store.specs.declared.Entry.{Entry}
 use Rattle.store.specs.Store.{Store, entry, isAt, lookup, put, find, insert, remove, own, withProperty, withoutProperty}
 use Rattle.store.proofs.FindLaws.{absent-appended}
+use Rattle.store.proofs.ReleaseLaws.{excluding-fewer}
 use Rattle.internal_methods.specs.declared.Failure.{Failure}
 use Rattle.internal_methods.specs.declared.Failure.the-variants.{Refused, TypeError, Thrown}
 use Rattle.internal_methods.specs.Monad.{Answer, State, Out, M, pure, fails, next, _>>=_, _>>_, throwIf, answered, ask, counted, tick, if_then_else_, dispatched, dispatch}
@@ -127,32 +128,32 @@ same-tick = record { runs = λ s. go (s .answers) (s .calls) }
     go a zero = failed refl
     go a (suc n) = done tt
 
-same-revoked : (b : Bool) → Same Any (throwIf 1 b) (throwIf 1 b)
+same-revoked : (b : Bool) → Same (λ _. b ≡ false) (throwIf 1 b) (throwIf 1 b)
 unfolding throwIf
 same-revoked true = same-fails _ refl
-same-revoked false = same-pure tt tt
+same-revoked false = same-pure tt refl
 
 module _ {A : Type 0} {Q : A → Type 0} where
   pub same-dispatch : {f f′ : OrdinaryObject → M A} {g g′ : ProxyObject → M A} (σ : Store) (o : ℕ) → ((r : OrdinaryObject) → lookup σ o ≡ some (Ordinary r) → Same Q (f r) (f′ r))
-      → ((p : ProxyObject) → lookup σ o ≡ some (Proxy p) → Same Q (g p) (g′ p)) → Same Q (dispatch σ o f g) (dispatch σ o f′ g′)
+      → ((p : ProxyObject) → lookup σ o ≡ some (Proxy p) → p .revoked ≡ false → Same Q (g p) (g′ p)) → Same Q (dispatch σ o f g) (dispatch σ o f′ g′)
   unfolding dispatch dispatched
   same-dispatch {f} {f′} {g} {g′} σ o hf hg = same-bind same-tick (λ _ _. go (lookup σ o) refl)
     where
       go : (x : Option Object) → lookup σ o ≡ x → Same Q (dispatched x f g) (dispatched x f′ g′)
       go none e = same-fails _ refl
       go (some (Ordinary r)) e = hf r e
-      go (some (Proxy p)) e = same-bind (same-revoked (p .revoked)) (λ _ _. hg p e)
+      go (some (Proxy p)) e = same-bind (same-revoked (p .revoked)) (λ _ l. hg p e l)
 
 module _ {c : Context} where
   roomy-dispatch : {f f′ : OrdinaryObject → M Written} {g g′ : ProxyObject → M Written} (σ : Store) (o : ℕ) → ((r : OrdinaryObject) → lookup σ o ≡ some (Ordinary r) → Roomy c (f r) (f′ r))
-      → ((p : ProxyObject) → lookup σ o ≡ some (Proxy p) → Roomy c (g p) (g′ p)) → Roomy c (dispatch σ o f g) (dispatch σ o f′ g′)
+      → ((p : ProxyObject) → lookup σ o ≡ some (Proxy p) → p .revoked ≡ false → Roomy c (g p) (g′ p)) → Roomy c (dispatch σ o f g) (dispatch σ o f′ g′)
   unfolding dispatch dispatched fails
   roomy-dispatch {f} {f′} {g} {g′} σ o hf hg = roomy-bind same-tick (λ _ _. go (lookup σ o) refl)
     where
       go : (x : Option Object) → lookup σ o ≡ x → Roomy c (dispatched x f g) (dispatched x f′ g′)
       go none e = record { rooms = λ s. failed refl }
       go (some (Ordinary r)) e = hf r e
-      go (some (Proxy p)) e = roomy-bind (same-revoked (p .revoked)) (λ _ _. hg p e)
+      go (some (Proxy p)) e = roomy-bind (same-revoked (p .revoked)) (λ _ l. hg p e l)
 
 -- A new property
 
@@ -175,14 +176,9 @@ pub keeps : (σ : Store) (o : ℕ) (k : PropertyKey) (p q : Property) → own σ
 unfolding own withProperty
 keeps σ o k p q e = replaced (σ .properties) o k p q e
 
-fewer : (es : List Entry) (o : ℕ) (k : PropertyKey) → length (remove es o k) ≤ length es
-unfolding remove
-fewer [] o k = le-refl 0
-fewer (x ∷ es) o k = at-most (isAt x o k) _ _ _ (λ _. le-trans (fewer es o k) (le-suc _)) (λ _. suc-le-suc (fewer es o k))
-
 pub removed : (σ : Store) (o : ℕ) (k : PropertyKey) → length (withoutProperty σ o k .properties) ≤ length (σ .properties)
-unfolding withoutProperty
-removed σ o k = fewer (σ .properties) o k
+unfolding withoutProperty remove
+removed σ o k = excluding-fewer _ (σ .properties)
 
 pub puts-kept : (σ : Store) (o : ℕ) (x : Object) → length (put σ o x .properties) ≤ length (σ .properties)
 unfolding put
@@ -245,10 +241,10 @@ room-relation c = record {
   idle = λ b. roomy-kept _ (le-refl _);
   puts = λ o r _. roomy-kept _ (puts-kept (c .store) o _);
   removes = λ o k. roomy-kept _ (removed (c .store) o k);
-  applies = applyValidation-roomy c;
+  applies = λ o r e k current h x d _. applyValidation-roomy c o r e k current h _;
   object = λ v _ q _. tt;
   prototype = λ o r _. tt;
-  target = λ o p _. tt;
+  target = λ o p _ _. tt;
   own-found = λ o r e k r′ e′. refl;
   own-answered = λ o p e k x r e′. absurd (not-both (sym e ∙ e′));
 }

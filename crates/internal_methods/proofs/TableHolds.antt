@@ -25,7 +25,7 @@ use Rattle.internal_methods.specs.Proxy.{hasTrap}
 use Rattle.internal_methods.specs.Internal.{methods}
 use Rattle.internal_methods.specs.Readable.{Reading, anyValue, descriptor, keyList, isUnreadable, ReadsAs, HasTrap, HasAccessor, TableHolds}
 use Rattle.internal_methods.proofs.OrdinaryRuns.{ordinary-run, own-run}
-use Rattle.internal_methods.proofs.Walk.{Any, allowing, Trapped, TrappedWrite, getPrototypeOf-proxy, setPrototypeOf-proxy, isExtensible-proxy, preventExtensions-proxy, getOwnProperty-proxy, defineOwnProperty-proxy, hasProperty-proxy, get-proxy, set-proxy, delete-proxy, ownPropertyKeys-proxy}
+use Rattle.internal_methods.proofs.Walk.{Any, any-descriptor, allowing, Trapped, TrappedWrite, getPrototypeOf-proxy, setPrototypeOf-proxy, isExtensible-proxy, preventExtensions-proxy, getOwnProperty-proxy, defineOwnProperty-proxy, hasProperty-proxy, get-proxy, set-proxy, delete-proxy, ownPropertyKeys-proxy}
 use Rattle.internal_methods.proofs.Walk as walk
 use Rattle.internal_methods.proofs.Reader.{isNine, Ended, Reader, reader-pure, reader-relation, methods-reader}
 use Rattle.internal_methods.proofs.Reader as reader
@@ -209,10 +209,10 @@ module _ (c : Context) (n calls o : ℕ) where
     isExtensible = λ t. of-trap _ _ t (λ p i. trapped-first asks-boolean calls _ (isExtensible-proxy R call (methods n c′) h p tt) (no-forward p 2 i));
     preventExtensions = λ t. of-trap _ _ t (λ p i. trapped-write-first asks-boolean calls _ (preventExtensions-proxy R call (methods n c′) h p tt) (no-forward p 3 i));
     getOwnProperty = λ t k. of-trap _ _ t (λ p i. trapped-first (record { asked = descriptor-asked }) calls _ (getOwnProperty-proxy R call (methods n c′) h p tt k) (no-forward p 4 i));
-    defineOwnProperty = λ t k d. of-trap _ _ t (λ p i. trapped-write-first asks-boolean calls _ (defineOwnProperty-proxy R call (methods n c′) h p tt k d) (no-forward p 5 i));
+    defineOwnProperty = λ t k d. of-trap _ _ t (λ p i. trapped-write-first asks-boolean calls _ (defineOwnProperty-proxy R call (methods n c′) h p tt k d (any-descriptor d)) (no-forward p 5 i));
     hasProperty = λ t k. of-trap _ _ t (λ p i. trapped-first asks-boolean calls _ (hasProperty-proxy R call (methods n c′) h p tt k) (no-forward p 6 i));
     get = λ t k receiver. of-trap _ _ t (λ p i. trapped-first asks-value calls _ (get-proxy R call (methods n c′) h p tt k receiver) (no-forward p 7 i));
-    set = λ t k v receiver. of-trap _ _ t (λ p i. trapped-write-first asks-boolean calls _ (set-proxy R call (methods n c′) h p tt k v receiver tt) (no-forward p 8 i));
+    set = λ t k v receiver. of-trap _ _ t (λ p i. trapped-write-first asks-boolean calls _ (set-proxy R call (methods n c′) h p tt k v receiver tt tt) (no-forward p 8 i));
     delete = λ t k. of-trap _ _ t (λ p i. trapped-write-first asks-boolean calls _ (delete-proxy R call (methods n c′) h p tt k) (no-forward p 9 i));
     ownPropertyKeys = λ t. of-trap _ _ t (λ p i. trapped-first (record { asked = keys-asked }) calls _ (ownPropertyKeys-proxy R call (methods n c′) h p tt) (no-forward p 10 i));
     getter = λ k g s receiver t u. same-run (λ a. accessor-got k g s t a receiver u) alone;

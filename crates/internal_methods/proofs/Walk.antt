@@ -1,6 +1,6 @@
 -- One walk over the eleven methods, for any relation between two computations that the rules of the definitions keep. Assumes nothing.
 use Prim.Native.Nat.{ℕ, zero, suc, _≤_}
-use mathlib.Core.Path.{_≡_, refl}
+use mathlib.Core.Path.{_≡_, refl, subst}
 use mathlib.Core.Bool.{Bool, true, false, not, _&&_, cond, false≢true}
 use mathlib.Core.Option.{Option, none, some}
 use mathlib.Core.List.{List, [], _∷_}
@@ -11,11 +11,15 @@ use Rattle.value.specs.declared.Value.the-variants as value
 use Rattle.value.specs.declared.PropertyKey.{PropertyKey}
 use Rattle.value.specs.declared.PropertyKey.the-variants.{String, Symbol}
 use Rattle.value.specs.Value.{objectOf, sameValue}
+use Rattle.property.specs.declared.Flag.{Flag}
+use Rattle.property.specs.declared.Field.the-variants as field
+use Rattle.property.specs.declared.DescriptorKind.the-variants as kind
 use Rattle.property.specs.declared.PropertyDescriptor.{PropertyDescriptor}
 use Rattle.property.specs.declared.Property.the-variants.{Data, Accessor}
 use Rattle.property.specs.declared.OwnProperty.{OwnProperty}
 use Rattle.property.specs.declared.OwnProperty.the-variants.{Absent, Present}
-use Rattle.property.specs.declared.Validation.{Validation}
+use Rattle.property.specs.Validate.{validate}
+use Rattle.property.proofs.ValueLaws.{DescriptorBy}
 use Rattle.text.specs.Strings.{Strings}
 use Rattle.store.specs.declared.OrdinaryObject.{OrdinaryObject}
 use Rattle.store.specs.declared.ProxyObject.{ProxyObject}
@@ -86,6 +90,9 @@ rejected-messages extensible target ks =
 abbrev pub Any : {A : Type 0} → A → Type 0
 Any a = Unit {0}
 
+pub any-descriptor : (d : PropertyDescriptor) → DescriptorBy Any d
+any-descriptor d = record { value = λ v e. tt; get = λ v e. tt; set = λ v e. tt }
+
 -- the same store and strings, with another allowance
 abbrev pub allowing : Context → ℕ → Context
 allowing c allowance = record { store = c .store; strings = c .strings; allowance = allowance }
@@ -114,12 +121,12 @@ pub record Relation (c : Context) (allowance : ℕ) (Obj : ℕ → Type 0) (Val 
   pub idle : (b : Bool) → writes (pure (b, c .store)) (pure (b, c .store))
   pub puts : (o : ℕ) (r : OrdinaryObject) → Val (r .prototype) → writes (pure (true, put (c .store) o (Ordinary r))) (pure (true, put (c .store) o (Ordinary r)))
   pub removes : (o : ℕ) (k : PropertyKey) → writes (pure (true, withoutProperty (c .store) o k)) (pure (true, withoutProperty (c .store) o k))
-  pub applies : (o : ℕ) (r : OrdinaryObject) → lookup (c .store) o ≡ some (Ordinary r) → (k : PropertyKey) (current : OwnProperty) → Own o k current → (v : Validation)
-      → writes (applyValidation c o k current v) (applyValidation (allowing c allowance) o k current v)
+  pub applies : (o : ℕ) (r : OrdinaryObject) → lookup (c .store) o ≡ some (Ordinary r) → (k : PropertyKey) (current : OwnProperty) → Own o k current → (extensible : Bool) (d : PropertyDescriptor) → DescriptorBy Val d
+      → writes (applyValidation c o k current (validate extensible d current)) (applyValidation (allowing c allowance) o k current (validate extensible d current))
   -- what values and objects lead to
   pub object : (v : Value) → Val v → (q : ℕ) → objectOf v ≡ some q → Obj q
   pub prototype : (o : ℕ) (r : OrdinaryObject) → lookup (c .store) o ≡ some (Ordinary r) → Val (r .prototype)
-  pub target : (o : ℕ) (p : ProxyObject) → lookup (c .store) o ≡ some (Proxy p) → Obj (p .target)
+  pub target : (o : ℕ) (p : ProxyObject) → lookup (c .store) o ≡ some (Proxy p) → p .revoked ≡ false → Obj (p .target)
   pub own-found : (o : ℕ) (r : OrdinaryObject) → lookup (c .store) o ≡ some (Ordinary r) → (k : PropertyKey) → Own o k (own (c .store) o k)
   pub own-answered : (o : ℕ) (p : ProxyObject) → lookup (c .store) o ≡ some (Proxy p) → (k : PropertyKey) (x : OwnProperty) → Own o k x
 
@@ -130,10 +137,10 @@ pub record MethodsBy (reads : (A : Type 0) → (A → Type 0) → M A → M A �
   pub isExtensible : (o : ℕ) → Obj o → reads Bool Any (call .isExtensible o) (call′ .isExtensible o)
   pub preventExtensions : (o : ℕ) → Obj o → writes (call .preventExtensions o) (call′ .preventExtensions o)
   pub getOwnProperty : (o : ℕ) (k : PropertyKey) → Obj o → reads OwnProperty (Own o k) (call .getOwnProperty o k) (call′ .getOwnProperty o k)
-  pub defineOwnProperty : (o : ℕ) (k : PropertyKey) (d : PropertyDescriptor) → Obj o → writes (call .defineOwnProperty o k d) (call′ .defineOwnProperty o k d)
+  pub defineOwnProperty : (o : ℕ) (k : PropertyKey) (d : PropertyDescriptor) → Obj o → DescriptorBy Val d → writes (call .defineOwnProperty o k d) (call′ .defineOwnProperty o k d)
   pub hasProperty : (o : ℕ) (k : PropertyKey) → Obj o → reads Bool Any (call .hasProperty o k) (call′ .hasProperty o k)
   pub get : (o : ℕ) (k : PropertyKey) (receiver : Value) → Obj o → reads Value Any (call .get o k receiver) (call′ .get o k receiver)
-  pub set : (o : ℕ) (k : PropertyKey) (v receiver : Value) → Obj o → Val receiver → writes (call .set o k v receiver) (call′ .set o k v receiver)
+  pub set : (o : ℕ) (k : PropertyKey) (v receiver : Value) → Obj o → Val v → Val receiver → writes (call .set o k v receiver) (call′ .set o k v receiver)
   pub delete : (o : ℕ) (k : PropertyKey) → Obj o → writes (call .delete o k) (call′ .delete o k)
   pub ownPropertyKeys : (o : ℕ) → Obj o → reads (List PropertyKey) Any (call .ownPropertyKeys o) (call′ .ownPropertyKeys o)
 
@@ -142,11 +149,11 @@ module _ {c : Context} {allowance : ℕ} {Obj : ℕ → Type 0} {Val : Value →
   pub record Enters (R : Relation c allowance Obj Val Own) (reads : (A : Type 0) → (A → Type 0) → M A → M A → Type 0) (writes : M Written → M Written → Type 0) : Type 1 where
     pub reading : {A : Type 0} {Q : A → Type 0} {f f′ : OrdinaryObject → M A} {g g′ : ProxyObject → M A} (o : ℕ) → Obj o
         → ((r : OrdinaryObject) → lookup (c .store) o ≡ some (Ordinary r) → R .reads Q (f r) (f′ r))
-        → ((p : ProxyObject) → lookup (c .store) o ≡ some (Proxy p) → R .reads Q (g p) (g′ p))
+        → ((p : ProxyObject) → lookup (c .store) o ≡ some (Proxy p) → p .revoked ≡ false → R .reads Q (g p) (g′ p))
         → reads A Q (dispatch (c .store) o f g) (dispatch (c .store) o f′ g′)
     pub writing : {f f′ : OrdinaryObject → M Written} {g g′ : ProxyObject → M Written} (o : ℕ) → Obj o
         → ((r : OrdinaryObject) → lookup (c .store) o ≡ some (Ordinary r) → R .writes (f r) (f′ r))
-        → ((p : ProxyObject) → lookup (c .store) o ≡ some (Proxy p) → R .writes (g p) (g′ p))
+        → ((p : ProxyObject) → lookup (c .store) o ≡ some (Proxy p) → p .revoked ≡ false → R .writes (g p) (g′ p))
         → writes (dispatch (c .store) o f g) (dispatch (c .store) o f′ g′)
 
   -- methods that may go no deeper
@@ -353,13 +360,13 @@ module _ {c : Context} {allowance : ℕ} {Obj : ℕ → Type 0} {Val : Value →
     own-of : (o : ℕ) (k : PropertyKey) → Obj o → R .reads Any (call .getOwnProperty o k) (call′ .getOwnProperty o k)
     own-of o k m = R .weaken (λ _ _. tt) (h .getOwnProperty o k m)
 
-    defineOwnProperty-ordinary : (o : ℕ) (k : PropertyKey) (d : PropertyDescriptor) → Obj o → (r : OrdinaryObject) → lookup (c .store) o ≡ some (Ordinary r)
+    defineOwnProperty-ordinary : (o : ℕ) (k : PropertyKey) (d : PropertyDescriptor) → Obj o → DescriptorBy Val d → (r : OrdinaryObject) → lookup (c .store) o ≡ some (Ordinary r)
         → R .writes (ordinaryDefineOwnProperty c call o k d) (ordinaryDefineOwnProperty c′ call′ o k d)
     unfolding ordinaryDefineOwnProperty
-    defineOwnProperty-ordinary o k d m r e =
+    defineOwnProperty-ordinary o k d m md r e =
         R .writes-binds-own (h .getOwnProperty o k m) λ current found.
         R .writes-binds (h .isExtensible o m) λ extensible.
-        R .applies o r e k current found _
+        R .applies o r e k current found extensible d md
 
     hasProperty-ordinary : (o : ℕ) (k : PropertyKey) → Obj o
         → R .reads Any (ordinaryHasProperty call o k) (ordinaryHasProperty call′ o k)
@@ -384,32 +391,36 @@ module _ {c : Context} {allowance : ℕ} {Obj : ℕ → Type 0} {Val : Value →
           | Present (Accessor g s e f) ↦ reads-if _ (R .gives _ tt) (R .weaken (λ _ _. tt) (R .asks-value))
         ])
 
-    setOnReceiver-by : (k : PropertyKey) (v : Value) (receiver : ℕ) → Obj receiver
+    -- a descriptor of a value alone
+    value-by : (e c w : Flag) (v : Value) → Val v → DescriptorBy Val (record { enumerable = e; configurable = c; kind = kind.Data (field.Present v) w })
+    value-by e c w v m = record { value = λ u f. subst Val (let g : v ≡ u = cc in g) m; get = λ u f. absurd (false≢true cc); set = λ u f. absurd (false≢true cc) }
+
+    setOnReceiver-by : (k : PropertyKey) (v : Value) (receiver : ℕ) → Val v → Obj receiver
         → R .writes (setOnReceiver c call k v receiver) (setOnReceiver c′ call′ k v receiver)
     unfolding setOnReceiver
-    setOnReceiver-by k v receiver m =
+    setOnReceiver-by k v receiver mv m =
         R .writes-binds (own-of receiver k m) (elim [
           | Present (Accessor g s e f) ↦ R .idle _
-          | Present (Data w wr e f) ↦ writes-if _ (R .idle _) (h .defineOwnProperty receiver k _ m)
-          | Absent ↦ h .defineOwnProperty receiver k _ m
+          | Present (Data w wr e f) ↦ writes-if _ (R .idle _) (h .defineOwnProperty receiver k _ m (value-by _ _ _ v mv))
+          | Absent ↦ h .defineOwnProperty receiver k _ m (value-by _ _ _ v mv)
         ])
 
-    setData-by : (k : PropertyKey) (v : Value) (writable : Bool) (receiver : Value) → Val receiver
+    setData-by : (k : PropertyKey) (v : Value) (writable : Bool) (receiver : Value) → Val v → Val receiver
         → R .writes (setData c call k v writable receiver) (setData c′ call′ k v writable receiver)
     unfolding setData
-    setData-by k v writable receiver mr =
+    setData-by k v writable receiver mv mr =
         writes-if _ (R .idle _)
-        (writes-object receiver mr (R .idle _) λ q m. setOnReceiver-by k v q m)
+        (writes-object receiver mr (R .idle _) λ q m. setOnReceiver-by k v q mv m)
 
-    set-ordinary : (o : ℕ) (k : PropertyKey) (v receiver : Value) → Obj o → Val receiver
+    set-ordinary : (o : ℕ) (k : PropertyKey) (v receiver : Value) → Obj o → Val v → Val receiver
         → R .writes (ordinarySet c call o k v receiver) (ordinarySet c′ call′ o k v receiver)
     unfolding ordinarySet
-    set-ordinary o k v receiver m mr =
+    set-ordinary o k v receiver m mv mr =
         R .writes-binds (own-of o k m) (elim [
           | Absent ↦
               R .writes-binds-value (h .getPrototypeOf o m) λ parent mp.
-              writes-object parent mp (setData-by k v true receiver mr) λ q mq. h .set q k v receiver mq mr
-          | Present (Data w wr e f) ↦ setData-by k v wr receiver mr
+              writes-object parent mp (setData-by k v true receiver mv mr) λ q mq. h .set q k v receiver mq mv mr
+          | Present (Data w wr e f) ↦ setData-by k v wr receiver mv mr
           | Present (Accessor g s e f) ↦
               writes-if _ (R .idle _)
               (R .writes-binds-value (R .asks-value) λ _ _. R .idle _)
@@ -493,10 +504,10 @@ module _ {c : Context} {allowance : ℕ} {Obj : ℕ → Type 0} {Val : Value →
                 R .gives _ tt
           ])
 
-      pub defineOwnProperty-proxy : (k : PropertyKey) (d : PropertyDescriptor) → TrappedWrite (not (hasTrap p 5)) Any (askBoolean (c .strings)) (proxyDefineOwnProperty c call p k d) (proxyDefineOwnProperty c′ call′ p k d)
+      pub defineOwnProperty-proxy : (k : PropertyKey) (d : PropertyDescriptor) → DescriptorBy Val d → TrappedWrite (not (hasTrap p 5)) Any (askBoolean (c .strings)) (proxyDefineOwnProperty c call p k d) (proxyDefineOwnProperty c′ call′ p k d)
       unfolding proxyDefineOwnProperty
-      defineOwnProperty-proxy k d =
-          trap-write (R .asks-boolean) (h .defineOwnProperty (p .target) k d m)
+      defineOwnProperty-proxy k d md =
+          trap-write (R .asks-boolean) (h .defineOwnProperty (p .target) k d m md)
           (λ booleanTrapResult _.
           writes-if _ (R .idle _)
           (R .writes-binds (own-of (p .target) k m) λ targetDesc.
@@ -538,10 +549,10 @@ module _ {c : Context} {allowance : ℕ} {Obj : ℕ → Type 0} {Val : Value →
           R .binds (throws-if _ _ tt) λ _.
           R .gives _ tt)
 
-      pub set-proxy : (k : PropertyKey) (v receiver : Value) → Val receiver → TrappedWrite (not (hasTrap p 8)) Any (askBoolean (c .strings)) (proxySet c call p k v receiver) (proxySet c′ call′ p k v receiver)
+      pub set-proxy : (k : PropertyKey) (v receiver : Value) → Val v → Val receiver → TrappedWrite (not (hasTrap p 8)) Any (askBoolean (c .strings)) (proxySet c call p k v receiver) (proxySet c′ call′ p k v receiver)
       unfolding proxySet
-      set-proxy k v receiver mr =
-          trap-write (R .asks-boolean) (h .set (p .target) k v receiver m mr)
+      set-proxy k v receiver mv mr =
+          trap-write (R .asks-boolean) (h .set (p .target) k v receiver m mv mr)
           (λ booleanTrapResult _.
           writes-if _ (R .idle _)
           (R .writes-binds (own-of (p .target) k m) λ targetDesc.
@@ -579,17 +590,17 @@ module _ {c : Context} {allowance : ℕ} {Obj : ℕ → Type 0} {Val : Value →
     pub level-by : (reads : (A : Type 0) → (A → Type 0) → M A → M A → Type 0) (writes : M Written → M Written → Type 0) → Enters R reads writes
         → MethodsBy reads writes Obj Val Own (level c call) (level c′ call′)
     level-by reads writes into = record {
-      getPrototypeOf = λ o m. into .reading o m (λ r e. R .gives _ (R .prototype o r e)) (λ p e. by-trap-value (getPrototypeOf-proxy p (R .target o p e)));
-      setPrototypeOf = λ o v m mv. into .writing o m (λ r e. setPrototypeOf-ordinary o r v mv) (λ p e. by-trap-write (setPrototypeOf-proxy p (R .target o p e) v mv));
-      isExtensible = λ o m. into .reading o m (λ r e. R .gives _ tt) (λ p e. by-trap (isExtensible-proxy p (R .target o p e)));
-      preventExtensions = λ o m. into .writing o m (λ r e. R .puts o _ (R .prototype o r e)) (λ p e. by-trap-write (preventExtensions-proxy p (R .target o p e)));
-      getOwnProperty = λ o k m. into .reading o m (λ r e. R .gives _ (R .own-found o r e k)) (λ p e. R .weaken (λ x _. R .own-answered o p e k x) (by-trap (getOwnProperty-proxy p (R .target o p e) k)));
-      defineOwnProperty = λ o k d m. into .writing o m (λ r e. defineOwnProperty-ordinary o k d m r e) (λ p e. by-trap-write (defineOwnProperty-proxy p (R .target o p e) k d));
-      hasProperty = λ o k m. into .reading o m (λ r e. hasProperty-ordinary o k m) (λ p e. by-trap (hasProperty-proxy p (R .target o p e) k));
-      get = λ o k receiver m. into .reading o m (λ r e. get-ordinary o k receiver m) (λ p e. by-trap-value (get-proxy p (R .target o p e) k receiver));
-      set = λ o k v receiver m mr. into .writing o m (λ r e. set-ordinary o k v receiver m mr) (λ p e. by-trap-write (set-proxy p (R .target o p e) k v receiver mr));
-      delete = λ o k m. into .writing o m (λ r e. delete-ordinary o k m) (λ p e. by-trap-write (delete-proxy p (R .target o p e) k));
-      ownPropertyKeys = λ o m. into .reading o m (λ r e. R .gives _ tt) (λ p e. by-trap (ownPropertyKeys-proxy p (R .target o p e)));
+      getPrototypeOf = λ o m. into .reading o m (λ r e. R .gives _ (R .prototype o r e)) (λ p e l. by-trap-value (getPrototypeOf-proxy p (R .target o p e l)));
+      setPrototypeOf = λ o v m mv. into .writing o m (λ r e. setPrototypeOf-ordinary o r v mv) (λ p e l. by-trap-write (setPrototypeOf-proxy p (R .target o p e l) v mv));
+      isExtensible = λ o m. into .reading o m (λ r e. R .gives _ tt) (λ p e l. by-trap (isExtensible-proxy p (R .target o p e l)));
+      preventExtensions = λ o m. into .writing o m (λ r e. R .puts o _ (R .prototype o r e)) (λ p e l. by-trap-write (preventExtensions-proxy p (R .target o p e l)));
+      getOwnProperty = λ o k m. into .reading o m (λ r e. R .gives _ (R .own-found o r e k)) (λ p e l. R .weaken (λ x _. R .own-answered o p e k x) (by-trap (getOwnProperty-proxy p (R .target o p e l) k)));
+      defineOwnProperty = λ o k d m md. into .writing o m (λ r e. defineOwnProperty-ordinary o k d m md r e) (λ p e l. by-trap-write (defineOwnProperty-proxy p (R .target o p e l) k d md));
+      hasProperty = λ o k m. into .reading o m (λ r e. hasProperty-ordinary o k m) (λ p e l. by-trap (hasProperty-proxy p (R .target o p e l) k));
+      get = λ o k receiver m. into .reading o m (λ r e. get-ordinary o k receiver m) (λ p e l. by-trap-value (get-proxy p (R .target o p e l) k receiver));
+      set = λ o k v receiver m mv mr. into .writing o m (λ r e. set-ordinary o k v receiver m mv mr) (λ p e l. by-trap-write (set-proxy p (R .target o p e l) k v receiver mv mr));
+      delete = λ o k m. into .writing o m (λ r e. delete-ordinary o k m) (λ p e l. by-trap-write (delete-proxy p (R .target o p e l) k));
+      ownPropertyKeys = λ o m. into .reading o m (λ r e. R .gives _ tt) (λ p e l. by-trap (ownPropertyKeys-proxy p (R .target o p e l)));
     }
 
   -- a relation that does not go by the depth
@@ -601,10 +612,10 @@ module _ {c : Context} {allowance : ℕ} {Obj : ℕ → Type 0} {Val : Value →
     isExtensible = λ o _. stops .reads;
     preventExtensions = λ o _. stops .writes;
     getOwnProperty = λ o k _. stops .reads;
-    defineOwnProperty = λ o k d _. stops .writes;
+    defineOwnProperty = λ o k d _ _. stops .writes;
     hasProperty = λ o k _. stops .reads;
     get = λ o k receiver _. stops .reads;
-    set = λ o k v receiver _ _. stops .writes;
+    set = λ o k v receiver _ _ _. stops .writes;
     delete = λ o k _. stops .writes;
     ownPropertyKeys = λ o _. stops .reads;
   }

@@ -28,22 +28,22 @@ use Rattle.internal_methods.specs.Ordinary.{reaches, ordinarySetPrototyp
 use Rattle.internal_methods.specs.Proxy.{proxySetPrototypeOf, proxyPreventExtensions, proxyDefineOwnProperty, proxySet, proxyDelete}
 use Rattle.internal_methods.specs.Internal.{methods}
 use Rattle.internal_methods.proofs.Ensures.{Ensures, ensures-pure, ensures-fails, ensures-bind, ensures-if, ensures-throwIf, ensures-then, ensures-weaken, ensures-both, ensures-option, ensures-dispatch}
-use Rattle.internal_methods.proofs.Base.{frozenAs, here, at-base, through, at-target, Frozen, Shut, Lacking}
-use Rattle.internal_methods.proofs.Later.{Grows, grows-refl, grows-object, grows-with, grows-without, through-later}
+use Rattle.internal_methods.proofs.Base.{frozenAs, here, on-base, through, on-proxy, at-target, Frozen, Shut, Lacking}
+use Rattle.internal_methods.proofs.Later.{Remains, remains-refl, remains-object, remains-with, remains-without, through-later}
 use Rattle.internal_methods.proofs.Tied.{asked-frozen}
 use Rattle.internal_methods.proofs.Reading.{isExtensible-report, isExtensible-exact, Faithful, getOwnProperty-report, getOwnProperty-exact, frozen-learnt, frozen-told, lacking-learnt, lacking-told, fixed-value, SamePrototype, loose-prototype, same-prototype, getPrototypeOf-report}
 
 -- every object lasts, and an answer `true` says P of the store after it
 pub record Changed (σ : Store) (P : Store → Type 0) (a : Written) : Type 0 where
-  pub grows : Grows σ (a .1)
+  pub remains : Remains σ (a .1)
   pub says : a .0 ≡ true → P (a .1)
 
 -- nothing changed
 true-idle : {σ : Store} {P : Store → Type 0} → P σ → Changed σ P (true, σ)
-true-idle {σ} h = record { grows = grows-refl σ; says = λ _. h }
+true-idle {σ} h = record { remains = remains-refl σ; says = λ _. h }
 
 false-idle : {σ : Store} {P : Store → Type 0} → Changed σ P (false, σ)
-false-idle {σ} = record { grows = grows-refl σ; says = λ h. absurd (false≢true h) }
+false-idle {σ} = record { remains = remains-refl σ; says = λ h. absurd (false≢true h) }
 
 -- [[PreventExtensions]]
 
@@ -52,21 +52,21 @@ unfolding methods proxyPreventExtensions
 preventExtensions-report zero c o = ensures-fails _
 preventExtensions-report (suc n) c o = ensures-dispatch (c .store) o
     (λ r e. ensures-pure _ (record {
-      grows = grows-object (c .store) o r _ e (λ _. refl) (λ _. refl);
-      says = λ _. record {
+      remains = remains-object (c .store) o r _ e (λ _. refl) (λ _. refl);
+      says = λ _. on-base (record {
         number = o;
         object = record { prototype = r .prototype; extensible = false };
         base = here (lookup-put (c .store) o (Ordinary r) _ e);
         holds = refl;
-      };
+      });
     }))
     (λ p e. ensures-if _
-    (λ _. ensures-weaken (preventExtensions-report n c (p .target)) (λ a h. record { grows = h .grows; says = λ t. through-later (h .grows) e (h .says t) }))
+    (λ _. ensures-weaken (preventExtensions-report n c (p .target)) (λ a h. record { remains = h .remains; says = λ t. through-later (h .remains .grows) e (h .says t) }))
     (λ _. ensures-then _ λ answer. ensures-if _
     (λ _. ensures-pure _ false-idle)
     (λ _. ensures-bind (isExtensible-report n c (p .target)) λ x u.
     ensures-throwIf _ _ λ shut.
-    ensures-pure _ (true-idle (through e (record { number = u .number; object = u .object; base = u .base; holds = sym (u .holds) ∙ shut }))))))
+    ensures-pure _ (true-idle (on-base (through e (record { number = u .number; object = u .object; base = u .base; holds = sym (u .holds) ∙ shut })))))))
 
 -- [[DefineOwnProperty]]
 
@@ -79,15 +79,15 @@ module _ (c : Context) (o : ℕ) (r : OrdinaryObject) (k : PropertyKey) (d : Pro
   becomes-report : (p : Property) → validate (r .extensible) d (own (c .store) o k) ≡ Becomes p
       → Changed (c .store) (Defined (c .store) o k d) (true, withProperty (c .store) o k p)
   becomes-report p h = record {
-    grows = grows-with (c .store) o r k p e (validate-keeps (r .extensible) d _ p h) (validate-adds (r .extensible) d _ p h);
+    remains = remains-with (c .store) o r k p e (validate-keeps (r .extensible) d _ p h) (validate-adds (r .extensible) d _ p h);
     says = λ _. record {
-      there = λ u. let b = at-base (here e) u in validate-adds (r .extensible) d _ p h (b .0) (b .1);
-      froze = λ w a. record {
+      there = λ u. let b = u .at (here e) in validate-adds (r .extensible) d _ p h (b .0) (b .1);
+      froze = λ w a. on-base (record {
         number = o;
         object = r;
         base = here (lookup-with (c .store) o k p o ∙ e);
         holds = rw (own-with (c .store) o k p o k, place-refl o k) (validate-gives (r .extensible) d _ p w h a);
-      };
+      });
     };
   }
 
@@ -97,8 +97,8 @@ module _ (c : Context) (o : ℕ) (r : OrdinaryObject) (k : PropertyKey) (d : Pro
   unfolding applyValidation isCompatible
   apply-report (Rejected n) h t = ensures-pure _ false-idle
   apply-report Unchanged h t = ensures-pure _ (true-idle (record {
-    there = λ u. let b = at-base (here e) u in validate-refuses (r .extensible) d (own (c .store) o k) (rw h) (b .0) (b .1);
-    froze = λ w a. record { number = o; object = r; base = here e; holds = validate-unchanged (r .extensible) d _ w h a };
+    there = λ u. let b = u .at (here e) in validate-refuses (r .extensible) d (own (c .store) o k) (rw h) (b .0) (b .1);
+    froze = λ w a. on-base (record { number = o; object = r; base = here e; holds = validate-unchanged (r .extensible) d _ w h a });
   }))
   apply-report (Becomes p) h Absent = ensures-if _ (λ _. ensures-fails _) (λ _. ensures-pure _ (becomes-report p h))
   apply-report (Becomes p) h (Present q) = ensures-pure _ (becomes-report p h)
@@ -114,10 +114,10 @@ defineOwnProperty-report (suc n) c o k d = ensures-dispatch (c .store) o
     apply-report c o r k d e (validate x d t) (rw (f, g)) t)
     (λ p e. ensures-if _
     (λ _. ensures-weaken (defineOwnProperty-report n c (p .target) k d) (λ a h. record {
-      grows = h .grows;
+      remains = h .remains;
       says = λ t. record {
         there = λ u. h .says t .there (at-target e u);
-        froze = λ w f. through-later (h .grows) e (h .says t .froze w f);
+        froze = λ w f. through-later (h .remains .grows) e (h .says t .froze w f);
       };
     }))
     (λ _. ensures-then _ λ answer. ensures-if _
@@ -127,7 +127,7 @@ defineOwnProperty-report (suc n) c o k d = ensures-dispatch (c .store) o
           ensures-throwIf _ _ λ fourteen-a.
           ensures-throwIf _ _ λ fourteen-b.
           ensures-pure _ (true-idle (record {
-            there = λ w. true≢false (sym (not-false x fourteen-a) ∙ u .holds ∙ at-base (u .base) (at-target e w) .0);
+            there = λ w. true≢false (sym (not-false x fourteen-a) ∙ u .holds ∙ at-target e w .at (u .base) .0);
             froze = λ w a. absurd (true≢false (sym (a .lasting) ∙ fourteen-b));
           }))
       | Present t ↦ λ f. ensures-bind (isExtensible-report n c (p .target)) λ x u.
@@ -139,7 +139,7 @@ defineOwnProperty-report (suc n) c o k d = ensures-dispatch (c .store) o
             froze = λ w a.
                 let fixed = and-false-right _ _ (a .lasting) fifteen-b in
                 let read-only = and-false-left _ _ (a .fixed) (and-false-right _ _ (ap not fixed) fifteen-c) in
-                through e (frozen-learnt k (Present t) w f (asked-frozen x d t w a (not-false _ fifteen-a) fixed read-only));
+                on-proxy (e .found) (frozen-learnt k (Present t) w f (asked-frozen x d t w a (not-false _ fifteen-a) fixed read-only));
           }))
     ]))))
 
@@ -159,15 +159,15 @@ removed-report : (σ : Store) (o : ℕ) (r : OrdinaryObject) (k : PropertyKey) (
 removed-report σ o r k p e f h =
     let unfrozen : (v : Value) → frozenAs v (own σ o k) ≡ false = λ v. subst (λ (t : OwnProperty). frozenAs v t ≡ false) f (configurable-not-frozen p v h) in
     record {
-      grows = grows-without σ o r k e unfrozen;
+      remains = remains-without σ o r k e unfrozen;
       says = λ _. record {
-        loose = λ v u. false≢true (sym (unfrozen v) ∙ at-base (here e) u);
-        gone = λ shut. record {
+        loose = λ v u. false≢true (sym (unfrozen v) ∙ u .at (here e));
+        gone = λ shut. on-base (record {
           number = o;
           object = r;
           base = here (lookup-without σ o k o ∙ e);
-          holds = (at-base (here e) shut, rw (own-without σ o k o k, place-refl o k));
-        };
+          holds = (shut .at (here e), rw (own-without σ o k o k, place-refl o k));
+        });
       };
     }
 
@@ -181,10 +181,10 @@ delete-report (suc n) c o k = ensures-dispatch (c .store) o
     ]))
     (λ p e. ensures-if _
     (λ _. ensures-weaken (delete-report n c (p .target) k) (λ a h. record {
-      grows = h .grows;
+      remains = h .remains;
       says = λ t. record {
         loose = λ v u. h .says t .loose v (at-target e u);
-        gone = λ shut. through-later (h .grows) e (h .says t .gone (at-target e shut));
+        gone = λ shut. through-later (h .remains .grows) e (h .says t .gone (at-target e shut));
       };
     }))
     (λ _. ensures-then _ λ answer. ensures-if _
@@ -197,7 +197,7 @@ delete-report (suc n) c o k = ensures-dispatch (c .store) o
           ensures-throwIf _ _ λ thirteen.
           ensures-pure _ (true-idle (record {
             loose = λ v w. false≢true (sym (configurable-not-frozen t v (not-false _ eleven)) ∙ frozen-told k (Present t) v f (at-target e w));
-            gone = λ shut. absurd (true≢false (sym (not-false x thirteen) ∙ u .holds ∙ at-base (u .base) (at-target e shut)));
+            gone = λ shut. absurd (true≢false (sym (not-false x thirteen) ∙ u .holds ∙ at-target e shut .at (u .base)));
           }))
     ]))))
 
@@ -214,7 +214,7 @@ ordinarySetPrototypeOf-report σ o r v e = go _ refl _ refl (reaches (length (σ
     go false two false h loop = false-idle
     go false two true h true = false-idle
     go false two true h false = record {
-      grows = grows-object σ o r _ e (λ f. f) (λ f. absurd (true≢false (sym h ∙ f)));
+      remains = remains-object σ o r _ e (λ f. f) (λ f. absurd (true≢false (sym h ∙ f)));
       says = λ _. loose-prototype v (r .extensible) h (record { number = o; object = r; base = here e; holds = refl });
     }
 
@@ -224,7 +224,7 @@ setPrototypeOf-report zero c o v = ensures-fails _
 setPrototypeOf-report (suc n) c o v = ensures-dispatch (c .store) o
     (λ r e. ensures-pure _ (ordinarySetPrototypeOf-report (c .store) o r v e))
     (λ p e. ensures-if _
-    (λ _. ensures-weaken (setPrototypeOf-report n c (p .target) v) (λ a h. record { grows = h .grows; says = λ t. through e (h .says t) }))
+    (λ _. ensures-weaken (setPrototypeOf-report n c (p .target) v) (λ a h. record { remains = h .remains; says = λ t. through e (h .says t) }))
     (λ _. ensures-then _ λ answer. ensures-if _
     (λ _. ensures-pure _ false-idle)
     (λ _. ensures-bind (isExtensible-report n c (p .target)) λ x u. ensures-if x
@@ -239,18 +239,18 @@ setPrototypeOf-report (suc n) c o v = ensures-dispatch (c .store) o
 abbrev pub Settable : Store → ℕ → PropertyKey → Value → Type 0
 Settable σ o k v = (w : Value) → Frozen σ o k w → sameValue v w ≡ true
 
-setOnReceiver-report : (n : ℕ) (c : Context) (k : PropertyKey) (v : Value) (o : ℕ) → Ensures (setOnReceiver c (methods n c) k v o) (λ a. Grows (c .store) (a .1))
+setOnReceiver-report : (n : ℕ) (c : Context) (k : PropertyKey) (v : Value) (o : ℕ) → Ensures (setOnReceiver c (methods n c) k v o) (λ a. Remains (c .store) (a .1))
 unfolding setOnReceiver
 setOnReceiver-report n c k v o = ensures-then _ (elim [
-  | Absent ↦ ensures-weaken (defineOwnProperty-report n c o k _) (λ a h. h .grows)
-  | Present (Accessor g s e f) ↦ ensures-pure _ (grows-refl (c .store))
-  | Present (Data w wr e f) ↦ ensures-if _ (λ _. ensures-pure _ (grows-refl (c .store))) (λ _. ensures-weaken (defineOwnProperty-report n c o k _) (λ a h. h .grows))
+  | Absent ↦ ensures-weaken (defineOwnProperty-report n c o k _) (λ a h. h .remains)
+  | Present (Accessor g s e f) ↦ ensures-pure _ (remains-refl (c .store))
+  | Present (Data w wr e f) ↦ ensures-if _ (λ _. ensures-pure _ (remains-refl (c .store))) (λ _. ensures-weaken (defineOwnProperty-report n c o k _) (λ a h. h .remains))
 ])
 
 -- an own property is reported that is not frozen
-unfrozen : {σ : Store} {o : ℕ} (k : PropertyKey) (v : Value) (d : OwnProperty) (a : Written) → Faithful σ o k d → ((w : Value) → frozenAs w d ≡ false) → Grows σ (a .1)
+unfrozen : {σ : Store} {o : ℕ} (k : PropertyKey) (v : Value) (d : OwnProperty) (a : Written) → Faithful σ o k d → ((w : Value) → frozenAs w d ≡ false) → Remains σ (a .1)
     → Changed σ (λ _. Settable σ o k v) a
-unfrozen k v d a f h g = record { grows = g; says = λ _ w u. absurd (false≢true (sym (h w) ∙ frozen-told k d w f u)) }
+unfrozen k v d a f h g = record { remains = g; says = λ _ w u. absurd (false≢true (sym (h w) ∙ frozen-told k d w f u)) }
 
 writable-not-frozen : (w u : Value) (wr e c : Bool) → wr ≡ true → frozenAs u (Present (Data w wr e c)) ≡ false
 writable-not-frozen w u true e c h = refl
@@ -272,14 +272,14 @@ set-report (suc n) c o k v receiver = ensures-dispatch (c .store) o
     (λ r e. ensures-bind (getOwnProperty-report n c o k) (elim [
       | Absent ↦ λ f. ensures-then _ λ parent. ensures-option (objectOf parent)
           (setData-report n c o k v true receiver Absent f (λ _ _. refl))
-          (λ q. ensures-weaken (set-report n c q k v receiver) (λ a h. unfrozen k v Absent a f (λ _. refl) (h .grows)))
+          (λ q. ensures-weaken (set-report n c q k v receiver) (λ a h. unfrozen k v Absent a f (λ _. refl) (h .remains)))
       | Present (Data w wr en co) ↦ λ f. setData-report n c o k v wr receiver _ f (λ t u. writable-not-frozen w u wr en co t)
       | Present (Accessor g s en co) ↦ λ f. ensures-if _
           (λ _. ensures-pure _ false-idle)
-          (λ _. ensures-then _ λ _. ensures-pure _ (unfrozen k v _ (true, c .store) f (λ _. refl) (grows-refl (c .store))))
+          (λ _. ensures-then _ λ _. ensures-pure _ (unfrozen k v _ (true, c .store) f (λ _. refl) (remains-refl (c .store))))
     ]))
     (λ p e. ensures-if _
-    (λ _. ensures-weaken (set-report n c (p .target) k v receiver) (λ a h. record { grows = h .grows; says = λ t w u. h .says t w (at-target e u) }))
+    (λ _. ensures-weaken (set-report n c (p .target) k v receiver) (λ a h. record { remains = h .remains; says = λ t w u. h .says t w (at-target e u) }))
     (λ _. ensures-then _ λ answer. ensures-if _
     (λ _. ensures-pure _ false-idle)
     (λ _. ensures-bind (getOwnProperty-report n c (p .target) k) λ target f.

@@ -1,7 +1,7 @@
 -- The operations that make no calls, as the definitions have them. Assumes nothing.
 use Prim.Native.Nat.{ℕ, _≤_}
 use native.Mathlib.Omega.{arith}
-use mathlib.Core.Path.{_≡_, refl, sym, _∙_}
+use mathlib.Core.Path.{_≡_, refl}
 use mathlib.Core.Bool.{Bool, true, false, _||_, cond, true≢false}
 use mathlib.Core.Option.{Option, none, some}
 use mathlib.Core.List.{List, [], _∷_}
@@ -15,17 +15,16 @@ use mir.Val.{SFits, Fits, ofZ, toZ}
 use mir.ValLaws.{toZ-ofZ}
 use Rattle.value.proofs.Value.{the-type}
 use lib.Dec.{T, eqb, ltb}
-use lib.ListN.{length}
 use Rattle.value.specs.declared.Value.{Value}
 use Rattle.value.specs.declared.Value.the-variants as value
 use Rattle.store.specs.declared.Object.{Object}
 use Rattle.store.specs.declared.Object.the-variants.{Ordinary, Proxy}
-use Rattle.store.specs.Store.{Store, lookup, add, named, maximumObjects}
+use Rattle.store.specs.Store.{Store, lookup, nextNumber, liveCount, add, named, maximumObjects}
 use Rattle.internal_methods.specs.Monad.{done, pure, fails, if_then_else_}
 use Rattle.internal_methods.specs.Methods.{Context}
 use Rattle.calls.specs.declared.Progress.{Progress}
 use Rattle.calls.specs.Outs.{stateOf}
-use Rattle.steps.specs.Operation.{makeObject, makeProxy, revoke, makeFunction, naturalNumber, naturalOf}
+use Rattle.steps.specs.Operation.{makeObject, makeProxy, revoke, makeFunction, release, naturalNumber, naturalOf}
 use Rattle.steps.specs.Sequence.{written}
 use Rattle.steps.specs.Perform.{once, make, perform, boolean, revoked}
 use Rattle.steps.specs.Perform as result
@@ -34,23 +33,24 @@ use Rattle.store_write.specs.declared.write.Write.the-variants as write
 use Rattle.internal_methods.specs.declared.Failure.the-variants.{Refused}
 use Rattle.reporting.specs.declared.Performed.the-variants.{Failed, Done}
 use Rattle.reporting.specs.Performed.{outPerformed}
-use Rattle.performing.specs.Creation.{makeOut, makeObjectOut, makeProxyOut, revokeOut, revocation}
+use Rattle.performing.specs.Creation.{makeOut, makeObjectOut, makeProxyOut, revokeOut, revocation, releaseOut}
 use Rattle.performing.specs.Results.{isCreation}
 use Rattle.store.specs.Words.{storeOf, isStore}
 use Rattle.store_write.specs.Write.{fitsIn}
-use Rattle.store_read.proofs.ReadLaws.{lookup-below}
+use Rattle.store_read.proofs.ReadLaws.{lookup-marked}
+use Rattle.store.proofs.WordLaws.{sized}
 
 module _ (sheet : List ℕ) (s : Progress) where
   making : (σ : Store) (x : Object) (callable b : Bool)
-      → outPerformed sheet σ (cond b (Done (completion.Value (named callable (length (σ .objects)))) (write.NewObject x callable) s) (Failed (Refused 7) s))
-      ≡ written σ ((if b then pure (result.value (named callable (length (σ .objects))), add σ x callable) else fails (Refused 7)) .run (stateOf sheet s))
+      → outPerformed sheet σ (cond b (Done (completion.Value (named callable (nextNumber σ))) (write.NewObject x callable) s) (Failed (Refused 7) s))
+      ≡ written σ ((if b then pure (result.value (named callable (nextNumber σ)), add σ x callable) else fails (Refused 7)) .run (stateOf sheet s))
   unfolding pure fails if_then_else_
   making σ x callable true = refl
   making σ x callable false = refl
 
   made : (σ : Store) (x : Object) (callable : Bool) → outPerformed sheet σ (makeOut σ x callable s) ≡ once σ (make σ x callable) .run (stateOf sheet s)
   unfolding makeOut once make
-  made σ x callable = making σ x callable (ltb (length (σ .objects)) maximumObjects)
+  made σ x callable = making σ x callable (ltb (liveCount σ) maximumObjects)
 
   module _ (depth : ℕ) (c : Context) where
     pub object-made : (v : Value) → outPerformed sheet (c .store) (makeObjectOut (c .store) v false s) ≡ perform depth c (makeObject v) .run (stateOf sheet s)
@@ -73,6 +73,10 @@ module _ (sheet : List ℕ) (s : Progress) where
     pub proxy-revoked : (o : ℕ) → outPerformed sheet (c .store) (revokeOut o (lookup (c .store) o) s) ≡ perform depth c (revoke o) .run (stateOf sheet s)
     unfolding perform once pure
     proxy-revoked o = revoking o (lookup (c .store) o)
+
+    pub object-released : (o : ℕ) → outPerformed sheet (c .store) (releaseOut o s) ≡ perform depth c (release o) .run (stateOf sheet s)
+    unfolding perform once pure
+    object-released o = refl
 
 -- trap masks and integrity levels that are signed numbers
 negative : (z : ℤ) → ltZ z (pos 0) ≡ true → 0 ≡ naturalNumber z
@@ -109,19 +113,20 @@ no-number (value.Function f) h = refl
 
 pub revocation-fits : (words : List ℕ) (o : ℕ) (x : Object) → isStore words ≡ true → lookup (storeOf words) o ≡ some x → fitsIn (revocation o x) words
 revocation-fits words o (Ordinary r) s e = record { store = s; bounds = tt }
-revocation-fits words o (Proxy p) s e = record { store = s; bounds = lookup-below words o (Proxy p) e }
+revocation-fits words o (Proxy p) s e = record { store = s; bounds = lookup-marked words (sized words s) o (Proxy p) e }
 
--- the codes that make or revoke: the last of them, and where the others begin
-pub last-creation : (code : ℕ) → isCreation code ≡ true → 1 ≤ code → (code ≡ 1 → ⊥) → (code ≡ 2 → ⊥) → (code ≡ 3 → ⊥) → code ≡ 16
-last-creation code t h a b c = go (ltb code 4) refl t
+-- the codes that make, revoke or release: the last of them, and where the others begin
+pub last-creation : (code : ℕ) → isCreation code ≡ true → 1 ≤ code → (code ≡ 1 → ⊥) → (code ≡ 2 → ⊥) → (code ≡ 3 → ⊥) → (code ≡ 17 → ⊥) → code ≡ 16
+last-creation code t h a b c d = go (ltb code 4) (eqb code 16) refl refl t
   where
-    go : (low : Bool) → ltb code 4 ≡ low → (low || eqb code 16) ≡ true → code ≡ 16
-    go true e q = absurd (omega (arith, ltb-true code 4 e))
-    go false e q = eqb-true code 16 q
+    go : (low function : Bool) → ltb code 4 ≡ low → eqb code 16 ≡ function → (low || (function || eqb code 17)) ≡ true → code ≡ 16
+    go true f e g q = absurd (omega (arith, ltb-true code 4 e))
+    go false true e g q = eqb-true code 16 g
+    go false false e g q = absurd (d (eqb-true code 17 q))
 
 pub past-creation : (code : ℕ) → isCreation code ≡ false → 4 ≤ code
 past-creation code f = go (ltb code 4) refl f
   where
-    go : (low : Bool) → ltb code 4 ≡ low → (low || eqb code 16) ≡ false → 4 ≤ code
+    go : (low : Bool) → ltb code 4 ≡ low → (low || (eqb code 16 || eqb code 17)) ≡ false → 4 ≤ code
     go true e q = absurd (true≢false q)
     go false e q = ltb-false code 4 e

@@ -1,6 +1,7 @@
 -- How a method's end becomes an operation's. Assumes nothing.
 use Prim.Native.Nat.{ℕ, _<_, _≤_, _^_}
-use mathlib.Core.Bool.{Bool, _||_}
+use mathlib.Core.Path.{_≡_}
+use mathlib.Core.Bool.{Bool, true, _||_}
 use mathlib.Core.List.{List}
 use lib.ListN.{length}
 use lib.Dec.{eqb, ltb}
@@ -10,7 +11,10 @@ use Rattle.property.specs.declared.OwnProperty.{OwnProperty}
 use Rattle.property.specs.declared.OwnProperty.the-variants.{Absent, Present}
 use Rattle.store.specs.Store.{maximumProperties}
 use Rattle.store_write.specs.declared.write.Write.the-variants.{Nothing}
-use Rattle.record.specs.Bytes.{valueAt}
+use Rattle.value.specs.Bits.{bit}
+use Rattle.store.specs.Words.{liveAt, wordAt}
+use Rattle.record.specs.Bytes.{byteAt, valueAt}
+use Rattle.record.specs.Step.{releases}
 use Rattle.calls.specs.declared.ValueOut.{ValueOut}
 use Rattle.calls.specs.declared.ValueOut.the-variants as value
 use Rattle.calls.specs.declared.BooleanOut.{BooleanOut}
@@ -31,15 +35,16 @@ pub record Performable (words cells : List ℕ) (allowance : ℕ) (bytes : List 
   pub readable : Readable words cells
   pub allowed : allowance ≤ maximumProperties
   pub long : 58 ≤ length bytes
+  pub live : releases (byteAt bytes 0) ≡ true → bit (wordAt words liveAt) (byteAt bytes 1) ≡ true
   pub key : keyNumber (keyOrFirst (keyOf (valueAt bytes 2))) < 2 ^ 58
 
 -- the codes of the methods that write nothing and list no keys
 unfoldable pub isReading : ℕ → Bool
 isReading code = eqb code 4 || (eqb code 6 || (eqb code 8 || (eqb code 10 || eqb code 11)))
 
--- the codes that make or revoke an object
+-- the codes that make, revoke or release an object
 abbrev pub isCreation : ℕ → Bool
-isCreation code = ltb code 4 || eqb code 16
+isCreation code = ltb code 4 || (eqb code 16 || eqb code 17)
 
 abbrev pub valueResult : ValueOut → Performed
 valueResult (value.Failed f s) = Failed f s

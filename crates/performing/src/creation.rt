@@ -1,4 +1,4 @@
-// Making objects, functions and proxies, and revoking a proxy: the operations that make no calls.
+// Making objects, functions and proxies, revoking a proxy and releasing an object: the operations that make no calls.
 use calls::Progress;
 use internal_methods::Failure;
 use reporting::Performed;
@@ -12,10 +12,11 @@ use value::Value;
 ghost use mathlib.Core.Path.{_≡_};
 ghost use mathlib.Core.Bool.{true};
 ghost use Rattle.store.specs.Store.{named, lookup};
-ghost use Rattle.store.specs.Words.{isStore, storeOf};
+ghost use Rattle.value.specs.Bits.{bit};
+ghost use Rattle.store.specs.Words.{isStore, storeOf, wordAt};
 ghost use Rattle.steps.specs.Operation.{naturalNumber, naturalOf};
 ghost use Rattle.reporting.specs.Performed.{Taken};
-ghost use Rattle.performing.specs.Creation.{makeOut, makeObjectOut, makeProxyOut, revokeOut, revocation};
+ghost use Rattle.performing.specs.Creation.{makeOut, makeObjectOut, makeProxyOut, revokeOut, revocation, releaseOut};
 
 // The value that names an object.
 fn named(callable: bool, o: u64) -> Value
@@ -27,15 +28,14 @@ fn named(callable: bool, o: u64) -> Value
     Value::Object(o)
 }
 
-// An object has the next number, if there is one.
+// An object has the next number, if there is room for it.
 fn make(words: &[u64], x: Object, callable: bool, s: Progress) -> Performed
     requires { ⌜ isStore (now words) ≡ true ⌝ }
     ensures { λ r. ⌜ r ≡ makeOut (storeOf (now (words .entry))) x callable s ⌝ }
     ensures { λ r. ⌜ Taken (now (words .entry)) r ⌝ }
 {
-    let n = store_read::object_count(words);
-    if n < 32 {
-        let number = n as u64;
+    if store_read::has_object_room(words) {
+        let number = store_read::next_number(words);
         return Performed::Done(
             Completion::Value(named(callable, number)),
             Write::NewObject(x, callable),
@@ -124,4 +124,17 @@ pub fn revoke(words: &[u64], o: u64, s: Progress) -> Performed
             s,
         ),
     }
+}
+
+// Code 17: an object is released
+pub fn release(words: &[u64], o: u64, s: Progress) -> Performed
+    requires { ⌜ (isStore (now words) ≡ true) × (bit (wordAt (now words) 3) o ≡ true) ⌝ }
+    ensures { λ r. ⌜ r ≡ releaseOut o s ⌝ }
+    ensures { λ r. ⌜ Taken (now (words .entry)) r ⌝ }
+{
+    Performed::Done(
+        Completion::Value(Value::Boolean(true)),
+        Write::Release(o),
+        s,
+    )
 }

@@ -39,7 +39,7 @@ pub fn set_level(words: &mut [u64], strings: &[u16], sheet: &[u8], o: u64, froze
     ensures { λ r. ⌜ ((output : List ℕ) → shown r (now (words .exit)) (now (strings .entry)) output ≡ shownBy (ended (worldOf (now (words .entry)) (now (strings .entry))) (sheetOf (now (sheet .entry))) output (perform maximumCalls (context (now (words .entry)) (now (strings .entry)) maximumProperties) (setIntegrityLevel o (pick frozen Level.frozen Level.sealed)) .run (stateOf (now (sheet .entry)) (start (now (sheet .entry))))))) ⌝ }
     ensures { λ r. ⌜ WordsAfter true (r .outcome) (now (words .entry)) (now (words .exit)) ⌝ }
 {
-    let mut before = [0u64; 1635];
+    let mut before = [0u64; 1670];
     store_write::copy_words(&mut before, words);
     let s = reporting::start(sheet);
     let out = integrity::set_integrity_level(

@@ -1,5 +1,5 @@
 // What a step asks for, done: the operation of each code, with its one write or, in levels, with many.
-// creation: codes 1 to 3 and 16. reads: 4, 6, 8, 10 and 11. writes: 5, 7, 9, 12 and 13. listing: 14, with its output. levels: 18 and 19.
+// creation: codes 1 to 3, 16 and 17. reads: 4, 6, 8, 10 and 11. writes: 5, 7, 9, 12 and 13. listing: 14, with its output. levels: 18 and 19.
 use byte_records::value_record;
 use calls::Progress;
 use reporting::Performed;
@@ -24,17 +24,20 @@ mod writes;
 
 pub const MAXIMUM_PROPERTIES: usize = 256;
 
-// Codes 1 to 3 and 16, of those that there are
+// Codes 1 to 3, 16 and 17, of those that there are
 fn is_creation(code: u64) -> bool
     ensures { λ r. ⌜ r ≡ isCreation code ⌝ }
 {
     if code < 4 {
         return true;
     }
-    code == 16
+    if code == 16 {
+        return true;
+    }
+    code == 17
 }
 
-// Codes 1 to 3 and 16
+// Codes 1 to 3, 16 and 17
 fn perform_creation(
     words: &[u64],
     strings: &[u16],
@@ -54,11 +57,12 @@ fn perform_creation(
         1 => creation::make_object(words, v, false, s),
         2 => creation::make_proxy(words, o, v, s),
         3 => creation::revoke(words, o, s),
+        17 => creation::release(words, o, s),
         _ => creation::make_object(words, v, true, s),
     }
 }
 
-// Codes 1 to 13 and 16 but those of reads
+// Codes 1 to 13, 16 and 17 but those of reads
 pub fn perform(
     words: &[u64],
     strings: &[u16],

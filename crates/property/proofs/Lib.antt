@@ -1,3 +1,4 @@
 pub mod ValidateLaws
+pub mod ValueLaws
 pub mod FirstTestHolds
 pub mod UnnumberedLaws

@@ -19,8 +19,8 @@ use Rattle.property.specs.declared.OwnProperty.the-variants.{Absent, Pre
 use Rattle.property.specs.declared.ValidationTest.{ValidationTest}
 use Rattle.property.specs.declared.ValidationTest.the-variants as test
 use Rattle.property.specs.declared.Validation.{Validation}
-use Rattle.property.specs.declared.Validation.the-variants.{Rejected, Unchanged, Becomes}
-use Rattle.property.specs.Fields.{has, isTrue, isFalse, unlike, unlikeFlag, orElse, orElseFlag, valueField, writableField, getField, setField, enumerable, configurable, isAccessor}
+use Rattle.property.specs.declared.Validation.the-variants.{Unchanged, Becomes}
+use Rattle.property.specs.Fields.{has, isTrue, isFalse, unlike, unlikeFlag, orElse, orElseFlag, valueField, writableField, getField, setField, enumerable, configurable}
 use Rattle.property.specs.Descriptor.{isAccessorDescriptor, isDataDescriptor, isGenericDescriptor, complete}
 use Rattle.property.specs.Validate.{hasNoFields, isOtherKind, applied, rejectIf, validateKind, validateFixed, validate, isAccepted, isCompatible}
 
@@ -190,13 +190,16 @@ gives : (d : PropertyDescriptor) (t : Property) (p : Property) (c : Bool) → co
 gives d t p true h = cc
 gives d t p false h = made d t (applied d t) p (passed d t (Becomes (applied d t)) (Becomes p) refl h .five-de)
 
+-- a property that is there changes as step 6 says
+pub validate-changes : (x : Bool) (d : PropertyDescriptor) (t p : Property) → validate x d (Present t) ≡ Becomes p → applied d t ≡ p
+unfolding validate
+validate-changes x d t p h = gives d t p (configurable t) (became (hasNoFields d) _ p h)
+
 pub validate-gives : (x : Bool) (d : PropertyDescriptor) (t : OwnProperty) (p : Property) (w : Value) → validate x d t ≡ Becomes p → AsksFrozen d w → frozenAs w (Present p) ≡ true
 unfolding validate rejectIf
 validate-gives false d Absent p w h a = absurd (false≢true cc)
 validate-gives true d Absent p w h a = let q : complete d ≡ p = cc in subst (λ (z : Property). frozenAs w (Present z) ≡ true) q (complete-frozen d w a)
-validate-gives x d (Present t) p w h a =
-    let q = gives d t p (configurable t) (became (hasNoFields d) _ p h) in
-    subst (λ (z : Property). frozenAs w (Present z) ≡ true) q (applied-asked d w t a)
+validate-gives x d (Present t) p w h a = subst (λ (z : Property). frozenAs w (Present z) ≡ true) (validate-changes x d t p h) (applied-asked d w t a)
 
 -- A property that is not configurable, and a descriptor that asks for a frozen one: 5.c and 5.e
 

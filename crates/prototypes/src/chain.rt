@@ -49,7 +49,7 @@ pub fn reaches(words: &[u64], o: u64, v: Value) -> bool
     requires { ⌜ isStore (now words) ≡ true ⌝ }
     ensures { λ r. ⌜ r ≡ ordinary.reaches (length (storeOf (now (words .entry)) .objects)) (storeOf (now (words .entry))) o v ⌝ }
 {
-    let mut left = store_read::object_count(words);
+    let mut left: usize = 32;
     let mut p = v; // 5
     while 0 < left {
         match next_link(words, o, p) {

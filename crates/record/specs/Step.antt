@@ -3,8 +3,8 @@ use Prim.Native.Nat.{ℕ, _+_}
 use mathlib.Core.Bool.{Bool, true, false, not, _&&_, _||_, cond}
 use mathlib.Core.Option.{Option, none, some}
 use mathlib.Core.List.{List, [], _∷_, _++_}
-use lib.Dec.{eqb, leb, ltb}
-use lib.IntN.{ℤ, pos, negsuc}
+use lib.Dec.{eqb, leb}
+use lib.IntN.{pos, negsuc}
 use lib.ListN.{length}
 use Rattle.value.specs.declared.Value.{Value}
 use Rattle.value.specs.declared.Value.the-variants.{Undefined, Null, Boolean, Integer32, Float64, String, Symbol, Object, Function}
@@ -14,7 +14,7 @@ use Rattle.value.specs.Words.{kindOf}
 use Rattle.record.specs.declared.Step.{Step}
 use Rattle.record.specs.Bytes.{byteAt, areZero, valueAt, isPartAt, valueBytes}
 use Rattle.record.specs.Descriptor.{descriptorSize, descriptorAt, isDescriptorAt, descriptorBytes}
-use Rattle.record.specs.Tests.{Counts, isMade, isKnown, descriptorPasses, isDescriptor}
+use Rattle.record.specs.Tests.{Counts, isMade, isKnown, descriptorPasses}
 
 abbrev pub stepSize : ℕ
 stepSize = 58
@@ -32,6 +32,9 @@ stepOf bytes = record {
 -- the codes, by the parts that they use
 abbrev pub makesOrdinary : ℕ → Bool
 makesOrdinary code = eqb code 1 || eqb code 16
+
+abbrev pub releases : ℕ → Bool
+releases code = eqb code 17
 
 abbrev pub usesObject : ℕ → Bool
 usesObject code = not (makesOrdinary code)
@@ -74,7 +77,7 @@ abbrev pub unless : Bool → Bool → Bool
 unless used test = not used || test
 
 abbrev pub isCode : ℕ → Bool
-isCode code = (leb 1 code && leb code 14) || (eqb code 16 || usesLevel code)
+isCode code = (leb 1 code && leb code 14) || (eqb code 16 || (releases code || usesLevel code))
 
 -- the object, the values and the descriptor, each zero where the code does not use it
 abbrev pub isObjectFormed : ℕ → ℕ → Bool
@@ -111,7 +114,7 @@ stepPasses test s = test (s .key) && (test (s .value) && (test (s .receiver) && 
 
 -- refusal 2 over the step
 unfoldable pub areObjectsMade : Counts → Step → Bool
-areObjectsMade n s = unless (usesObject (s .code)) (ltb (s .object) (n .objects)) && stepPasses (isMade n) s
+areObjectsMade n s = unless (usesObject (s .code)) (bit (n .live) (s .object)) && stepPasses (isMade n) s
 
 abbrev pub isSome : {A : Type 0} → Option A → Bool
 isSome none = false
@@ -146,6 +149,10 @@ unfoldable pub areKindsUsable : Bool → Counts → Step → Bool
 areKindsUsable proxy n s =
     stepPasses (isKnown n) s
     && (isKeyUsable s && (isPrototypeUsable s && (isMaskUsable s && (isLevelUsable s && (isObjectUsable proxy s && isTargetUsable n s)))))
+
+-- refusal 14 over the step: `named` says whether an object names the step's object
+abbrev pub isReleasable : Bool → Step → Bool
+isReleasable named s = unless (releases (s .code)) (not named)
 
 -- the 58 bytes of a step
 unfoldable pub stepBytes : Step → List ℕ

@@ -2,7 +2,7 @@
 use Prim.Native.Nat.{ℕ}
 use mathlib.Core.Option.{Option, none, some}
 use mathlib.Core.List.{List, [], _∷_}
-use mathlib.Core.Bool.{Bool, true, false, not, _&&_, _||_}
+use mathlib.Core.Bool.{Bool, true, false, not, _&&_}
 use lib.Dec.{ltb}
 use Rattle.value.specs.Bits.{bit}
 use Rattle.value.specs.declared.Value.{Value}
@@ -17,11 +17,11 @@ use Rattle.record.specs.declared.Test.the-variants.{Made, Known}
 use Rattle.record.specs.declared.Refusal.{Refusal}
 use Rattle.record.specs.declared.Refusal.the-variants.{Passed, Failed}
 
--- how many objects and strings there are, and which objects are callable
+-- which objects are live and which are callable, and how many strings there are
 abbrev pub Counts : Type 0
 Counts = counts.Counts
 
--- refusal 2 unless the object or function that a value names is there
+-- refusal 2 unless the object or function that a value names is live
 unfoldable pub isMade : Counts → Value → Bool
 isMade n Undefined = true
 isMade n Null = true
@@ -30,8 +30,8 @@ isMade n (Integer32 i) = true
 isMade n (Float64 x) = true
 isMade n (String s) = true
 isMade n (Symbol s) = true
-isMade n (Object o) = ltb o (n .objects)
-isMade n (Function f) = ltb f (n .objects)
+isMade n (Object o) = bit (n .live) o
+isMade n (Function f) = bit (n .live) f
 
 -- refusal 3 unless a string is in the table, a symbol one of the 256, and what is named as a function callable, and as an object not
 unfoldable pub isKnown : Counts → Value → Bool

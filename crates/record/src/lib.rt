@@ -11,9 +11,9 @@ pub struct Step {
     pub descriptor: DescriptorObject,
 }
 
-// How many objects and strings there are, and which objects are callable: bit o for object o.
+// Which objects are live and which are callable, bit o for object o, and how many strings there are.
 pub struct Counts {
-    pub objects: u64,
+    pub live: u64,
     pub strings: u64,
     pub callable: u64,
 }

@@ -66,6 +66,20 @@ fn report(
     }
 }
 
+// Whether a call was a step that released an object.
+fn is_release(kind: u8, bytes: &[u8], outcome: u64) -> bool {
+    if kind == 1 {
+        if outcome == 1 {
+            if bytes.len() == 58 {
+                return bytes[0] == 17;
+            }
+            return false;
+        }
+        return false;
+    }
+    false
+}
+
 // One call over a line's parts.
 fn call(
     words: &mut [u64],
@@ -82,6 +96,9 @@ fn call(
     let e = performed(words, strings, kind, bytes, given, output, &mut ours);
     let size = readout::put_store(&mut dump, words, strings);
     let part = comparison::difference(expected, e, &ours, output, &dump, size);
+    if is_release(kind, bytes, e.outcome) {
+        tally::count_release(tally);
+    }
     report(tally, part, kind, expected, e, &ours, output, &dump, size);
 }
 
@@ -183,7 +200,7 @@ fn turn(
 }
 
 fn main() {
-    let mut words = [0u64; 1635];
+    let mut words = [0u64; 1670];
     let mut strings = [0u16; 8449];
     let mut text = io::large_buffer();
     let mut output = io::large_buffer();

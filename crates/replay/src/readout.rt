@@ -203,14 +203,24 @@ fn put_object(out: &mut [u8], at: usize, words: &[u64], strings: &[u16], o: u64)
     }
 }
 
+// Nothing where no live object has the number.
+fn put_if_live(out: &mut [u8], at: usize, words: &[u64], strings: &[u16], o: u64) -> usize
+    requires { ⌜ (isStore (now words) ≡ true) × (isTable (now strings) ≡ true) ⌝ }
+{
+    if bits::bit(store_read::live(words), o) {
+        return put_object(out, at, words, strings, o);
+    }
+    at
+}
+
+// Which objects are live, and each of them.
 fn put_objects(out: &mut [u8], at: usize, words: &[u64], strings: &[u16]) -> usize
     requires { ⌜ (isStore (now words) ≡ true) × (isTable (now strings) ≡ true) ⌝ }
 {
-    let n = store_read::object_count(words);
-    let mut next = put_byte(out, at, n as u64);
-    let mut o: usize = 0;
-    while o < n {
-        next = put_object(out, next, words, strings, o as u64);
+    let mut next = put_half(out, at, store_read::live(words));
+    let mut o: u64 = 0;
+    while o < 32 {
+        next = put_if_live(out, next, words, strings, o);
         o += 1;
     }
     next

@@ -3,7 +3,7 @@ use crate::print;
 ghost use Prim.Native.Nat.{_<_, _≤_};
 
 // Where each is counted: messages by their numbers, those that the engine's text tells alone, refusals, kinds of call, outcomes,
-// and how many calls, lines and differences there are.
+// and how many calls, lines, differences and releases there are.
 const TOLD: u64 = 40;
 
 const REFUSALS: u64 = 80;
@@ -18,12 +18,16 @@ const LINES: u64 = 109;
 
 const DIFFERENCES: u64 = 110;
 
+const RELEASES: u64 = 111;
+
 const MESSAGE_COUNT: u64 = 32;
 
-// Refusals 1 to 11, and 13; 12 is of a line of a text, which no call is.
+// Refusals 1 to 11, 13 and 14; 12 is of a line of a text, which no call is.
 const REFUSAL_COUNT: u64 = 11;
 
 const UNREAD: u64 = 13;
+
+const NAMED: u64 = 14;
 
 fn place(at: u64) -> usize
     ensures { λ r. ⌜ r < 128 ⌝ }
@@ -58,6 +62,10 @@ pub fn count_call(tally: &mut [u64; 128], kind: u8, outcome: u64, number: u64, t
             counted(tally, TOLD + number % 40);
         }
     }
+}
+
+pub fn count_release(tally: &mut [u64; 128]) {
+    counted(tally, RELEASES);
 }
 
 pub fn count_difference(tally: &mut [u64; 128]) {
@@ -96,7 +104,7 @@ fn missing(tally: &[u64; 128], a: u64, n: u64) -> u64
 }
 
 fn missing_refusals(tally: &[u64; 128]) -> u64 {
-    missing(tally, REFUSALS, REFUSAL_COUNT) + missing(tally, REFUSALS + UNREAD - 1, 1)
+    missing(tally, REFUSALS, REFUSAL_COUNT) + missing(tally, REFUSALS + UNREAD - 1, 2)
 }
 
 fn print_message(tally: &[u64; 128], n: u64)
@@ -133,6 +141,7 @@ fn print_refusals(tally: &[u64; 128]) {
         n += 1;
     }
     print_refusal(tally, UNREAD);
+    print_refusal(tally, NAMED);
 }
 
 pub fn print_tally(tally: &[u64; 128]) {
@@ -140,6 +149,8 @@ pub fn print_tally(tally: &[u64; 128]) {
     print_refusals(tally);
     print_count(b"stores ", tally, KINDS);
     print_count(b", steps ", tally, KINDS + 1);
+    print_count(b" with ", tally, RELEASES);
+    print(b" releases");
     print_count(b", strings ", tally, KINDS + 2);
     print_count(b", completing ", tally, KINDS + 3);
     print_count(b", validating ", tally, KINDS + 4);

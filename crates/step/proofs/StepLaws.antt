@@ -18,10 +18,13 @@ use Rattle.store.specs.Words.{isStore, storeOf, worldOf}
 use Rattle.store_read.proofs.ListLaws.{few-strings}
 use Rattle.value.specs.Words.{pick}
 use Rattle.record.specs.Bytes.{byteAt, valueAt}
-use Rattle.record.specs.Step.{stepOf}
+use borrow.Author.Tests.{eqb-true}
+use Rattle.value.specs.Bits.{bit}
+use Rattle.store.proofs.WordLaws.{sized, live-word}
+use Rattle.record.specs.Step.{stepOf, usesObject}
 use Rattle.record.specs.Tests.{firstFailing}
 use Rattle.record.specs.Sheet.{sheetOf, isSheet}
-use Rattle.step_records.proofs.PassedLaws.{step-length, key-fits, sheet-formed, sheet-known}
+use Rattle.step_records.proofs.PassedLaws.{step-length, object-live, key-fits, sheet-formed, sheet-known}
 use Rattle.calls.specs.declared.Progress.{Progress}
 use Rattle.calls.specs.Outs.{Readable, context, stateOf}
 use Rattle.steps.specs.declared.Report.{Report}
@@ -54,6 +57,9 @@ module _ (words cells bytes sheet : List ℕ) (m : Readable words cells) (h : fi
     readable = m;
     allowed = omega arith;
     long = omega (arith, step-length (worldOf words cells) bytes sheet h);
+    live = λ t.
+        let used : usesObject (byteAt bytes 0) ≡ true = ap (λ (c : ℕ). usesObject c) (eqb-true (byteAt bytes 0) 17 t) in
+        sym (ap (λ (n : ℕ). bit n (byteAt bytes 1)) (live-word words (sized words (m .store)))) ∙ object-live (worldOf words cells) bytes sheet h used;
     key = key-fits (worldOf words cells) bytes sheet h (few-strings cells (m .table));
   }
 

@@ -2,7 +2,7 @@
 use Prim.Native.Nat.{ℕ, _<_, _≤_, _^_}
 use native.Mathlib.Omega.{arith}
 use mathlib.Core.Path.{_≡_, refl}
-use mathlib.Core.Bool.{Bool, true, false, _&&_, _||_}
+use mathlib.Core.Bool.{Bool, true, false, _&&_, _||_, false≢true}
 use mathlib.Core.Option.{none}
 use mathlib.Core.List.{List, _∷_}
 use lib.Dec.{eqb, leb, ltb}
@@ -12,10 +12,11 @@ use Rattle.value.proofs.Bools.{and-true, or-false, or-cases}
 use Rattle.value.specs.declared.Value.{Value}
 use Rattle.value.specs.declared.Value.the-variants.{Undefined, Null, Boolean, Integer32, Float64, String, Symbol, Object, Function}
 use Rattle.value.specs.PropertyKey.{keyOf, keyNumber}
-use Rattle.store.specs.Store.{World}
+use Rattle.value.specs.Bits.{bit}
+use Rattle.store.specs.Store.{World, liveMarks}
 use Rattle.record.specs.Bytes.{byteAt}
 use Rattle.record.specs.Tests.{Counts, isKnown, firstFailing}
-use Rattle.record.specs.Step.{stepOf, usesLevel, isStep, isCode, areKindsUsable}
+use Rattle.record.specs.Step.{stepOf, usesObject, usesLevel, unless, isStep, isCode, areObjectsMade, areKindsUsable}
 use Rattle.record.specs.Sheet.{sheetOf, isSheet, sheetPasses}
 use Rattle.steps.specs.Operation.{keyOrFirst}
 use Rattle.steps.specs.Step.{countsOf, recordTests}
@@ -43,24 +44,26 @@ known-key n (Symbol s) h e = omega (arith, ltb-true s 256 e)
 known-key n (Object o) h e = omega arith
 known-key n (Function f) h e = omega arith
 
--- the codes that are left: 1 to 13, and 16, which makes a function
-below : (c : ℕ) → isCode c ≡ true → (c ≡ 14 → ⊥) → (c ≡ 18 → ⊥) → (c ≡ 19 → ⊥) → (1 ≤ c) × ((ltb c 4 || eqb c 16) ≡ false → c < 14)
+-- the codes that are left: 1 to 13, 16, which makes a function, and 17, which releases
+below : (c : ℕ) → isCode c ≡ true → (c ≡ 14 → ⊥) → (c ≡ 18 → ⊥) → (c ≡ 19 → ⊥) → (1 ≤ c) × ((ltb c 4 || (eqb c 16 || eqb c 17)) ≡ false → c < 14)
 below c e n14 n18 n19 =
-    or-cases (leb 1 c && leb c 14) (eqb c 16 || usesLevel c) e
+    or-cases (leb 1 c && leb c 14) (eqb c 16 || (eqb c 17 || usesLevel c)) e
     (λ h. let p = and-true (leb 1 c) (leb c 14) h in (leb-true 1 c (p .0), λ f. omega (arith, leb-true c 14 (p .1), n14)))
-    (λ h. or-cases (eqb c 16) (usesLevel c) h
-    (λ q. let s = eqb-true c 16 q in (omega arith, λ f. absurd (eqb-false c 16 (or-false (ltb c 4) (eqb c 16) f .1) s)))
-    (λ q. absurd (or-cases (eqb c 18) (eqb c 19) q (λ t. n18 (eqb-true c 18 t)) (λ t. n19 (eqb-true c 19 t)))))
+    (λ h. or-cases (eqb c 16) (eqb c 17 || usesLevel c) h
+    (λ q. let s = eqb-true c 16 q in (omega arith, λ f. absurd (eqb-false c 16 (or-false (eqb c 16) (eqb c 17) (or-false (ltb c 4) (eqb c 16 || eqb c 17) f .1) .0) s)))
+    (λ g. or-cases (eqb c 17) (usesLevel c) g
+    (λ q. let s = eqb-true c 17 q in (omega arith, λ f. absurd (eqb-false c 17 (or-false (eqb c 16) (eqb c 17) (or-false (ltb c 4) (eqb c 16 || eqb c 17) f .1) .1) s)))
+    (λ q. absurd (or-cases (eqb c 18) (eqb c 19) q (λ t. n18 (eqb-true c 18 t)) (λ t. n19 (eqb-true c 19 t))))))
 
 module _ (ω : World) (bytes sheet : List ℕ) (h : firstFailing (recordTests ω bytes sheet) ≡ none) where
   pub step-formed : isStep bytes ≡ true
   step-formed = passed _ _ _ h
 
   pub sheet-formed : isSheet sheet ≡ true
-  sheet-formed = passed _ _ _ (later _ _ _ (later _ _ _ (later _ _ _ (later _ _ _ h))))
+  sheet-formed = passed _ _ _ (later _ _ _ (later _ _ _ (later _ _ _ (later _ _ _ (later _ _ _ h)))))
 
   pub sheet-known : sheetPasses (isKnown (countsOf ω)) (sheetOf sheet) ≡ true
-  sheet-known = passed _ _ _ (later _ _ _ (later _ _ _ (later _ _ _ (later _ _ _ (later _ _ _ (later _ _ _ h))))))
+  sheet-known = passed _ _ _ (later _ _ _ (later _ _ _ (later _ _ _ (later _ _ _ (later _ _ _ (later _ _ _ (later _ _ _ h)))))))
 
   pub step-length : length bytes ≡ 58
   unfolding isStep
@@ -70,8 +73,17 @@ module _ (ω : World) (bytes sheet : List ℕ) (h : firstFailing (recordTests ω
   unfolding isStep
   code-formed = and-true (isCode (byteAt bytes 0)) _ (and-true (eqb (length bytes) 58) _ step-formed .1) .0
 
+  -- the object that a step uses is live
+  pub object-live : usesObject (byteAt bytes 0) ≡ true → bit (liveMarks (ω .store .objects)) (byteAt bytes 1) ≡ true
+  unfolding areObjectsMade stepOf
+  object-live u = used _ _ u (and-true _ _ (passed _ _ _ (later _ _ _ h)) .0)
+    where
+      used : (u t : Bool) → u ≡ true → unless u t ≡ true → t ≡ true
+      used true t e q = q
+      used false t e q = absurd (false≢true e)
+
   -- a code that neither lists keys nor uses a level
-  pub other-code : (byteAt bytes 0 ≡ 14 → ⊥) → (byteAt bytes 0 ≡ 18 → ⊥) → (byteAt bytes 0 ≡ 19 → ⊥) → (1 ≤ byteAt bytes 0) × ((ltb (byteAt bytes 0) 4 || eqb (byteAt bytes 0) 16) ≡ false → byteAt bytes 0 < 14)
+  pub other-code : (byteAt bytes 0 ≡ 14 → ⊥) → (byteAt bytes 0 ≡ 18 → ⊥) → (byteAt bytes 0 ≡ 19 → ⊥) → (1 ≤ byteAt bytes 0) × ((ltb (byteAt bytes 0) 4 || (eqb (byteAt bytes 0) 16 || eqb (byteAt bytes 0) 17)) ≡ false → byteAt bytes 0 < 14)
   other-code = below (byteAt bytes 0) code-formed
 
   pub sheet-there : 0 < length sheet

@@ -117,19 +117,19 @@ past-14 c h s t = omega arith
 -- no code
 module _ (c : ℕ) where
   pub code-low : c < 1 → isCode c ≡ false
-  code-low h = rw (lt-leb 1 c h, ne-eqb c 16 (λ e. omega arith), ne-eqb c 18 (λ e. omega arith), ne-eqb c 19 (λ e. omega arith))
+  code-low h = rw (lt-leb 1 c h, ne-eqb c 16 (λ e. omega arith), ne-eqb c 17 (λ e. omega arith), ne-eqb c 18 (λ e. omega arith), ne-eqb c 19 (λ e. omega arith))
 
-  above-14 : 14 < c → (c ≡ 16 → ⊥) → (c ≡ 18 → ⊥) → (c ≡ 19 → ⊥) → isCode c ≡ false
-  above-14 h r s t = rw (le-leb 1 c (omega arith), lt-leb c 14 h, ne-eqb c 16 r, ne-eqb c 18 s, ne-eqb c 19 t)
+  above-14 : 14 < c → (c ≡ 16 → ⊥) → (c ≡ 17 → ⊥) → (c ≡ 18 → ⊥) → (c ≡ 19 → ⊥) → isCode c ≡ false
+  above-14 h r q s t = rw (le-leb 1 c (omega arith), lt-leb c 14 h, ne-eqb c 16 r, ne-eqb c 17 q, ne-eqb c 18 s, ne-eqb c 19 t)
 
-  pub code-middle : ((c ≡ 1) ⊎ (c ≡ 16) → ⊥) → ((c ≡ 4) ⊎ (c ≡ 14) → ⊥) → ((c ≡ 8) ⊎ ((c ≡ 10) ⊎ (c ≡ 13)) → ⊥) → (c ≡ 9 → ⊥) → (c ≡ 11 → ⊥) → (c ≡ 12 → ⊥) → 8 ≤ c → c < 18 → isCode c ≡ false
+  pub code-middle : ((c ≡ 1) ⊎ (c ≡ 16) → ⊥) → ((c ≡ 4) ⊎ ((c ≡ 14) ⊎ (c ≡ 17)) → ⊥) → ((c ≡ 8) ⊎ ((c ≡ 10) ⊎ (c ≡ 13)) → ⊥) → (c ≡ 9 → ⊥) → (c ≡ 11 → ⊥) → (c ≡ 12 → ⊥) → 8 ≤ c → c < 16 → isCode c ≡ false
   code-middle n1 n4 n8 n9 n11 n12 h l =
       let n8' : c ≡ 8 → ⊥ = λ e. n8 (inl e) in
       let n10 : c ≡ 10 → ⊥ = λ e. n8 (inr (inl e)) in
-      above-14 (past-14 c (omega arith) (λ e. n8 (inr (inr e))) (λ e. n4 (inr e))) (λ e. n1 (inr e)) (λ e. omega arith) (λ e. omega arith)
+      above-14 (past-14 c (omega arith) (λ e. n8 (inr (inr e))) (λ e. n4 (inr (inl e)))) (λ e. n1 (inr e)) (λ e. n4 (inr (inr e))) (λ e. omega arith) (λ e. omega arith)
 
   pub code-high : 20 ≤ c → isCode c ≡ false
-  code-high h = above-14 (omega arith) (λ e. omega arith) (λ e. omega arith) (λ e. omega arith)
+  code-high h = above-14 (omega arith) (λ e. omega arith) (λ e. omega arith) (λ e. omega arith) (λ e. omega arith)
 
 -- the parts of a step by its code
 
@@ -194,7 +194,7 @@ four true false = refl
 four false m = refl
 
 pub revoking-proxy : (n : Counts) (o : ℕ) (b : List ℕ) → cond (areZero b 2 56) (objectRefusal n o) 1 ≡ earlier 4 (cond (areZero b 2 56) (objectRefusal n o) 1)
-revoking-proxy n o b = four (areZero b 2 56) (ltb o (n .objects))
+revoking-proxy n o b = four (areZero b 2 56) (bit (n .live) o)
 
 revoked : (proxy m : Bool) → earlier (cond proxy 4 3) (first true m true) ≡ first true m proxy
 revoked true true = refl
@@ -208,7 +208,7 @@ unmarked false = refl
 
 module _ (proxy : Bool) (n : Counts) (b : List ℕ) where
   abbrev object : ℕ → ℕ
-  object c = first (isObjectFormed c (byteAt b 1)) (unless (usesObject c) (ltb (byteAt b 1) (n .objects))) (unless (usesMask c) (not (bit (n .callable) (byteAt b 1))) && unless (eqb c 3) proxy)
+  object c = first (isObjectFormed c (byteAt b 1)) (unless (usesObject c) (bit (n .live) (byteAt b 1))) (unless (usesMask c) (not (bit (n .callable) (byteAt b 1))) && unless (eqb c 3) proxy)
 
   abbrev key : ℕ → ℕ
   key c = first (isPartAt (usesKey c) b 2) (isMade n (valueAt b 2)) (unless (usesKey c) (isSome (keyOf (valueAt b 2))) && isKnown n (valueAt b 2))
@@ -265,7 +265,7 @@ module _ (proxy : Bool) (n : Counts) (b : List ℕ) where
   tail2 = rw (tail11, unused 2, zero-join b 2 9 47) (join (areZero b 2 9) (areZero b 11 47))
 
   in-object : In (objectRefusal n (byteAt b 1))
-  in-object = in-first true (ltb (byteAt b 1) (n .objects)) true
+  in-object = in-first true (bit (n .live) (byteAt b 1)) true
 
   in-key : In (keyRefusal n b)
   in-key = in-first (isValueAt b 2) (isMade n (valueAt b 2)) (isSome (keyOf (valueAt b 2)) && isKnown n (valueAt b 2))
@@ -298,10 +298,10 @@ module _ (proxy : Bool) (n : Counts) (b : List ℕ) where
     creation-codes : (c ≡ 1) ⊎ (c ≡ 16) → Like c 1
     creation-codes = ⊎-elim (like 1 1 (refl, refl)) (like 16 1 (refl, refl))
 
-    object-codes : (c ≡ 4) ⊎ (c ≡ 14) → Like c 4
-    object-codes = ⊎-elim (like 4 4 (refl, refl)) (like 14 4 (refl, refl))
+    object-codes : (c ≡ 4) ⊎ ((c ≡ 14) ⊎ (c ≡ 17)) → Like c 4
+    object-codes = ⊎-elim (like 4 4 (refl, refl)) (⊎-elim (like 14 4 (refl, refl)) (like 17 4 (refl, refl)))
 
-    object-range : ((c ≡ 1) ⊎ (c ≡ 16) → ⊥) → (c ≡ 2 → ⊥) → (c ≡ 3 → ⊥) → (c ≡ 5 → ⊥) → ((c ≡ 4) ⊎ (c ≡ 14) → ⊥) → 1 ≤ c → c < 8 → Like c 4
+    object-range : ((c ≡ 1) ⊎ (c ≡ 16) → ⊥) → (c ≡ 2 → ⊥) → (c ≡ 3 → ⊥) → (c ≡ 5 → ⊥) → ((c ≡ 4) ⊎ ((c ≡ 14) ⊎ (c ≡ 17)) → ⊥) → 1 ≤ c → c < 8 → Like c 4
     object-range n1 n2 n3 n5 n4 h k = by (eqb c 6) refl
       where
         by : (t : Bool) → eqb c 6 ≡ t → Like c 4
@@ -315,12 +315,16 @@ module _ (proxy : Bool) (n : Counts) (b : List ℕ) where
     key-codes : (c ≡ 8) ⊎ ((c ≡ 10) ⊎ (c ≡ 13)) → Like c 8
     key-codes = ⊎-elim (like 8 8 (refl, refl)) (⊎-elim (like 10 8 (refl, refl)) (like 13 8 (refl, refl)))
 
-    level-codes : 18 ≤ c → c < 20 → Like c 18
-    level-codes h k = by (eqb c 18) refl
+    level-codes : ((c ≡ 1) ⊎ (c ≡ 16) → ⊥) → ((c ≡ 4) ⊎ ((c ≡ 14) ⊎ (c ≡ 17)) → ⊥) → 16 ≤ c → c < 20 → Like c 18
+    level-codes n1 n4 h k = by (eqb c 18) refl
       where
         by : (t : Bool) → eqb c 18 ≡ t → Like c 18
         by true q = like 18 18 (refl, refl) (eqb-true c 18 q)
-        by false q = let n18 : c ≡ 18 → ⊥ = eqb-false c 18 q in like 19 18 (refl, refl) (omega arith)
+        by false q =
+            let n16 : c ≡ 16 → ⊥ = λ e. n1 (inr e) in
+            let n17 : c ≡ 17 → ⊥ = λ e. n4 (inr (inr e)) in
+            let n18 : c ≡ 18 → ⊥ = eqb-false c 18 q in
+            like 19 18 (refl, refl) (omega arith)
 
   alone : (x : ℕ) → In x → earlier x (earlier (partRefusal false n b 2) (earlier (partRefusal false n b 11) (earlier (partRefusal false n b 20) (descriptor 0)))) ≡ cond (areZero b 2 56) x 1
   alone x h = rw tail2 (last x (areZero b 2 56) h)
@@ -336,10 +340,10 @@ module _ (proxy : Bool) (n : Counts) (b : List ℕ) where
     unfolding isPartAt
     by-object h = by-code 4 _ h (alone (objectRefusal n (byteAt b 1)) in-object)
 
-    pub object-code : (c ≡ 4) ⊎ (c ≡ 14) → cond (areZero b 2 56) (objectRefusal n (byteAt b 1)) 1 ≡ stepRefusal proxy n b
+    pub object-code : (c ≡ 4) ⊎ ((c ≡ 14) ⊎ (c ≡ 17)) → cond (areZero b 2 56) (objectRefusal n (byteAt b 1)) 1 ≡ stepRefusal proxy n b
     object-code h = by-object (object-codes c h)
 
-    pub object-range-code : ((c ≡ 1) ⊎ (c ≡ 16) → ⊥) → (c ≡ 2 → ⊥) → (c ≡ 3 → ⊥) → (c ≡ 5 → ⊥) → ((c ≡ 4) ⊎ (c ≡ 14) → ⊥) → 1 ≤ c → c < 8
+    pub object-range-code : ((c ≡ 1) ⊎ (c ≡ 16) → ⊥) → (c ≡ 2 → ⊥) → (c ≡ 3 → ⊥) → (c ≡ 5 → ⊥) → ((c ≡ 4) ⊎ ((c ≡ 14) ⊎ (c ≡ 17)) → ⊥) → 1 ≤ c → c < 8
         → cond (areZero b 2 56) (objectRefusal n (byteAt b 1)) 1 ≡ stepRefusal proxy n b
     object-range-code n1 n2 n3 n5 n4 h k = by-object (object-range c n1 n2 n3 n5 n4 h k)
 
@@ -347,8 +351,8 @@ module _ (proxy : Bool) (n : Counts) (b : List ℕ) where
     unfolding isPartAt
     revoking-code h =
         by-code 3 _ (same-code c 3 refl h)
-        (alone (first true (ltb (byteAt b 1) (n .objects)) proxy) (in-first true (ltb (byteAt b 1) (n .objects)) proxy)
-        ∙ sym (rw (pull (cond proxy 4 3) (objectRefusal n (byteAt b 1)) (areZero b 2 56) (in-proxy proxy), revoked proxy (ltb (byteAt b 1) (n .objects)))))
+        (alone (first true (bit (n .live) (byteAt b 1)) proxy) (in-first true (bit (n .live) (byteAt b 1)) proxy)
+        ∙ sym (rw (pull (cond proxy 4 3) (objectRefusal n (byteAt b 1)) (areZero b 2 56) (in-proxy proxy), revoked proxy (bit (n .live) (byteAt b 1)))))
 
     pub creation-code : (c ≡ 1) ⊎ (c ≡ 16) → cond (areZero b 2 9 && areZero b 20 38) (earlier (cond (ltb (byteAt b 1) 1) 4 1) (prototypeRefusal n b)) 1 ≡ stepRefusal proxy n b
     unfolding isPartAt valueOf isFormed isMade isKnown
@@ -362,12 +366,12 @@ module _ (proxy : Bool) (n : Counts) (b : List ℕ) where
     proxy-code h =
         rw (unmarked (bit (n .callable) (byteAt b 1)))
         (by-code 2 _ (same-code c 2 refl h)
-        (with-value (first true (ltb (byteAt b 1) (n .objects)) (not (bit (n .callable) (byteAt b 1)) && true)) (boundedRefusal 2047 n b)
-        (in-first true (ltb (byteAt b 1) (n .objects)) (not (bit (n .callable) (byteAt b 1)) && true)) (in-bounded 2047)))
+        (with-value (first true (bit (n .live) (byteAt b 1)) (not (bit (n .callable) (byteAt b 1)) && true)) (boundedRefusal 2047 n b)
+        (in-first true (bit (n .live) (byteAt b 1)) (not (bit (n .callable) (byteAt b 1)) && true)) (in-bounded 2047)))
 
-    pub level-code : 18 ≤ c → c < 20 → cond (areZero b 2 9 && areZero b 20 38) (earlier (objectRefusal n (byteAt b 1)) (boundedRefusal 1 n b)) 1 ≡ stepRefusal proxy n b
+    pub level-code : ((c ≡ 1) ⊎ (c ≡ 16) → ⊥) → ((c ≡ 4) ⊎ ((c ≡ 14) ⊎ (c ≡ 17)) → ⊥) → 16 ≤ c → c < 20 → cond (areZero b 2 9 && areZero b 20 38) (earlier (objectRefusal n (byteAt b 1)) (boundedRefusal 1 n b)) 1 ≡ stepRefusal proxy n b
     unfolding isPartAt
-    level-code h k = by-code 18 _ (level-codes c h k) (with-value (objectRefusal n (byteAt b 1)) (boundedRefusal 1 n b) in-object (in-bounded 1))
+    level-code n1 n4 h k = by-code 18 _ (level-codes c n1 n4 h k) (with-value (objectRefusal n (byteAt b 1)) (boundedRefusal 1 n b) in-object (in-bounded 1))
 
     pub prototype-code : c ≡ 5 → cond (areZero b 2 9 && areZero b 20 38) (earlier (objectRefusal n (byteAt b 1)) (prototypeRefusal n b)) 1 ≡ stepRefusal proxy n b
     unfolding isPartAt

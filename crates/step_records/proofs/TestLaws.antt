@@ -1,13 +1,13 @@
 -- The tests of a call's records in their order, and what the code counts for them. Assumes nothing.
 use Prim.Native.Nat.{ℕ, _<_, _≤_}
 use native.Mathlib.Omega.{arith}
-use mathlib.Core.Path.{_≡_, refl}
-use mathlib.Core.Bool.{Bool, true, false, cond, _&&_}
+use mathlib.Core.Path.{_≡_, refl, _∙_}
+use mathlib.Core.Bool.{Bool, true, false, cond, not, _&&_}
 use mathlib.Core.Option.{Option, none, some}
 use mathlib.Core.List.{List}
 use lib.Dec.{eqb, ltb}
 use lib.ListN.{length}
-use borrow.Author.Tests.{ne-eqb, lt-ltb, le-ltb}
+use borrow.Author.Tests.{eq-eqb, ne-eqb}
 use Rattle.text.specs.declared.StringCount.{StringCount}
 use Rattle.text.specs.declared.StringCount.the-variants.{Count, Malformed}
 use Rattle.text.specs.Table.{isTable, stringsOf}
@@ -20,13 +20,15 @@ use Rattle.store.specs.Store.{World, lookup}
 use Rattle.store_read.specs.declared.ObjectFound.{ObjectFound}
 use Rattle.store_read.specs.declared.ObjectFound.the-variants.{Missing, Made}
 use Rattle.store_read.specs.Answers.{objectFound}
+use Rattle.record.specs.declared.Refusal.{Refusal}
 use Rattle.record.specs.declared.Refusal.the-variants.{Failed}
 use Rattle.record.specs.Bytes.{byteAt}
 use Rattle.record.specs.Descriptor.{descriptorAt}
-use Rattle.record.specs.Step.{unless, stepOf, isStep, areKindsUsable}
+use Rattle.store.specs.Release.{isNamed}
+use Rattle.record.specs.Step.{releases, unless, stepOf, isStep, areObjectsMade, areKindsUsable}
 use Rattle.record.specs.Tests.{Counts, isDescriptor, failing, firstFailing, refusal}
 use Rattle.steps.specs.Step.{countsOf, isProxy, recordTests}
-use Rattle.step_records.specs.Refusals.{first, refusalOf, stepRefusal, sheetRefusal}
+use Rattle.step_records.specs.Refusals.{first, refusalOf, stepRefusal, sheetRefusal, releaseRefusal}
 
 -- the object found, by its kind
 
@@ -58,7 +60,7 @@ uncounted cells r h e f =
     omega arith
 
 abbrev countsBy : ℕ → ℕ → ℕ → Counts
-countsBy a b c = record { objects = a; strings = b; callable = c }
+countsBy a b c = record { live = a; strings = b; callable = c }
 
 pub same-counts : (a b c i j k : ℕ) → a ≡ i → b ≡ j → c ≡ k → countsBy a b c ≡ countsBy i j k
 same-counts a b c i j k p q r = rw (p, q, r)
@@ -75,6 +77,32 @@ by-four : (d : Bool) (later : Option ℕ) → refusal (failing d 4 later) ≡ co
 by-four true later = refl
 by-four false later = refl
 
+by-named : (d : Bool) (later : Option ℕ) → refusal (failing (not d) 14 later) ≡ cond d (Failed 14) (refusal later)
+by-named true later = refl
+by-named false later = refl
+
+-- the step's refusal and 14 as one number
+by-release : (a b c u : Bool) (later : Refusal) → cond (ltb (first a b c) 4) (Failed (first a b c)) (cond u (Failed 14) later)
+    ≡ cond (eqb (releaseRefusal u (first a b c)) 4) later (Failed (releaseRefusal u (first a b c)))
+by-release false b c true later = refl
+by-release false b c false later = refl
+by-release true false c true later = refl
+by-release true false c false later = refl
+by-release true true false true later = refl
+by-release true true false false later = refl
+by-release true true true true later = refl
+by-release true true true false later = refl
+
+-- 14 comes only of a step that passes
+pub not-passed : (u : Bool) (n : ℕ) → (n ≡ 4 → ⊥) → n ≡ releaseRefusal u n
+not-passed true n h = rw (ne-eqb n 4 h)
+not-passed false n h = refl
+
+-- a step that releases has an object that is not named
+unless-named : (u x : Bool) → unless u (not x) ≡ not (u && x)
+unless-named true x = refl
+unless-named false x = refl
+
 -- only a step that revokes asks whether its object is a proxy
 unless-both : (u x : Bool) → unless u (u && x) ≡ unless u x
 unless-both true x = refl
@@ -84,27 +112,37 @@ module _ (ω : World) (bytes sheet : List ℕ) where
   abbrev revoked : Bool
   revoked = eqb (byteAt bytes 0) 3 && isProxy (lookup (ω .store) (byteAt bytes 1))
 
+  abbrev namedRelease : Bool
+  namedRelease = releases (byteAt bytes 0) && isNamed (ω .store) (byteAt bytes 1)
+
   -- what the tests give, by the number of the step and the number of the sheet
-  all-tests : refusal (firstFailing (recordTests ω bytes sheet))
+  by-tests : refusal (firstFailing (recordTests ω bytes sheet))
       ≡ cond (ltb (stepRefusal revoked (countsOf ω) bytes) 4) (Failed (stepRefusal revoked (countsOf ω) bytes))
-      (cond (isDescriptor (descriptorAt bytes 29)) (refusalOf (sheetRefusal (countsOf ω) sheet)) (Failed 4))
+      (cond namedRelease (Failed 14) (cond (isDescriptor (descriptorAt bytes 29)) (refusalOf (sheetRefusal (countsOf ω) sheet)) (Failed 4)))
   unfolding firstFailing stepOf areKindsUsable
-  all-tests = rw (unless-both (eqb (byteAt bytes 0) 3) _, by-number, by-four, by-number)
+  by-tests = rw (unless-both (eqb (byteAt bytes 0) 3) _, unless-named (releases (byteAt bytes 0)) (isNamed (ω .store) (byteAt bytes 1)), by-number, by-named, by-four, by-number)
+
+  all-tests : refusal (firstFailing (recordTests ω bytes sheet))
+      ≡ cond (eqb (releaseRefusal namedRelease (stepRefusal revoked (countsOf ω) bytes)) 4)
+      (cond (isDescriptor (descriptorAt bytes 29)) (refusalOf (sheetRefusal (countsOf ω) sheet)) (Failed 4))
+      (Failed (releaseRefusal namedRelease (stepRefusal revoked (countsOf ω) bytes)))
+  all-tests = by-tests ∙ by-release (isStep bytes) (areObjectsMade (countsOf ω) (stepOf bytes)) (areKindsUsable revoked (countsOf ω) (stepOf bytes)) namedRelease (cond (isDescriptor (descriptorAt bytes 29)) (refusalOf (sheetRefusal (countsOf ω) sheet)) (Failed 4))
 
   pub no-length : (length bytes ≡ 58 → ⊥) → Failed 1 ≡ refusal (firstFailing (recordTests ω bytes sheet))
   unfolding firstFailing isStep
   no-length h = rw (ne-eqb _ _ h)
 
   -- what the code counted, and its number of the step
-  module _ (n : Counts) (r : ℕ) (p : n ≡ countsOf ω) (e : r ≡ stepRefusal revoked n bytes) where
-    of-step : r ≡ stepRefusal revoked (countsOf ω) bytes
+  module _ (n : Counts) (r : ℕ) (p : n ≡ countsOf ω) (e : r ≡ releaseRefusal namedRelease (stepRefusal revoked n bytes)) where
+    of-step : r ≡ releaseRefusal namedRelease (stepRefusal revoked (countsOf ω) bytes)
     of-step = rw p at e
 
-    pub step-fails : r < 4 → Failed r ≡ refusal (firstFailing (recordTests ω bytes sheet))
-    step-fails h = rw (all-tests, ← of-step, lt-ltb r 4 h)
+    pub step-fails : (r ≡ 4 → ⊥) → Failed r ≡ refusal (firstFailing (recordTests ω bytes sheet))
+    step-fails h = rw (all-tests, ← of-step, ne-eqb r 4 h)
 
-    pub descriptor-fails : 4 ≤ r → isDescriptor (descriptorAt bytes 29) ≡ false → Failed 4 ≡ refusal (firstFailing (recordTests ω bytes sheet))
-    descriptor-fails h d = rw (all-tests, ← of-step, le-ltb r 4 h, d)
+    module _ (h : r ≡ 4) where
+      pub descriptor-fails : isDescriptor (descriptorAt bytes 29) ≡ false → Failed 4 ≡ refusal (firstFailing (recordTests ω bytes sheet))
+      descriptor-fails d = rw (all-tests, ← of-step, eq-eqb r 4 h, d)
 
-    pub step-passes : 4 ≤ r → isDescriptor (descriptorAt bytes 29) ≡ true → refusalOf (sheetRefusal n sheet) ≡ refusal (firstFailing (recordTests ω bytes sheet))
-    step-passes h d = rw (all-tests, ← of-step, le-ltb r 4 h, d, p)
+      pub step-passes : isDescriptor (descriptorAt bytes 29) ≡ true → refusalOf (sheetRefusal n sheet) ≡ refusal (firstFailing (recordTests ω bytes sheet))
+      step-passes d = rw (all-tests, ← of-step, eq-eqb r 4 h, d, p)

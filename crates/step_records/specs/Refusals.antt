@@ -33,7 +33,7 @@ valueRefusal n kind payload = first (isFormed kind payload) (isMade n (valueOf k
 
 -- an object, or where it is to be callable a function
 abbrev pub namedRefusal : Counts → ℕ → Bool → ℕ
-namedRefusal n object callable = first true (ltb object (n .objects)) (Bool·beq (bit (n .callable) object) callable)
+namedRefusal n object callable = first true (bit (n .live) object) (Bool·beq (bit (n .callable) object) callable)
 
 -- a part that is not used is zero
 abbrev pub partRefusal : Bool → Counts → List ℕ → ℕ → ℕ
@@ -41,7 +41,7 @@ partRefusal used n bytes i = first (isPartAt used bytes i) (isMade n (valueAt by
 
 -- a step's object
 abbrev pub objectRefusal : Counts → ℕ → ℕ
-objectRefusal n object = first true (ltb object (n .objects)) true
+objectRefusal n object = first true (bit (n .live) object) true
 
 -- a step's key, prototype and number, with the kinds that they may have
 abbrev pub keyRefusal : Counts → List ℕ → ℕ
@@ -70,6 +70,10 @@ answerRefusal n bytes i = first (isBodyAt bytes i) (answerPasses (isMade n) (ans
 
 abbrev pub stepRefusal : Bool → Counts → List ℕ → ℕ
 stepRefusal proxy n bytes = first (isStep bytes) (areObjectsMade n (stepOf bytes)) (areKindsUsable proxy n (stepOf bytes))
+
+-- of a step that passes, 14 where it releases an object that is named
+abbrev pub releaseRefusal : Bool → ℕ → ℕ
+releaseRefusal named n = cond (named && eqb n 4) 14 n
 
 abbrev pub sheetRefusal : Counts → List ℕ → ℕ
 sheetRefusal n sheet = first (isSheet sheet) (sheetPasses (isMade n) (sheetOf sheet)) (sheetPasses (isKnown n) (sheetOf sheet))

@@ -32,7 +32,12 @@ pub fn are_zero_from(bytes: &[u8], at: usize) -> bool
 fn object_refusal(n: Counts, object: u64) -> u64
     ensures { λ r. ⌜ r ≡ objectRefusal n object ⌝ }
 {
-    number_refusal(object, n.objects, 2)
+    if object < 64 {
+        if bits::bit(n.live, object) {
+            return 4;
+        }
+    }
+    2
 }
 
 // A string or a symbol.
@@ -76,7 +81,7 @@ fn bounded_refusal(most: u64, n: Counts, bytes: &[u8]) -> u64
     earlier(3, value_refusals::value_refusal(n, w))
 }
 
-// Codes 4, 6, 7 and 14: an object alone.
+// Codes 4, 6, 7, 14 and 17: an object alone.
 fn object_step(n: Counts, object: u64, bytes: &[u8]) -> u64
     requires { ⌜ length (now bytes) ≡ 58 ⌝ }
     ensures { λ r. ⌜ r ≡ cond (areZero (now (bytes .entry)) 2 56) (objectRefusal n object) 1 ⌝ }
@@ -233,7 +238,7 @@ pub fn step_refusal(proxy: bool, n: Counts, bytes: &[u8]) -> u64
         2 => proxy_step(n, object, bytes),
         3 => revoking_step(proxy, n, object, bytes),
         5 => prototype_step(n, object, bytes),
-        4 | 6 | 7 | 14 => object_step(n, object, bytes),
+        4 | 6 | 7 | 14 | 17 => object_step(n, object, bytes),
         8 | 10 | 13 => key_step(n, object, bytes),
         9 => definition_step(n, object, bytes),
         11 => get_step(n, object, bytes),

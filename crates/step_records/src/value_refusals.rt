@@ -31,14 +31,15 @@ pub fn number_refusal(payload: u64, limit: u64, n: u64) -> u64
 pub fn named_refusal(n: Counts, payload: u64, callable: bool) -> u64
     ensures { λ r. ⌜ r ≡ namedRefusal n payload callable ⌝ }
 {
-    if payload >= n.objects {
-        return 2;
+    if payload < 64 {
+        if bits::bit(n.live, payload) {
+            if bits::bit(n.callable, payload) == callable {
+                return 4;
+            }
+            return 3;
+        }
     }
-    if bits::bit(n.callable, payload) == callable {
-        4
-    } else {
-        3
-    }
+    2
 }
 
 pub fn value_refusal(n: Counts, w: Words) -> u64

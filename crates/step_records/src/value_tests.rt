@@ -9,7 +9,7 @@ use value_operations::bits;
 ghost use mathlib.Core.Path.{_≡_};
 ghost use Rattle.record.specs.Tests.{isMade, isKnown, asks, fieldPasses, descriptorPasses, isDescriptor};
 
-// 2: the object or function was made.
+// 2: the object or function is live.
 fn is_made(n: Counts, v: Value) -> bool
     ensures { λ r. ⌜ r ≡ isMade n v ⌝ }
 {
@@ -21,8 +21,8 @@ fn is_made(n: Counts, v: Value) -> bool
         Value::Float64(_) => true,
         Value::String(_) => true,
         Value::Symbol(_) => true,
-        Value::Object(o) => o < n.objects,
-        Value::Function(f) => f < n.objects,
+        Value::Object(o) => bits::bit(n.live, o),
+        Value::Function(f) => bits::bit(n.live, f),
     }
 }
 

@@ -10,7 +10,7 @@ use Rattle.internal_methods.specs.Methods.{Context}
 use Rattle.internal_methods.specs.Internal.{methods}
 use Rattle.internal_methods.proofs.Ensures.{Ensures, ensures-all, ensures-weaken}
 use Rattle.internal_methods.proofs.Base.{Shut}
-use Rattle.internal_methods.proofs.Later.{Grows, grows-trans, shut-lasts}
+use Rattle.internal_methods.proofs.Later.{Remains, remains-trans, held-remains, shut-lasts}
 use Rattle.internal_methods.proofs.Reports.{preventExtensions-report, defineOwnProperty-report}
 use Rattle.internal_methods.proofs.Room.{isSeven, Alike, methods-roomy}
 use Rattle.internal_methods.proofs.NonExtensible.{Fitting, fits-itself, preventExtensions-fits, defineOwnProperty-fits}
@@ -25,17 +25,17 @@ module _ (n : ℕ) (c : Context) (o : ℕ) where
 
   -- the store lasts through all of it, and from [[PreventExtensions]] on the object is non-extensible
   module _ (σ₀ : Store) where
-    grown : Integral (λ σ. methods n (over c σ)) o (Grows σ₀) (λ σ. Grows σ₀ σ × Shut σ o) (λ f τ. Grows σ₀ τ)
+    grown : Integral (λ σ. methods n (over c σ)) o (Remains σ₀) (λ σ. Remains σ₀ σ × Shut σ o) (λ f τ. Remains σ₀ τ)
     grown = record {
-      prevents = λ σ g. meets-ensured (ensures-weaken (preventExtensions-report n (over c σ) o) (λ w h. (λ t. (grows-trans g (h .grows), h .says t), λ _. grows-trans g (h .grows)))) (λ _. g);
+      prevents = λ σ g. meets-ensured (ensures-weaken (preventExtensions-report n (over c σ) o) (λ w h. (λ t. (remains-trans g (h .remains), h .says t), λ _. remains-trans g (h .remains)))) (λ _. g);
       lists = λ σ i. meets-ensured (ensures-all _ (λ _. tt)) (λ _. i .0);
       tells = λ σ i k. meets-ensured (ensures-all _ (λ _. tt)) (λ _. i .0);
-      defines = λ σ i k d. meets-ensured (ensures-weaken (defineOwnProperty-report n (over c σ) o k d) (λ w h. (grows-trans (i .0) (h .grows), shut-lasts (h .grows) (i .1)))) (λ _. i .0);
+      defines = λ σ i k d. meets-ensured (ensures-weaken (defineOwnProperty-report n (over c σ) o k d) (λ w h. (remains-trans (i .0) (h .remains), shut-lasts (held-remains (h .remains)) (i .1)))) (λ _. i .0);
       rejects = λ σ i. i .0;
     }
 
-    pub integrity-grows : (level : Level) → Leads (Grows σ₀) (setIntegrityLevel (λ σ. methods n (over c σ)) o level) (λ b τ. (b ≡ true → Grows σ₀ τ × Shut τ o) × (b ≡ false → Grows σ₀ τ)) (λ f τ. Grows σ₀ τ)
-    integrity-grows level = set-leads grown level
+    pub integrity-remains : (level : Level) → Leads (Remains σ₀) (setIntegrityLevel (λ σ. methods n (over c σ)) o level) (λ b τ. (b ≡ true → Remains σ₀ τ × Shut τ o) × (b ≡ false → Remains σ₀ τ)) (λ f τ. Remains σ₀ τ)
+    integrity-remains level = set-leads grown level
 
   -- Chains of prototypes still end --------------------------------------------------------------
 
@@ -70,7 +70,7 @@ module _ (n : ℕ) (c : Context) (o : ℕ) where
       prevents = λ σ p. fitting (preventExtensions-fits n (over c σ) o) (preventExtensions-report n (over c σ) o) (λ w q h. (λ t. (le-trans q p, h .says t), λ _. le-trans q p));
       lists = λ σ i. fitting {R = λ _. Unit {0}} (fits-itself (methods-roomy n (over c σ) .ownPropertyKeys o tt)) (ensures-all _ (λ _. tt)) (λ _ _ _. tt);
       tells = λ σ i k. fitting {R = λ _. Unit {0}} (fits-itself (methods-roomy n (over c σ) .getOwnProperty o k tt)) (ensures-all _ (λ _. tt)) (λ _ _ _. tt);
-      defines = λ σ i k d. fitting (defineOwnProperty-fits n (over c σ) o k d (i .1)) (defineOwnProperty-report n (over c σ) o k d) (λ w q h. (le-trans q (i .0), shut-lasts (h .grows) (i .1)));
+      defines = λ σ i k d. fitting (defineOwnProperty-fits n (over c σ) o k d (i .1)) (defineOwnProperty-report n (over c σ) o k d) (λ w q h. (le-trans q (i .0), shut-lasts (held-remains (h .remains)) (i .1)));
       rejects = λ σ i. refl;
     }
 

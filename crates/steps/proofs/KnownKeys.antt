@@ -26,9 +26,9 @@ use Rattle.internal_methods.specs.Methods.{Context, Written}
 use Rattle.internal_methods.specs.Internal.{methods}
 use Rattle.internal_methods.proofs.Ensures.{Ensures, ensures-pure, ensures-fails, ensures-bind, ensures-if, ensures-then, ensures-all, ensures-both, ensures-weaken}
 use Rattle.internal_methods.proofs.Base.{Shut}
-use Rattle.internal_methods.proofs.Later.{shut-lasts}
+use Rattle.internal_methods.proofs.Later.{held-remains, shut-lasts}
 use Rattle.internal_methods.proofs.Reports.{preventExtensions-report, defineOwnProperty-report}
-use Rattle.internal_methods.proofs.AddedKeys.{OwnKeys, addable-key, addable-shut, keys-put, keys-add, setPrototypeOf-keys, preventExtensions-keys, defineOwnProperty-keys, set-keys, delete-keys}
+use Rattle.internal_methods.proofs.AddedKeys.{OwnKeys, addable-key, addable-shut, keys-put, keys-add, keys-released, setPrototypeOf-keys, preventExtensions-keys, defineOwnProperty-keys, set-keys, delete-keys}
 use Rattle.record.specs.declared.Step.{Step}
 use Rattle.record.specs.Tests.{isKnown, firstFailing}
 use Rattle.record.specs.Step.{stepOf, stepPasses, areKindsUsable}
@@ -91,7 +91,7 @@ module _ {P : PropertyKey → Type 0} (n : ℕ) (c : Context) (h : OwnKeys P (c 
     prevents = λ σ p. meets-ensured (ensures-weaken (ensures-both (preventExtensions-keys (over c σ) p n o) (preventExtensions-report n (over c σ) o)) (λ w q. (λ t. (q .0, q .1 .says t), λ _. q .0))) (λ _. p);
     lists = λ σ i. meets-ensured (ensures-all _ (λ _. tt)) (λ _. i .0);
     tells = λ σ i k. meets-ensured (ensures-all _ (λ _. tt)) (λ _. i .0);
-    defines = λ σ i k d. meets-ensured (ensures-weaken (ensures-both (defineOwnProperty-keys (over c σ) (i .0) n o k d (addable-shut k (i .1))) (defineOwnProperty-report n (over c σ) o k d)) (λ w q. (q .0, shut-lasts (q .1 .grows) (i .1)))) (λ _. i .0);
+    defines = λ σ i k d. meets-ensured (ensures-weaken (ensures-both (defineOwnProperty-keys (over c σ) (i .0) n o k d (addable-shut k (i .1))) (defineOwnProperty-report n (over c σ) o k d)) (λ w q. (q .0, shut-lasts (held-remains (q .1 .remains)) (i .1)))) (λ _. i .0);
     rejects = λ σ i. i .0;
   }
 
@@ -128,8 +128,9 @@ module _ {P : PropertyKey → Type 0} (n : ℕ) (c : Context) (h : OwnKeys P (c 
       (either Kept (eqb (asks .code) 13) (writes _ (delete-keys c h n o k))
       (either Kept (eqb (asks .code) 14) (reads keys _)
       (either Kept (eqb (asks .code) 16) (makes _ _)
+      (either Kept (eqb (asks .code) 17) (once-keys _ (ensures-pure _ (keys-released (c .store) o h)))
       (either Kept (eqb (asks .code) 18) (sets o _)
-      (reads boolean _))))))))))))))))
+      (reads boolean _)))))))))))))))))
 
 -- Calls ---------------------------------------------------------------------------------
 

@@ -12,19 +12,20 @@ use Rattle.property.specs.declared.PropertyDescriptor.{PropertyDescriptor}
 use Rattle.property.specs.declared.OwnProperty.the-variants.{Absent, Present}
 use Rattle.store.specs.declared.Object.{Object}
 use Rattle.store.specs.declared.Object.the-variants.{Ordinary, Proxy}
-use Rattle.store.specs.Store.{Store, lookup, put, add, named, maximumObjects}
+use Rattle.store.specs.Store.{Store, lookup, put, add, nextNumber, liveCount, named, maximumObjects}
+use Rattle.store.proofs.ReleaseLaws.{released-fewer}
 use Rattle.internal_methods.specs.declared.Failure.{Failure}
 use Rattle.internal_methods.specs.declared.Failure.the-variants.{Refused, TypeError}
 use Rattle.internal_methods.specs.Monad.{State, Out, M, pure, fails, next, _>>=_, if_then_else_}
 use Rattle.internal_methods.specs.Methods.{Context, Methods, Written}
 use Rattle.internal_methods.specs.Ordinary.{isFull}
 use Rattle.internal_methods.specs.Internal.{methods}
-use Rattle.internal_methods.proofs.Walk.{Any, allowing, MethodsBy}
+use Rattle.internal_methods.proofs.Walk.{Any, any-descriptor, allowing, MethodsBy}
 use Rattle.internal_methods.proofs.Longer.{Longer, longer-pure, longer-fails, longer-bind, methods-longer}
 use Rattle.internal_methods.proofs.Reader.{Reader, reader-pure, reader-fails, reader-bind, methods-reader}
 use Rattle.internal_methods.proofs.Richer.{Richer, richer-pure, richer-fails, richer-bind, methods-richer}
 use Rattle.internal_methods.proofs.Room.{isSeven, oneMore, Alike, Same, Room, Roomy, same-pure, same-bind, methods-roomy}
-use Rattle.steps.specs.Operation.{Level, sealed, frozen, Operation, makeObject, makeProxy, revoke, getPrototypeOf, setPrototypeOf, isExtensible, preventExtensions, getOwnProperty, defineOwnProperty, hasProperty, get, set, delete, ownPropertyKeys, makeFunction, setIntegrityLevel, testIntegrityLevel, makesObject, writesInTurn}
+use Rattle.steps.specs.Operation.{Level, sealed, frozen, Operation, makeObject, makeProxy, revoke, getPrototypeOf, setPrototypeOf, isExtensible, preventExtensions, getOwnProperty, defineOwnProperty, hasProperty, get, set, delete, ownPropertyKeys, makeFunction, release, setIntegrityLevel, testIntegrityLevel, makesObject, writesInTurn}
 use Rattle.steps.specs.Sequence.{Ran, Sequence, written, reads, writes, throwIf, forEach}
 use Rattle.steps.specs.Sequence as sequence
 use Rattle.steps.specs.SetIntegrityLevel.{definePropertyOrThrow, freezeProperty, turn}
@@ -78,7 +79,7 @@ module _ {J : (A : Type 0) → M A → M A → Type 0} (law : Rules J) where
   module _ (call call′ : Store → Methods) (o : ℕ) (h : (σ : Store) → MethodsBy (λ A Q m m′. J A m m′) (λ m m′. J Written m m′) Any Any (λ _ _. Any) (call σ) (call′ σ)) where
     define-turns : (k : PropertyKey) (d : PropertyDescriptor) → Turns (definePropertyOrThrow call o k d) (definePropertyOrThrow call′ o k d)
     unfolding definePropertyOrThrow
-    define-turns k d = turns-bind (turns-writes (λ σ. h σ .defineOwnProperty o k d tt)) (λ success. turns-throwIf 32 (not success))
+    define-turns k d = turns-bind (turns-writes (λ σ. h σ .defineOwnProperty o k d tt (any-descriptor d))) (λ success. turns-throwIf 32 (not success))
 
     turn-turns : (level : Level) (k : PropertyKey) → Turns (turn call o level k) (turn call′ o level k)
     unfolding turn freezeProperty
@@ -140,13 +141,14 @@ module _ {J : (A : Type 0) → M A → M A → Type 0} (law : Rules J) (c : Cont
   perform-by (isExtensible o) = reads-by _ (h (c .store) .isExtensible o tt)
   perform-by (preventExtensions o) = writes-by (h (c .store) .preventExtensions o tt)
   perform-by (getOwnProperty o k) = reads-by _ (h (c .store) .getOwnProperty o k tt)
-  perform-by (defineOwnProperty o k d) = writes-by (h (c .store) .defineOwnProperty o k d tt)
+  perform-by (defineOwnProperty o k d) = writes-by (h (c .store) .defineOwnProperty o k d tt (any-descriptor d))
   perform-by (hasProperty o k) = reads-by _ (h (c .store) .hasProperty o k tt)
   perform-by (get o k receiver) = reads-by _ (h (c .store) .get o k receiver tt)
-  perform-by (set o k v receiver) = writes-by (h (c .store) .set o k v receiver tt tt)
+  perform-by (set o k v receiver) = writes-by (h (c .store) .set o k v receiver tt tt tt)
   perform-by (delete o k) = writes-by (h (c .store) .delete o k tt)
   perform-by (ownPropertyKeys o) = reads-by _ (h (c .store) .ownPropertyKeys o tt)
   perform-by (makeFunction v) = makes _ _
+  perform-by (release o) = once-by (law .gives _)
   perform-by (setIntegrityLevel o level) = along law (settled-inTurn (c .store) _) (settled-inTurn (c .store) _)
       (turns-bind law (set-turns law (λ σ. methods n (over c σ)) (λ σ. methods l (over c σ)) o h level) (λ b. turns-pure law (boolean b)) .over (c .store))
   perform-by (testIntegrityLevel o level) = reads-by _ (test-by o level)
@@ -222,13 +224,14 @@ module _ (c : Context) (n : ℕ) where
   perform-room (isExtensible o) e w s = reads-room _ (methods-roomy n c .isExtensible o tt) s
   perform-room (preventExtensions o) e w s = writes-room (methods-roomy n c .preventExtensions o tt) s
   perform-room (getOwnProperty o k) e w s = reads-room _ (methods-roomy n c .getOwnProperty o k tt) s
-  perform-room (defineOwnProperty o k d) e w s = writes-room (methods-roomy n c .defineOwnProperty o k d tt) s
+  perform-room (defineOwnProperty o k d) e w s = writes-room (methods-roomy n c .defineOwnProperty o k d tt (any-descriptor d)) s
   perform-room (hasProperty o k) e w s = reads-room _ (methods-roomy n c .hasProperty o k tt) s
   perform-room (get o k receiver) e w s = reads-room _ (methods-roomy n c .get o k receiver tt) s
-  perform-room (set o k v receiver) e w s = writes-room (methods-roomy n c .set o k v receiver tt tt) s
+  perform-room (set o k v receiver) e w s = writes-room (methods-roomy n c .set o k v receiver tt tt tt) s
   perform-room (delete o k) e w s = writes-room (methods-roomy n c .delete o k tt) s
   perform-room (ownPropertyKeys o) e w s = reads-room _ (methods-roomy n c .ownPropertyKeys o tt) s
   perform-room (makeFunction v) e w s = absurd (false≢true (sym e))
+  perform-room (release o) e w s = done (λ _. released-fewer (c .store) o)
   perform-room (setIntegrityLevel o level) e w s = absurd (false≢true (sym w))
   perform-room (testIntegrityLevel o level) e w s = reads-room _ (test-same o level) s
 
@@ -251,6 +254,7 @@ module _ (c : Context) (n : ℕ) where
   perform-fits (delete o k) e s = absurd (false≢true e)
   perform-fits (ownPropertyKeys o) e s = absurd (false≢true e)
   perform-fits (makeFunction v) e s = absurd (false≢true e)
+  perform-fits (release o) e s = absurd (false≢true e)
   perform-fits (setIntegrityLevel o level) e s = leads-bind (integrity-fits n c o (c .store) level) (λ b. leads-pure (boolean b) (λ σ q. by σ b q)) .from (c .store) (le-refl _) s
     where
       by : (τ : Store) (b : Bool) {P : Type 0} → (b ≡ true → (length (τ .properties) ≤ length (c .store .properties)) × P) × (b ≡ false → length (τ .properties) ≤ length (c .store .properties)) → length (τ .properties) ≤ length (c .store .properties)
@@ -260,15 +264,15 @@ module _ (c : Context) (n : ℕ) where
 
   -- an object that is made, under any allowance
   pub data MakesOut (s : State) : Ran Result → Type 0 where
-    made : (x : Object) (b : Bool) → ltb (length (c .store .objects)) maximumObjects ≡ true → MakesOut s (Out.done (value (named b (length (c .store .objects)))) s, add (c .store) x b)
-    crowded : ltb (length (c .store .objects)) maximumObjects ≡ false → MakesOut s (Out.failed (Refused 7) s, c .store)
+    made : (x : Object) (b : Bool) → ltb (liveCount (c .store)) maximumObjects ≡ true → MakesOut s (Out.done (value (named b (nextNumber (c .store)))) s, add (c .store) x b)
+    crowded : ltb (liveCount (c .store)) maximumObjects ≡ false → MakesOut s (Out.failed (Refused 7) s, c .store)
 
   make-out : (x : Object) (b : Bool) (s : State) → MakesOut s (once (c .store) (make (c .store) x b) .run s)
   unfolding once make if_then_else_ pure fails
-  make-out x b s = go (ltb (length (c .store .objects)) maximumObjects) refl
+  make-out x b s = go (ltb (liveCount (c .store)) maximumObjects) refl
     where
-      go : (room : Bool) → ltb (length (c .store .objects)) maximumObjects ≡ room
-          → MakesOut s (written (c .store) (if_then_else_ room (pure (value (named b (length (c .store .objects))), add (c .store) x b)) (fails (Refused 7)) .run s))
+      go : (room : Bool) → ltb (liveCount (c .store)) maximumObjects ≡ room
+          → MakesOut s (written (c .store) (if_then_else_ room (pure (value (named b (nextNumber (c .store))), add (c .store) x b)) (fails (Refused 7)) .run s))
       go true e = made x b e
       go false e = crowded e
 
@@ -289,5 +293,6 @@ module _ (c : Context) (n : ℕ) where
   perform-makes a (delete o k) e s = absurd (false≢true e)
   perform-makes a (ownPropertyKeys o) e s = absurd (false≢true e)
   perform-makes a (makeFunction v) e s = make-out _ _ s
+  perform-makes a (release o) e s = absurd (false≢true e)
   perform-makes a (setIntegrityLevel o level) e s = absurd (false≢true e)
   perform-makes a (testIntegrityLevel o level) e s = absurd (false≢true e)

@@ -1,35 +1,42 @@
--- A step whose records passed their tests names only objects that are made. Assumes nothing.
-use Prim.Native.Nat.{ℕ, zero, suc, _<_}
-use native.Mathlib.Nat.{not-suc-le-zero, le-of-suc-le-suc}
-use mathlib.Core.Path.{_≡_, refl, sym, subst}
-use mathlib.Core.Bool.{Bool, true, false, not, false≢true}
-use mathlib.Core.Option.{none, some}
-use mathlib.Core.List.{List, [], _∷_, _++_}
-use lib.Dec.{eqb, ltb}
-use lib.ListN.{length, getElem?}
-use borrow.Author.Tests.{ltb-true, eqb-true}
+-- A step whose records passed their tests names only objects that are live, and releases none that is named. Assumes nothing.
+use Prim.Native.Nat.{ℕ}
+use mathlib.Core.Path.{_≡_, refl, sym, ap, _∙_, subst}
+use mathlib.Core.Bool.{Bool, true, false, not, _||_, cond, false≢true}
+use mathlib.Core.Option.{Option, none, some}
+use mathlib.Core.List.{List, [], _∷_}
+use lib.Dec.{eqb}
+use lib.ListN.{length}
+use borrow.Author.Tests.{eqb-true, not-true}
 use Rattle.value.specs.declared.Value.{Value}
 use Rattle.value.specs.declared.Value.the-variants as value
 use Rattle.value.specs.PropertyKey.{keyOf}
 use Rattle.value.specs.Words.{pick}
+use Rattle.value.specs.Bits.{bit}
 use Rattle.value.proofs.Bools.{and-true}
+use Rattle.property.specs.declared.Field.{Field}
+use Rattle.property.specs.declared.Field.the-variants as Field
+use Rattle.property.specs.declared.DescriptorObject.{DescriptorObject}
+use Rattle.property.specs.declared.DescriptorKind.the-variants as kind
+use Rattle.property.specs.Fields.{has, hasFlag}
 use Rattle.property.specs.Descriptor.{toPropertyDescriptor}
+use Rattle.property.proofs.ValueLaws.{FieldBy}
 use Rattle.store.specs.declared.Object.{Object}
-use Rattle.store.specs.Store.{Store, World, lookup, add}
-use Rattle.store.proofs.StoreLaws.{lookup-add, found-below}
+use Rattle.store.specs.Store.{Store, World, lookup, isLive}
+use Rattle.store.specs.Release.{isNamed}
+use Rattle.store.proofs.StoreLaws.{live-mark}
 use Rattle.internal_methods.specs.Monad.{Answer}
-use Rattle.internal_methods.proofs.StoreClosed.{Made, MadeValue, MadeObject, Closed, closed-object, closed-after}
+use Rattle.internal_methods.proofs.StoreClosed.{Made, MadeValue, MadeDescriptor, value-kept}
 use Rattle.internal_methods.proofs.Budget.{MadeAnswer, MadeAnswers, nil, cons}
 use Rattle.record.specs.declared.Step.{Step}
 use Rattle.record.specs.Bytes.{byteAt}
-use Rattle.record.specs.Tests.{isMade, failing, firstFailing}
-use Rattle.record.specs.Step.{stepOf, makesOrdinary, usesObject, stepPasses, areObjectsMade, unless}
+use Rattle.record.specs.Tests.{isMade, fieldPasses, descriptorPasses, failing, firstFailing}
+use Rattle.record.specs.Step.{stepOf, makesOrdinary, releases, usesObject, stepPasses, areObjectsMade, isReleasable, unless}
 use Rattle.record.specs.Sheet.{sheetOf, answerPasses, sheetPasses}
 use Rattle.record.proofs.SheetLength.{sheet-length}
-use Rattle.steps.specs.Operation.{Operation, makeObject, makeProxy, revoke, getPrototypeOf, setPrototypeOf, isExtensible, preventExtensions, getOwnProperty, defineOwnProperty, hasProperty, get, set, delete, ownPropertyKeys, makeFunction, setIntegrityLevel, testIntegrityLevel, keyOrFirst, byCode, operationOf, asked}
+use Rattle.steps.specs.Operation.{Operation, makeObject, makeProxy, revoke, getPrototypeOf, setPrototypeOf, isExtensible, preventExtensions, getOwnProperty, defineOwnProperty, hasProperty, get, set, delete, ownPropertyKeys, makeFunction, release, setIntegrityLevel, testIntegrityLevel, keyOrFirst, byCode, operationOf, asked}
 use Rattle.steps.specs.Step.{countsOf, recordTests}
 
--- the objects that an operation names are made
+-- the objects that an operation names are live
 abbrev pub MadeOperation : Store → Operation → Type 0
 MadeOperation σ (makeObject v) = MadeValue σ v
 MadeOperation σ (makeProxy o traps) = Made σ o
@@ -39,24 +46,24 @@ MadeOperation σ (setPrototypeOf o v) = Made σ o × MadeValue σ v
 MadeOperation σ (isExtensible o) = Made σ o
 MadeOperation σ (preventExtensions o) = Made σ o
 MadeOperation σ (getOwnProperty o k) = Made σ o
-MadeOperation σ (defineOwnProperty o k d) = Made σ o
+MadeOperation σ (defineOwnProperty o k d) = Made σ o × MadeDescriptor σ d
 MadeOperation σ (hasProperty o k) = Made σ o
 MadeOperation σ (get o k receiver) = Made σ o
-MadeOperation σ (set o k v receiver) = Made σ o × MadeValue σ receiver
+MadeOperation σ (set o k v receiver) = Made σ o × MadeValue σ v × MadeValue σ receiver
 MadeOperation σ (delete o k) = Made σ o
 MadeOperation σ (ownPropertyKeys o) = Made σ o
 MadeOperation σ (makeFunction v) = MadeValue σ v
+MadeOperation σ (release o) = Made σ o × (isNamed σ o ≡ false)
 MadeOperation σ (setIntegrityLevel o level) = Made σ o
 MadeOperation σ (testIntegrityLevel o level) = Made σ o
 
-pub element-below : {A : Type 0} (l : List A) (i : ℕ) → i < length l → (x : A) × (getElem? l i ≡ some x)
-element-below [] i h = absurd (not-suc-le-zero h)
-element-below (x ∷ l) zero h = (x, refl)
-element-below (x ∷ l) (suc i) h = element-below l i (le-of-suc-le-suc h)
-
-object-made : (ω : World) (o : ℕ) → ltb o (countsOf ω .objects) ≡ true → Made (ω .store) o
+object-made : (ω : World) (o : ℕ) → bit (countsOf ω .live) o ≡ true → Made (ω .store) o
 unfolding lookup
-object-made ω o h = element-below (ω .store .objects) o (ltb-true o _ h)
+object-made ω o h = go (lookup (ω .store) o) refl
+  where
+    go : (x : Option Object) → lookup (ω .store) o ≡ x → Made (ω .store) o
+    go none e = absurd (false≢true (sym (live-mark (ω .store .objects) o ∙ ap isLive e) ∙ h))
+    go (some x) e = (x, e)
 
 value-made : (ω : World) (v : Value) → isMade (countsOf ω) v ≡ true → MadeValue (ω .store) v
 unfolding isMade
@@ -81,6 +88,27 @@ unfolding sheetPasses
 answers-made ω [] h = nil
 answers-made ω (a ∷ l) h = let (p, q) = and-true (answerPasses (isMade (countsOf ω)) a) _ h in cons (answer-made ω a p) (answers-made ω l q)
 
+-- the values of a descriptor
+descriptor-made : (ω : World) (d : DescriptorObject) → descriptorPasses (isMade (countsOf ω)) d ≡ true → MadeDescriptor (ω .store) (toPropertyDescriptor d)
+unfolding toPropertyDescriptor
+descriptor-made ω d h =
+    let (v, rest) = and-true (fieldPasses (isMade (countsOf ω)) (d .value)) _ h in
+    let (g, s) = and-true (fieldPasses (isMade (countsOf ω)) (d .get)) _ rest in
+    go (has (d .get) || has (d .set)) (has (d .value) || hasFlag (d .writable)) (field (d .value) v) (field (d .get) g) (field (d .set) s)
+  where
+    field : (f : Field) → fieldPasses (isMade (countsOf ω)) f ≡ true → FieldBy (MadeValue (ω .store)) f
+    field Field.Absent h v e = absurd (false≢true cc)
+    field (Field.Present u) h v e = let q : u ≡ v = cc in subst (MadeValue (ω .store)) q (value-made ω u h)
+
+    none-there : FieldBy (MadeValue (ω .store)) Field.Absent
+    none-there v e = absurd (false≢true cc)
+
+    go : (a b : Bool) → FieldBy (MadeValue (ω .store)) (d .value) → FieldBy (MadeValue (ω .store)) (d .get) → FieldBy (MadeValue (ω .store)) (d .set)
+        → MadeDescriptor (ω .store) (record { enumerable = d .enumerable; configurable = d .configurable; kind = cond a (kind.Accessor (d .get) (d .set)) (cond b (kind.Data (d .value) (d .writable)) kind.Generic) })
+    go true b v g s = record { value = none-there; get = g; set = s }
+    go false true v g s = record { value = v; get = none-there; set = none-there }
+    go false false v g s = record { value = none-there; get = none-there; set = none-there }
+
 by-pick : {A : Type 0} (P : A → Type 0) (b : Bool) {x y : A} → (b ≡ true → P x) → (b ≡ false → P y) → P (pick b x y)
 by-pick P true f g = f refl
 by-pick P false f g = g refl
@@ -92,10 +120,10 @@ by-cases : (b : Bool) {C : Type 0} → (b ≡ true → C) → (b ≡ false → C
 by-cases true f g = f refl
 by-cases false f g = g refl
 
-operation-made : (ω : World) (s : Step) → areObjectsMade (countsOf ω) s ≡ true → MadeOperation (ω .store) (operationOf s)
+operation-made : (ω : World) (s : Step) → areObjectsMade (countsOf ω) s ≡ true → isReleasable (isNamed (ω .store) (s .object)) s ≡ true → MadeOperation (ω .store) (operationOf s)
 unfolding areObjectsMade operationOf
-operation-made ω s h =
-    let (named, passes) = and-true (unless (usesObject (s .code)) (ltb (s .object) (countsOf ω .objects))) (stepPasses (isMade (countsOf ω)) s) h in
+operation-made ω s h u =
+    let (named, passes) = and-true (unless (usesObject (s .code)) (bit (countsOf ω .live) (s .object))) (stepPasses (isMade (countsOf ω)) s) h in
     let (k, rest) = and-true (isMade (countsOf ω) (s .key)) _ passes in
     let (v, more) = and-true (isMade (countsOf ω) (s .value)) _ rest in
     let (r, d) = and-true (isMade (countsOf ω) (s .receiver)) _ more in
@@ -112,16 +140,21 @@ operation-made ω s h =
     (either P (eqb (s .code) 6) o
     (either P (eqb (s .code) 7) o
     (either P (eqb (s .code) 8) o
-    (either P (eqb (s .code) 9) o
+    (either P (eqb (s .code) 9) (o, descriptor-made ω (s .descriptor) d)
     (either P (eqb (s .code) 10) o
     (either P (eqb (s .code) 11) o
-    (either P (eqb (s .code) 12) (o, value-made ω (s .receiver) r)
+    (either P (eqb (s .code) 12) (o, value-made ω (s .value) v, value-made ω (s .receiver) r)
     (either P (eqb (s .code) 13) o
     (either P (eqb (s .code) 14) o
     (either P (eqb (s .code) 16) (value-made ω (s .value) v)
-    (either P (eqb (s .code) 18) o o))))))))))))))))
+    (by-pick P (eqb (s .code) 17) (λ c. (o, unnamed (releases (s .code)) c u))
+    (λ _. either P (eqb (s .code) 18) o o)))))))))))))))))
   where
-    used : (b : Bool) → b ≡ false → unless (not b) (ltb (s .object) (countsOf ω .objects)) ≡ true → ltb (s .object) (countsOf ω .objects) ≡ true
+    unnamed : (b : Bool) → b ≡ true → unless b (not (isNamed (ω .store) (s .object))) ≡ true → isNamed (ω .store) (s .object) ≡ false
+    unnamed true e f = not-true (isNamed (ω .store) (s .object)) f
+    unnamed false e f = absurd (false≢true e)
+
+    used : (b : Bool) → b ≡ false → unless (not b) (bit (countsOf ω .live) (s .object)) ≡ true → bit (countsOf ω .live) (s .object) ≡ true
     used true e f = absurd (false≢true (sym e))
     used false e f = f
 
@@ -145,10 +178,11 @@ names-made ω bytes sheet h =
     let (_, h₁) = passed _ _ _ h in
     let (objects, h₂) = passed _ _ _ h₁ in
     let (_, h₃) = passed _ _ _ h₂ in
-    let (_, h₄) = passed _ _ _ h₃ in
+    let (releasable, h₄) = passed _ _ _ h₃ in
     let (_, h₅) = passed _ _ _ h₄ in
-    let (answers, h₆) = passed _ _ _ h₅ in
-    record { operation = operation-made ω (stepOf bytes) objects; answers = answers-made ω (sheetOf sheet) answers }
+    let (_, h₆) = passed _ _ _ h₅ in
+    let (answers, h₇) = passed _ _ _ h₆ in
+    record { operation = operation-made ω (stepOf bytes) objects releasable; answers = answers-made ω (sheetOf sheet) answers }
 
 -- and the sheet has as many answers as its first byte says
 pub sheet-counted : (ω : World) (bytes sheet : List ℕ) → firstFailing (recordTests ω bytes sheet) ≡ none → length (sheetOf sheet) ≡ byteAt sheet 0
@@ -157,35 +191,19 @@ sheet-counted ω bytes sheet h =
     let (_, h₂) = passed _ _ _ h₁ in
     let (_, h₃) = passed _ _ _ h₂ in
     let (_, h₄) = passed _ _ _ h₃ in
-    let (formed, h₅) = passed _ _ _ h₄ in
+    let (_, h₅) = passed _ _ _ h₄ in
+    let (formed, h₆) = passed _ _ _ h₅ in
     sheet-length sheet formed
 
--- As many objects --------------------------------------------------------------------
+-- Later stores ----------------------------------------------------------------------
 
--- what was made is made in a store with as many objects
-pub made-kept : (σ τ : Store) → length (τ .objects) ≡ length (σ .objects) → (o : ℕ) → Made σ o → Made τ o
-unfolding lookup
-made-kept σ τ e o (x, f) = element-below (τ .objects) o (subst (λ (n : ℕ). o < n) (sym e) (found-below (σ .objects) o x f))
-
-pub answers-kept : (σ τ : Store) → length (τ .objects) ≡ length (σ .objects) → {l : List Answer} → MadeAnswers σ l → MadeAnswers τ l
-answers-kept σ τ e nil = nil
-answers-kept σ τ e (cons {a} m ms) = cons (answer-kept a m) (answers-kept σ τ e ms)
+-- answers name live objects still
+pub answers-kept : (σ τ : Store) → ((o : ℕ) → Made σ o → Made τ o) → {l : List Answer} → MadeAnswers σ l → MadeAnswers τ l
+answers-kept σ τ keeps nil = nil
+answers-kept σ τ keeps (cons {a} m ms) = cons (answer-kept a m) (answers-kept σ τ keeps ms)
   where
     answer-kept : (a : Answer) → MadeAnswer σ a → MadeAnswer τ a
-    answer-kept (Answer.value v) m = record { made = λ o f. made-kept σ τ e o (m .made o f) }
+    answer-kept (Answer.value v) m = value-kept keeps m
     answer-kept (Answer.descriptor d) m = tt
     answer-kept (Answer.keys ks) m = tt
     answer-kept (Answer.throw v) m = tt
-
--- A new object ------------------------------------------------------------------------
-
-append-cases : {A C : Type 0} (l : List A) (x : A) (i : ℕ) (y : A) → getElem? (l ++ (x ∷ [])) i ≡ some y → (x ≡ y → C) → (getElem? l i ≡ some y → C) → C
-append-cases [] x zero y e f g = f cc
-append-cases [] x (suc i) y e f g = absurd (false≢true cc)
-append-cases (z ∷ l) x zero y e f g = g e
-append-cases (z ∷ l) x (suc i) y e f g = append-cases l x i y e f g
-
-pub closed-add : (σ : Store) (x : Object) (b : Bool) → Closed σ → MadeObject σ x → Closed (add σ x b)
-unfolding lookup add
-closed-add σ x b h m = closed-after (λ o n. (n .0, lookup-add σ x b o (n .0) (n .1))) λ o y e.
-    append-cases (σ .objects) x o y e (λ q. subst (MadeObject σ) q m) (λ f. closed-object h o y f)

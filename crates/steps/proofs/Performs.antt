@@ -1,43 +1,46 @@
 -- How the run of an operation can end, that it leaves no object unmade behind, and that its depth does not matter. Assumes nothing.
-use Prim.Native.Nat.{ℕ, _≤_}
+use Prim.Native.Nat.{ℕ, _≤_, _<_}
 use native.Mathlib.Nat.{le-refl, le-trans}
 use mathlib.Core.Path.{_≡_, refl, sym, ap, _∙_, subst}
-use mathlib.Core.Bool.{Bool, true, false, not, false≢true}
+use mathlib.Core.Bool.{Bool, true, false, not, false≢true, true≢false}
 use mathlib.Core.Option.{Option, none, some}
 use mathlib.Core.List.{List, [], _∷_}
 use lib.Dec.{ltb}
-use lib.ListN.{length}
+use borrow.Author.Tests.{ltb-true}
 use Rattle.value.specs.declared.PropertyKey.{PropertyKey}
 use Rattle.property.specs.declared.PropertyDescriptor.{PropertyDescriptor}
+use Rattle.property.specs.declared.Property.{Property}
+use Rattle.property.specs.declared.Property.the-variants.{Data, Accessor}
 use Rattle.property.specs.declared.OwnProperty.the-variants.{Absent, Present}
 use Rattle.store.specs.declared.Object.{Object}
 use Rattle.store.specs.declared.Object.the-variants.{Ordinary, Proxy}
-use Rattle.store.specs.Store.{Store, lookup, add, named, maximumObjects}
+use Rattle.store.specs.Store.{Store, lookup, add, nextNumber, liveCount, named, maximumObjects}
+use Rattle.store.proofs.StoreLaws.{Fresh}
 use Rattle.internal_methods.specs.declared.Failure.{Failure}
 use Rattle.internal_methods.specs.declared.Failure.the-variants.{Refused, TypeError}
 use Rattle.internal_methods.specs.Monad.{State, Out, M, pure, fails, if_then_else_}
 use Rattle.internal_methods.specs.Methods.{Context, Methods, Written}
 use Rattle.internal_methods.specs.Internal.{methods}
 use Rattle.internal_methods.proofs.Walk.{Any}
-use Rattle.internal_methods.proofs.StoreClosed.{Made, MadeObject, Closed, closed-put, closed-object}
-use Rattle.internal_methods.proofs.Budget.{MadeAnswers, Met, Agree, Steady, KeptBy, steady-pure, steady-bind, steady-above, ends-alike, ends-failed, ends-done}
-use Rattle.steps.specs.Operation.{Level, sealed, frozen, Operation, makeObject, makeProxy, revoke, getPrototypeOf, setPrototypeOf, isExtensible, preventExtensions, getOwnProperty, defineOwnProperty, hasProperty, get, set, delete, ownPropertyKeys, makeFunction, setIntegrityLevel, testIntegrityLevel}
+use Rattle.internal_methods.proofs.StoreClosed.{Made, MadeObject, MadeDescriptor, Closed, closed-put, closed-add, closed-released}
+use Rattle.internal_methods.proofs.Budget.{MadeAnswers, Met, Agree, Steady, KeptBy, steady-pure, steady-weaken, steady-bind, steady-above, ends-alike, ends-failed, ends-done}
+use Rattle.steps.specs.Operation.{Level, sealed, frozen, Operation, makeObject, makeProxy, revoke, getPrototypeOf, setPrototypeOf, isExtensible, preventExtensions, getOwnProperty, defineOwnProperty, hasProperty, get, set, delete, ownPropertyKeys, makeFunction, release, setIntegrityLevel, testIntegrityLevel}
 use Rattle.steps.specs.Sequence.{Ran, Sequence, written, throwIf, forEach, giving}
 use Rattle.steps.specs.Sequence as sequence
-use Rattle.steps.specs.SetIntegrityLevel.{definePropertyOrThrow, freezeProperty, turn}
+use Rattle.steps.specs.SetIntegrityLevel.{sealedDescriptor, frozenDescriptor, definePropertyOrThrow, freezeProperty, turn}
 use Rattle.steps.specs.SetIntegrityLevel
 use Rattle.steps.specs.TestIntegrityLevel.{isLoose, testProperties}
 use Rattle.steps.specs.TestIntegrityLevel
 use Rattle.steps.specs.Perform.{Result, value, keys, ownResult, boolean, Run, once, inTurn, reading, writing, make, revoked, over, perform}
-use Rattle.steps.proofs.Made.{MadeOperation, made-kept, answers-kept, closed-add}
+use Rattle.steps.proofs.Made.{MadeOperation, answers-kept}
 
 -- what making an object gives
 abbrev added : Store → Object → Bool → Result × Store
-added σ x b = (value (named b (length (σ .objects))), add σ x b)
+added σ x b = (value (named b (nextNumber σ)), add σ x b)
 
 -- how an operation can fail: there are 32 objects, as a method can over a store on the way, or as a definition that is rejected
 pub data Fails (c : Context) : Failure → State → Type 0 where
-  crowded : {t : State} → ltb (length (c .store .objects)) maximumObjects ≡ false → Fails c (Refused 7) t
+  crowded : {t : State} → ltb (liveCount (c .store)) maximumObjects ≡ false → Fails c (Refused 7) t
   method : {f : Failure} {t : State} (τ : Store) → Met (over c τ) f t → Fails c f t
   rejected : {t : State} → Fails c (TypeError 32) t
 
@@ -106,7 +109,7 @@ module _ {c : Context} {n o : ℕ} where
   steady-sequence-writes f = record { runs = λ σ h m s le ms. go σ s h m (f σ h m .runs s le ms) }
     where
       go : (σ : Store) (s : State) → Closed σ → Made σ o → {x y : Out Written} → Agree (over c σ) s (KeptBy (over c σ)) x y → AgreeRan c o s (written σ x) (written σ y)
-      go σ s h m (Agree.done {a} q le ms) = done (q .closed) (made-kept σ (a .1) (q .size) o m) le (answers-kept σ (a .1) (q .size) ms)
+      go σ s h m (Agree.done {a} q le ms) = done (q .closed) (q .keeps o m) le (answers-kept σ (a .1) (q .keeps) ms)
       go σ s h m (Agree.failed e) = failed h (method σ e)
 
   steady-sequence-bind : {A B : Type 0} {m m′ : Sequence A} {k k′ : A → Sequence B} → SteadySequence c n o m m′ → ((a : A) → SteadySequence c n o (k a) (k′ a)) → SteadySequence c n o (sequence._>>=_ m k) (sequence._>>=_ m′ k′)
@@ -129,16 +132,24 @@ module _ (c : Context) (n o d d′ : ℕ) (i : n ≤ d) (i′ : n ≤ d′) wher
   abbrev call′ : Store → Methods
   call′ σ = methods d′ (over c σ)
 
-  define-steady : (k : PropertyKey) (p : PropertyDescriptor) → SteadySequence c n o (definePropertyOrThrow call o k p) (definePropertyOrThrow call′ o k p)
+  define-steady : (k : PropertyKey) (p : PropertyDescriptor) → ((σ : Store) → MadeDescriptor σ p) → SteadySequence c n o (definePropertyOrThrow call o k p) (definePropertyOrThrow call′ o k p)
   unfolding definePropertyOrThrow
-  define-steady k p = steady-sequence-bind (steady-sequence-writes (λ σ h m. steady-above n d d′ i i′ (over c σ) h .defineOwnProperty o k p m)) (λ b. steady-sequence-throwIf (not b))
+  define-steady k p made = steady-sequence-bind (steady-sequence-writes (λ σ h m. steady-above n d d′ i i′ (over c σ) h .defineOwnProperty o k p m (made σ))) (λ b. steady-sequence-throwIf (not b))
+
+  -- their descriptors have no value
+  sealing : (σ : Store) → MadeDescriptor σ sealedDescriptor
+  sealing σ = record { value = λ v e. absurd (false≢true cc); get = λ v e. absurd (false≢true cc); set = λ v e. absurd (false≢true cc) }
+
+  freezing : (p : Property) (σ : Store) → MadeDescriptor σ (frozenDescriptor p)
+  freezing (Accessor g s e c) σ = sealing σ
+  freezing (Data v w e c) σ = record { value = λ v e. absurd (false≢true cc); get = λ v e. absurd (false≢true cc); set = λ v e. absurd (false≢true cc) }
 
   turn-steady : (level : Level) (k : PropertyKey) → SteadySequence c n o (turn call o level k) (turn call′ o level k)
   unfolding turn freezeProperty
-  turn-steady sealed k = define-steady k _
-  turn-steady frozen k = steady-sequence-bind (steady-sequence-reads (λ σ h m. steady-above n d d′ i i′ (over c σ) h .getOwnProperty o k m)) (elim [
+  turn-steady sealed k = define-steady k _ sealing
+  turn-steady frozen k = steady-sequence-bind (steady-sequence-reads {Q = Any} (λ σ h m. steady-weaken (λ _ _. tt) (steady-above n d d′ i i′ (over c σ) h .getOwnProperty o k m))) (elim [
     | Absent ↦ steady-sequence-pure tt
-    | Present p ↦ define-steady k _
+    | Present p ↦ define-steady k _ (freezing p)
   ])
 
   turns-steady : (level : Level) (ks : List PropertyKey) → SteadySequence c n o (forEach (turn call o level) ks) (forEach (turn call′ o level) ks)
@@ -155,7 +166,7 @@ module _ (c : Context) (n o d d′ : ℕ) (i : n ≤ d) (i′ : n ≤ d′) wher
 
 -- Operations -----------------------------------------------------------------------------------
 
-module _ (c : Context) (n : ℕ) (closed : Closed (c .store)) where
+module _ (c : Context) (n : ℕ) (closed : Closed (c .store)) (fresh : liveCount (c .store) < maximumObjects → Fresh (c .store)) where
   -- an operation that runs a method
   by-method : (asks : Operation) (m : ℕ → M (Result × Store)) → ((d : ℕ) → perform d c asks ≡ once (c .store) (m d))
       → ((d d′ : ℕ) → n ≤ d → n ≤ d′ → Steady c n (m d) (m d′) (λ a. Closed (a .1))) → Performs c n asks
@@ -179,23 +190,23 @@ module _ (c : Context) (n : ℕ) (closed : Closed (c .store)) where
   unfolding once make if_then_else_ pure fails
   making asks x b m is = record {
     alike = λ d d′ i i′ s le ms. ap (λ (r : Run). r .run s) (is d ∙ sym (is d′));
-    fails = λ s t f le ms e. failing (ltb (length (c .store .objects)) maximumObjects) refl s t f (ap (λ (r : Run). r .run s .0) (sym (is n)) ∙ e);
-    closes = λ s le ms. subst (λ (r : Run). Closed (r .run s .1)) (sym (is n)) (closing (ltb (length (c .store .objects)) maximumObjects) s);
+    fails = λ s t f le ms e. failing (ltb (liveCount (c .store)) maximumObjects) refl s t f (ap (λ (r : Run). r .run s .0) (sym (is n)) ∙ e);
+    closes = λ s le ms. subst (λ (r : Run). Closed (r .run s .1)) (sym (is n)) (closing (ltb (liveCount (c .store)) maximumObjects) refl s);
   }
     where
-      failing : (room : Bool) → ltb (length (c .store .objects)) maximumObjects ≡ room → (s t : State) (f : Failure)
+      failing : (room : Bool) → ltb (liveCount (c .store)) maximumObjects ≡ room → (s t : State) (f : Failure)
           → written (c .store) ((if_then_else_ room (pure (added (c .store) x b)) (fails (Refused 7))) .run s) .0 ≡ Out.failed f t → Fails c f t
       failing true q s t f e = absurd (false≢true cc)
       failing false q s t f e = let g : Refused 7 ≡ f = cc in subst (λ (y : Failure). Fails c y t) g (crowded q)
 
-      closing : (room : Bool) (s : State) → Closed (written (c .store) ((if_then_else_ room (pure (added (c .store) x b)) (fails (Refused 7))) .run s) .1)
-      closing true s = closed-add (c .store) x b closed m
-      closing false s = closed
+      closing : (room : Bool) → ltb (liveCount (c .store)) maximumObjects ≡ room → (s : State) → Closed (written (c .store) ((if_then_else_ room (pure (added (c .store) x b)) (fails (Refused 7))) .run s) .1)
+      closing true q s = closed-add (c .store) (fresh (ltb-true _ _ q)) x b closed m
+      closing false q s = closed
 
   revoked-closed : (o : ℕ) (x : Option Object) → lookup (c .store) o ≡ x → Closed (revoked (c .store) o x)
   revoked-closed o none e = closed
   revoked-closed o (some (Ordinary r)) e = closed
-  revoked-closed o (some (Proxy p)) e = closed-put (c .store) o _ closed (closed-object closed o (Proxy p) e)
+  revoked-closed o (some (Proxy p)) e = closed-put (c .store) o _ closed (λ h. absurd (true≢false h))
 
   -- 7.3.16
   steady-if : {m m′ k k′ : M Bool} (b : Bool) → Steady c n m m′ Any → Steady c n k k′ Any → Steady c n (if_then_else_ b m k) (if_then_else_ b m′ k′) Any
@@ -229,19 +240,20 @@ module _ (c : Context) (n : ℕ) (closed : Closed (c .store)) where
   pub performs : (asks : Operation) → MadeOperation (c .store) asks → Performs c n asks
   unfolding perform
   performs (makeObject v) m = making (makeObject v) _ _ m (λ d. refl)
-  performs (makeProxy o traps) m = making (makeProxy o traps) _ _ m (λ d. refl)
+  performs (makeProxy o traps) m = making (makeProxy o traps) _ _ (λ _. m) (λ d. refl)
   performs (revoke o) m = by-method (revoke o) _ (λ d. refl) (λ d d′ i i′. steady-pure _ (revoked-closed o (lookup (c .store) o) refl))
   performs (getPrototypeOf o) m = by-method (getPrototypeOf o) _ (λ d. refl) (λ d d′ i i′. reads value (steady-above n d d′ i i′ c closed .getPrototypeOf o m))
   performs (setPrototypeOf o v) m = by-method (setPrototypeOf o v) _ (λ d. refl) (λ d d′ i i′. writes (steady-above n d d′ i i′ c closed .setPrototypeOf o v (m .0) (m .1)))
   performs (isExtensible o) m = by-method (isExtensible o) _ (λ d. refl) (λ d d′ i i′. reads boolean (steady-above n d d′ i i′ c closed .isExtensible o m))
   performs (preventExtensions o) m = by-method (preventExtensions o) _ (λ d. refl) (λ d d′ i i′. writes (steady-above n d d′ i i′ c closed .preventExtensions o m))
   performs (getOwnProperty o k) m = by-method (getOwnProperty o k) _ (λ d. refl) (λ d d′ i i′. reads ownResult (steady-above n d d′ i i′ c closed .getOwnProperty o k m))
-  performs (defineOwnProperty o k p) m = by-method (defineOwnProperty o k p) _ (λ d. refl) (λ d d′ i i′. writes (steady-above n d d′ i i′ c closed .defineOwnProperty o k p m))
+  performs (defineOwnProperty o k p) m = by-method (defineOwnProperty o k p) _ (λ d. refl) (λ d d′ i i′. writes (steady-above n d d′ i i′ c closed .defineOwnProperty o k p (m .0) (m .1)))
   performs (hasProperty o k) m = by-method (hasProperty o k) _ (λ d. refl) (λ d d′ i i′. reads boolean (steady-above n d d′ i i′ c closed .hasProperty o k m))
   performs (get o k receiver) m = by-method (get o k receiver) _ (λ d. refl) (λ d d′ i i′. reads value (steady-above n d d′ i i′ c closed .get o k receiver m))
-  performs (set o k v receiver) m = by-method (set o k v receiver) _ (λ d. refl) (λ d d′ i i′. writes (steady-above n d d′ i i′ c closed .set o k v receiver (m .0) (m .1)))
+  performs (set o k v receiver) m = by-method (set o k v receiver) _ (λ d. refl) (λ d d′ i i′. writes (steady-above n d d′ i i′ c closed .set o k v receiver (m .0) (m .1) (m .2)))
   performs (delete o k) m = by-method (delete o k) _ (λ d. refl) (λ d d′ i i′. writes (steady-above n d d′ i i′ c closed .delete o k m))
   performs (ownPropertyKeys o) m = by-method (ownPropertyKeys o) _ (λ d. refl) (λ d d′ i i′. reads keys (steady-above n d d′ i i′ c closed .ownPropertyKeys o m))
   performs (makeFunction v) m = making (makeFunction v) _ _ m (λ d. refl)
+  performs (release o) m = by-method (release o) _ (λ d. refl) (λ d d′ i i′. steady-pure _ (closed-released (c .store) o closed (m .1)))
   performs (setIntegrityLevel o level) m = setting o m level
   performs (testIntegrityLevel o level) m = by-method (testIntegrityLevel o level) _ (λ d. refl) (λ d d′ i i′. reads boolean (test-steady o m level d d′ i i′))

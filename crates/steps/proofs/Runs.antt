@@ -8,7 +8,7 @@ use mathlib.Core.List.{List, _∷_, _++_}
 use lib.ListN.{length}
 use borrow.Author.Tests.{ltb-false, le-ltb, not-true}
 use Rattle.value.specs.declared.Value.{Value}
-use Rattle.store.specs.Store.{Store, World, named, maximumObjects, maximumProperties}
+use Rattle.store.specs.Store.{Store, World, liveCount, named, maximumObjects, maximumProperties}
 use Rattle.internal_methods.specs.declared.Failure.{Failure}
 use Rattle.internal_methods.specs.declared.Failure.the-variants.{Refused, Thrown}
 use Rattle.internal_methods.specs.Monad.{Answer, throw, State, state, Out, failed, done}
@@ -28,7 +28,7 @@ use Rattle.steps.proofs.Sequences.{joined, settled, Led}
 
 -- 7: an object is to be made and there are 32, or with room for one property more the run is done
 pub data Crowded (ω : World) (bytes sheet : List ℕ) : Type 0 where
-  by-objects : makesObject (asked bytes) ≡ true → maximumObjects ≤ length (ω .store .objects) → Crowded ω bytes sheet
+  by-objects : makesObject (asked bytes) ≡ true → maximumObjects ≤ liveCount (ω .store) → Crowded ω bytes sheet
   by-properties : {τ : Store} {s : State} → maximumProperties ≤ length (ω .store .properties)
       → runWith ω bytes (suc (length (ω .store .properties))) (sheetOf sheet) maximumCalls ≡ (done (boolean true) s, τ)
       → length (τ .properties) ≡ suc (length (ω .store .properties)) → Crowded ω bytes sheet
@@ -54,7 +54,7 @@ module _ (ω : World) (bytes sheet : List ℕ) where
   abbrev from : State
   from = state (sheetOf sheet) maximumCalls
 
-  pub crowded-ran : makesObject (asked bytes) ≡ true → maximumObjects ≤ length (ω .store .objects) → ran ω bytes sheet .0 ≡ failed (Refused 7) from
+  pub crowded-ran : makesObject (asked bytes) ≡ true → maximumObjects ≤ liveCount (ω .store) → ran ω bytes sheet .0 ≡ failed (Refused 7) from
   unfolding ran
   crowded-ran m h = of-making (perform-makes (contextOf ω) maximumCalls maximumProperties (asked bytes) m from)
     where

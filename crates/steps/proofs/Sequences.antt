@@ -4,7 +4,6 @@ use mathlib.Core.Path.{_≡_, refl}
 use mathlib.Core.Bool.{Bool, true, false, not, false≢true, true≢false}
 use mathlib.Core.List.{List, [], _∷_}
 use Rattle.value.specs.declared.PropertyKey.{PropertyKey}
-use Rattle.property.specs.declared.OwnProperty.{OwnProperty}
 use Rattle.property.specs.declared.OwnProperty.the-variants.{Absent, Present}
 use Rattle.property.specs.declared.PropertyDescriptor.{PropertyDescriptor}
 use Rattle.store.specs.Store.{Store}
@@ -13,7 +12,7 @@ use Rattle.internal_methods.specs.declared.Failure.the-variants.{TypeError}
 use Rattle.internal_methods.specs.Monad.{State, Out, M, pure, fails, next, _>>=_}
 use Rattle.internal_methods.specs.Methods.{Context, Methods}
 use Rattle.internal_methods.proofs.Ensures.{Ensures}
-use Rattle.steps.specs.Operation.{Level, sealed, frozen, Operation, makeObject, makeProxy, revoke, getPrototypeOf, setPrototypeOf, isExtensible, preventExtensions, getOwnProperty, defineOwnProperty, hasProperty, get, set, delete, ownPropertyKeys, makeFunction, setIntegrityLevel, testIntegrityLevel}
+use Rattle.steps.specs.Operation.{Level, sealed, frozen, Operation, makeObject, makeProxy, revoke, getPrototypeOf, setPrototypeOf, isExtensible, preventExtensions, getOwnProperty, defineOwnProperty, hasProperty, get, set, delete, ownPropertyKeys, makeFunction, release, setIntegrityLevel, testIntegrityLevel}
 use Rattle.steps.specs.Sequence.{Ran, Sequence, written, reads, writes, throwIf, forEach}
 use Rattle.steps.specs.Sequence as sequence
 use Rattle.steps.specs.SetIntegrityLevel.{definePropertyOrThrow, freezeProperty, turn}
@@ -232,5 +231,6 @@ performs-once n c (set o k v receiver) s = Once.at-once (failure-leaves (c .stor
 performs-once n c (delete o k) s = Once.at-once (failure-leaves (c .store) _ s)
 performs-once n c (ownPropertyKeys o) s = Once.at-once (failure-leaves (c .store) _ s)
 performs-once n c (makeFunction v) s = Once.at-once (failure-leaves (c .store) _ s)
+performs-once n c (release o) s = Once.at-once (failure-leaves (c .store) _ s)
 performs-once n c (setIntegrityLevel o level) s = Once.by-turns refl
 performs-once n c (testIntegrityLevel o level) s = Once.at-once (failure-leaves (c .store) _ s)

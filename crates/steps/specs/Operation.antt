@@ -38,6 +38,7 @@ pub data Operation : Type 0 where
   delete : ℕ → PropertyKey → Operation
   ownPropertyKeys : ℕ → Operation
   makeFunction : Value → Operation
+  release : ℕ → Operation
   setIntegrityLevel : ℕ → Level → Operation
   testIntegrityLevel : ℕ → Level → Operation
 
@@ -58,6 +59,7 @@ makesObject (set o k v receiver) = false
 makesObject (delete o k) = false
 makesObject (ownPropertyKeys o) = false
 makesObject (makeFunction v) = true
+makesObject (release o) = false
 makesObject (setIntegrityLevel o level) = false
 makesObject (testIntegrityLevel o level) = false
 
@@ -78,6 +80,7 @@ writesInTurn (set o k v receiver) = false
 writesInTurn (delete o k) = false
 writesInTurn (ownPropertyKeys o) = false
 writesInTurn (makeFunction v) = false
+writesInTurn (release o) = false
 writesInTurn (setIntegrityLevel o level) = true
 writesInTurn (testIntegrityLevel o level) = false
 
@@ -123,8 +126,9 @@ byCode code o k v receiver d =
     (pick (eqb code 13) (delete o k)
     (pick (eqb code 14) (ownPropertyKeys o)
     (pick (eqb code 16) (makeFunction v)
+    (pick (eqb code 17) (release o)
     (pick (eqb code 18) (setIntegrityLevel o (levelOf v))
-    (testIntegrityLevel o (levelOf v)))))))))))))))))
+    (testIntegrityLevel o (levelOf v))))))))))))))))))
 
 unfoldable pub operationOf : Step → Operation
 operationOf s = byCode (s .code) (s .object) (keyOrFirst (keyOf (s .key))) (s .value) (s .receiver) (toPropertyDescriptor (s .descriptor))

@@ -4,7 +4,6 @@ use mathlib.Core.Bool.{Bool, true, false}
 use mathlib.Core.Option.{Option, none, some}
 use mathlib.Core.List.{List}
 use lib.Dec.{ltb}
-use lib.ListN.{length}
 use Rattle.value.specs.declared.Value.{Value}
 use Rattle.value.specs.declared.Value.the-variants as language
 use Rattle.value.specs.declared.PropertyKey.{PropertyKey}
@@ -13,12 +12,13 @@ use Rattle.property.specs.declared.OwnProperty.{OwnProperty}
 use Rattle.property.specs.declared.OwnProperty.the-variants.{Absent, Present}
 use Rattle.store.specs.declared.Object.{Object}
 use Rattle.store.specs.declared.Object.the-variants.{Ordinary, Proxy}
-use Rattle.store.specs.Store.{Store, lookup, put, add, named, maximumObjects}
+use Rattle.store.specs.Store.{Store, lookup, put, add, nextNumber, liveCount, named, maximumObjects}
+use Rattle.store.specs.Release
 use Rattle.internal_methods.specs.declared.Failure.the-variants.{Refused}
 use Rattle.internal_methods.specs.Monad.{State, M, pure, fails, _>>=_, _>>_, if_then_else_}
 use Rattle.internal_methods.specs.Methods.{Context, Written}
 use Rattle.internal_methods.specs.Internal.{methods}
-use Rattle.steps.specs.Operation.{Operation, makeObject, makeProxy, revoke, getPrototypeOf, setPrototypeOf, isExtensible, preventExtensions, getOwnProperty, defineOwnProperty, hasProperty, get, set, delete, ownPropertyKeys, makeFunction, setIntegrityLevel, testIntegrityLevel}
+use Rattle.steps.specs.Operation.{Operation, makeObject, makeProxy, revoke, getPrototypeOf, setPrototypeOf, isExtensible, preventExtensions, getOwnProperty, defineOwnProperty, hasProperty, get, set, delete, ownPropertyKeys, makeFunction, release, setIntegrityLevel, testIntegrityLevel}
 use Rattle.steps.specs.Sequence.{Ran, Sequence, written, giving}
 use Rattle.steps.specs.SetIntegrityLevel
 use Rattle.steps.specs.TestIntegrityLevel
@@ -63,7 +63,7 @@ writing m = m >>= λ a. pure (boolean (a .0), a .1)
 -- a new object has the next number, and is callable or not
 unfoldable pub make : Store → Object → Bool → M (Result × Store)
 make σ x b =
-    if ltb (length (σ .objects)) maximumObjects then pure (value (named b (length (σ .objects))), add σ x b)
+    if ltb (liveCount σ) maximumObjects then pure (value (named b (nextNumber σ)), add σ x b)
     else fails (Refused 7)
 
 abbrev pub revoked : Store → ℕ → Option Object → Store
@@ -92,6 +92,7 @@ perform depth c (set o k v receiver) = once (c .store) (writing (methods depth c
 perform depth c (delete o k) = once (c .store) (writing (methods depth c .delete o k))
 perform depth c (ownPropertyKeys o) = once (c .store) (reading (c .store) keys (methods depth c .ownPropertyKeys o))
 perform depth c (makeFunction v) = once (c .store) (make (c .store) (Ordinary (record { prototype = v; extensible = true })) true)
+perform depth c (release o) = once (c .store) (pure (boolean true, Release.release (c .store) o))
 perform depth c (setIntegrityLevel o level) =
     inTurn (c .store) (giving boolean (SetIntegrityLevel.setIntegrityLevel (λ σ. methods depth (over c σ)) o level))
 perform depth c (testIntegrityLevel o level) = once (c .store) (reading (c .store) boolean (TestIntegrityLevel.testIntegrityLevel (methods depth c) o level))

@@ -1,22 +1,22 @@
 -- A step over bytes: what is refused, what is run, and what world and output are after it. Assumes nothing.
 use Prim.Native.Nat.{ℕ, _-_, _*_}
-use mathlib.Core.Bool.{Bool, true, false, cond}
+use mathlib.Core.Bool.{Bool, true, false}
 use mathlib.Core.Option.{Option, none, some}
 use mathlib.Core.List.{List, [], _∷_, _++_}
 use lib.Dec.{leb}
 use lib.ListN.{length, drop}
-use Rattle.value.specs.declared.Value.{Value}
 use Rattle.value.specs.declared.PropertyKey.{PropertyKey}
 use Rattle.value.specs.PropertyKey.{keyValue}
 use Rattle.store.specs.declared.Object.{Object}
 use Rattle.store.specs.declared.Object.the-variants.{Ordinary, Proxy}
-use Rattle.store.specs.Store.{Store, World, lookup, maximumProperties}
+use Rattle.store.specs.Store.{Store, World, lookup, liveMarks, maximumProperties}
+use Rattle.store.specs.Release.{isNamed}
 use Rattle.internal_methods.specs.declared.Failure.the-variants.{Refused, TypeError, Thrown}
 use Rattle.internal_methods.specs.Monad.{Answer, State, state, Out, failed, done}
 use Rattle.internal_methods.specs.Methods.{Context}
 use Rattle.record.specs.Bytes.{valueSize, valueBytes}
 use Rattle.record.specs.Tests.{Counts, isMade, isKnown, isDescriptor, firstFailing}
-use Rattle.record.specs.Step.{stepOf, isStep, areObjectsMade, areKindsUsable}
+use Rattle.record.specs.Step.{stepOf, isStep, areObjectsMade, areKindsUsable, isReleasable}
 use Rattle.record.specs.Sheet.{sheetOf, isSheet, sheetPasses}
 use Rattle.steps.specs.Operation.{asked}
 use Rattle.steps.specs.Sequence.{Ran}
@@ -24,7 +24,7 @@ use Rattle.steps.specs.Perform.{Result, value, descriptor, absent, keys,
 use Rattle.steps.specs.Response.{Ending, refused, result, typeError, thrown, Response, refusal, Effect}
 
 abbrev pub countsOf : World → Counts
-countsOf ω = record { objects = length (ω .store .objects); strings = length (ω .strings); callable = ω .store .callable }
+countsOf ω = record { live = liveMarks (ω .store .objects); strings = length (ω .strings); callable = ω .store .callable }
 
 abbrev pub contextOf : World → Context
 contextOf ω = record { store = ω .store; strings = ω .strings; allowance = maximumProperties }
@@ -34,12 +34,13 @@ isProxy none = false
 isProxy (some (Ordinary r)) = false
 isProxy (some (Proxy p)) = true
 
--- refusals 1 to 4 over the step, then 1 to 3 over the sheet
+-- refusals 1 to 3, 14 and 4 over the step, then 1 to 3 over the sheet
 abbrev pub recordTests : World → List ℕ → List ℕ → List (ℕ × Bool)
 recordTests ω bytes sheet =
     (1, isStep bytes)
     ∷ (2, areObjectsMade (countsOf ω) (stepOf bytes))
     ∷ (3, areKindsUsable (isProxy (lookup (ω .store) (stepOf bytes .object))) (countsOf ω) (stepOf bytes))
+    ∷ (14, isReleasable (isNamed (ω .store) (stepOf bytes .object)) (stepOf bytes))
     ∷ (4, isDescriptor (stepOf bytes .descriptor))
     ∷ (1, isSheet sheet)
     ∷ (2, sheetPasses (isMade (countsOf ω)) (sheetOf sheet))

@@ -13,7 +13,7 @@ use Rattle.value.proofs.SameKey.{key-eq}
 use Rattle.property.specs.declared.Property.{Property}
 use Rattle.property.specs.declared.OwnProperty.the-variants.{Absent, Present}
 use Rattle.store.specs.declared.Entry.{Entry}
-use Rattle.store.specs.Store.{entry, isAt, find, insert, remove, replaceAt}
+use Rattle.store.specs.Store.{entry, isAt, find, insert, excluding, remove, replaceAt}
 use Rattle.store.specs.OwnKeys.{keysIn}
 use Rattle.store.proofs.StoreLaws.{samePlace, place-refl, find-insert, find-remove}
 
@@ -99,7 +99,7 @@ keys-inserted-other (e ∷ es) o k p b h = go (isAt e o k) refl (keys-inserted-o
     go false t ih = rw (t, ih)
 
 pub keys-removed-other : (es : List Entry) (o : ℕ) (k : PropertyKey) (b : ℕ) → eqb o b ≡ false → keysIn (remove es o k) b ≡ keysIn es b
-unfolding keysIn remove
+unfolding keysIn remove excluding
 keys-removed-other [] o k b h = refl
 keys-removed-other (e ∷ es) o k b h = go (isAt e o k) refl (keys-removed-other es o k b h)
   where
@@ -113,7 +113,7 @@ without k [] = []
 without k (l ∷ ls) = cond (sameKey l k) (without k ls) (l ∷ without k ls)
 
 pub keys-removed : (es : List Entry) (o : ℕ) (k : PropertyKey) → keysIn (remove es o k) o ≡ without k (keysIn es o)
-unfolding keysIn remove without isAt
+unfolding keysIn remove excluding without isAt
 keys-removed [] o k = refl
 keys-removed (e ∷ es) o k = go (eqb (e .owner) o) (sameKey (e .key) k) refl refl (keys-removed es o k)
   where

@@ -1,23 +1,26 @@
 -- What is found in a store after a change of it. Assumes nothing.
-use Prim.Native.Nat.{ℕ, zero, suc, _<_, suc-le-suc, zero-le}
-use mathlib.Core.Path.{_≡_, refl, sym, ap, _∙_}
+use Prim.Native.Nat.{ℕ, zero, suc, _^_, _<_, suc-le-suc, zero-le}
+use native.Mathlib.Nat.{zero-div}
+use mathlib.Core.Path.{_≡_, refl, sym, ap, _∙_, subst}
 use mathlib.Core.Bool.{Bool, true, false, _&&_, cond, false≢true, true≢false}
-use mathlib.Core.Option.{none, some}
-use mathlib.Core.List.{List, [], _∷_, _++_}
-use lib.Dec.{eqb}
-use lib.ListN.{length, getElem?, set}
-use borrow.Author.Tests.{eqb-true, eqb-false, eq-eqb}
+use mathlib.Core.Option.{Option, none, some}
+use mathlib.Core.List.{List, [], _∷_}
+use lib.Dec.{eqb, ltb}
+use lib.ListN.{length, getD, set, length-set, replicate, getD-replicate, List·getD-eq-default}
+use lib.Seq.{getD-set-same, getD-set-other}
+use borrow.Author.Tests.{eqb-true, eqb-false, eq-eqb, ltb-true, ltb-false}
 use Rattle.value.specs.declared.PropertyKey.{PropertyKey}
 use Rattle.value.specs.PropertyKey.{sameKey}
+use Rattle.value.specs.Bits.{bit}
 use Rattle.value.proofs.Bools.{and-true, refuted}
-use Rattle.value.proofs.BitLaws.{bit-before, bit-at}
+use Rattle.value.proofs.BitLaws.{bit-with, bit-first, bit-next}
 use Rattle.value.proofs.SameKey.{key-refl, key-eq}
 use Rattle.property.specs.declared.Property.{Property}
 use Rattle.property.specs.declared.OwnProperty.{OwnProperty}
 use Rattle.property.specs.declared.OwnProperty.the-variants.{Absent, Present}
 use Rattle.store.specs.declared.Object.{Object}
 use Rattle.store.specs.declared.Entry.{Entry}
-use Rattle.store.specs.Store.{Store, lookup, put, marked, add, isFunction, isAt, find, insert, remove, own, withProperty, withoutProperty}
+use Rattle.store.specs.Store.{Store, empty, maximumObjects, lookup, put, nextNumber, add, isLive, liveMarks, isFunction, isAt, find, insert, excluding, remove, own, withProperty, withoutProperty}
 
 -- are they one object and one key?
 abbrev pub samePlace : ℕ → PropertyKey → ℕ → PropertyKey → Bool
@@ -31,35 +34,48 @@ place-eq o k b l h = let (p, q) = and-true _ _ h in (eqb-true o b p, key-eq k l 
 
 -- Objects
 
-module _ {A : Type 0} where
-  get-set : (xs : List A) (o : ℕ) (x y : A) → getElem? xs o ≡ some x → getElem? (set xs o y) o ≡ some y
-  get-set [] o x y e = absurd (false≢true cc)
-  get-set (z ∷ zs) zero x y e = refl
-  get-set (z ∷ zs) (suc o) x y e = get-set zs o x y e
+-- what is found is one of the objects
+pub found-below : (xs : List (Option Object)) (i : ℕ) (x : Object) → getD xs i none ≡ some x → i < length xs
+found-below [] i x e = absurd (false≢true cc)
+found-below (y ∷ xs) zero x e = suc-le-suc zero-le
+found-below (y ∷ xs) (suc i) x e = suc-le-suc (found-below xs i x e)
 
-  get-set-other : (xs : List A) (o b : ℕ) (y : A) → (o ≡ b → ⊥) → getElem? (set xs o y) b ≡ getElem? xs b
-  get-set-other [] o b y h = refl
-  get-set-other (z ∷ zs) zero zero y h = absurd (h refl)
-  get-set-other (z ∷ zs) zero (suc b) y h = refl
-  get-set-other (z ∷ zs) (suc o) zero y h = refl
-  get-set-other (z ∷ zs) (suc o) (suc b) y h = get-set-other zs o b y (λ e. h (ap suc e))
-
-  get-append : (xs ys : List A) (o : ℕ) (x : A) → getElem? xs o ≡ some x → getElem? (xs ++ ys) o ≡ some x
-  get-append [] ys o x e = absurd (false≢true cc)
-  get-append (z ∷ zs) ys zero x e = e
-  get-append (z ∷ zs) ys (suc o) x e = get-append zs ys o x e
+pub lookup-empty : (o : ℕ) → lookup (empty .store) o ≡ none
+unfolding lookup
+lookup-empty o = go (ltb o maximumObjects) refl
+  where
+    go : (t : Bool) → ltb o maximumObjects ≡ t → getD (replicate {A = Option Object} maximumObjects none) o none ≡ none
+    go true e = getD-replicate maximumObjects o none none (ltb-true o maximumObjects e)
+    go false e = List·getD-eq-default (replicate maximumObjects none) none {n = o} (ltb-false o maximumObjects e)
 
 pub lookup-put : (σ : Store) (o : ℕ) (x y : Object) → lookup σ o ≡ some x → lookup (put σ o y) o ≡ some y
 unfolding lookup put
-lookup-put σ o x y e = get-set (σ .objects) o x y e
+lookup-put σ o x y e = getD-set-same (σ .objects) o (some y) none (found-below (σ .objects) o x e)
+
+set-other : (xs : List (Option Object)) (o b : ℕ) (y : Option Object) → eqb o b ≡ false → getD (set xs o y) b none ≡ getD xs b none
+set-other xs o b y h = getD-set-other xs o b y none (λ e. eqb-false o b h (sym e))
 
 pub lookup-put-other : (σ : Store) (o b : ℕ) (y : Object) → eqb o b ≡ false → lookup (put σ o y) b ≡ lookup σ b
 unfolding lookup put
-lookup-put-other σ o b y h = get-set-other (σ .objects) o b y (eqb-false o b h)
+lookup-put-other σ o b y h = set-other (σ .objects) o b (some y) h
 
-pub lookup-add : (σ : Store) (y : Object) (b : Bool) (o : ℕ) (x : Object) → lookup σ o ≡ some x → lookup (add σ y b) o ≡ some x
+-- the next number has a place, and no object
+pub record Fresh (σ : Store) : Type 0 where
+  pub within : nextNumber σ < length (σ .objects)
+  pub free : lookup σ (nextNumber σ) ≡ none
+
+-- so no object has it
+pub next-other : (σ : Store) → Fresh σ → (o : ℕ) (x : Object) → lookup σ o ≡ some x → eqb (nextNumber σ) o ≡ false
+next-other σ f o x e = refuted _ λ t.
+    let p : none ≡ some x = sym (f .free) ∙ (ap (lookup σ) (eqb-true _ o t) ∙ e) in
+    false≢true cc
+
+pub lookup-add-other : (σ : Store) (y : Object) (b : Bool) (o : ℕ) → eqb (nextNumber σ) o ≡ false → lookup (add σ y b) o ≡ lookup σ o
 unfolding lookup add
-lookup-add σ y b o x e = get-append (σ .objects) (y ∷ []) o x e
+lookup-add-other σ y b o h = set-other (σ .objects) (nextNumber σ) o (some y) h
+
+pub lookup-add : (σ : Store) → Fresh σ → (y : Object) (b : Bool) (o : ℕ) (x : Object) → lookup σ o ≡ some x → lookup (add σ y b) o ≡ some x
+lookup-add σ f y b o x e = lookup-add-other σ y b o (next-other σ f o x e) ∙ e
 
 pub lookup-with : (σ : Store) (o : ℕ) (k : PropertyKey) (p : Property) (b : ℕ) → lookup (withProperty σ o k p) b ≡ lookup σ b
 unfolding lookup withProperty
@@ -75,40 +91,42 @@ pub own-put : (σ : Store) (o : ℕ) (y : Object) (b : ℕ) (l : PropertyKey) �
 unfolding own put
 own-put σ o y b l = refl
 
--- what is found is one of the objects
-pub found-below : {A : Type 0} (xs : List A) (i : ℕ) (x : A) → getElem? xs i ≡ some x → i < length xs
-found-below [] i x e = absurd (false≢true cc)
-found-below (y ∷ xs) zero x e = suc-le-suc zero-le
-found-below (y ∷ xs) (suc i) x e = suc-le-suc (found-below xs i x e)
-
 -- the object that was added is there
-pub lookup-next : (σ : Store) (y : Object) (b : Bool) → lookup (add σ y b) (length (σ .objects)) ≡ some y
+pub lookup-next : (σ : Store) (y : Object) (b : Bool) → nextNumber σ < length (σ .objects) → lookup (add σ y b) (nextNumber σ) ≡ some y
 unfolding lookup add
-lookup-next σ y b = go (σ .objects)
-  where
-    go : (xs : List Object) → getElem? (xs ++ (y ∷ [])) (length xs) ≡ some y
-    go [] = refl
-    go (x ∷ xs) = go xs
+lookup-next σ y b h = getD-set-same (σ .objects) (nextNumber σ) (some y) none h
 
--- an object that was not there is the one that was added
-pub lookup-new : (σ : Store) (y : Object) (b : Bool) (o : ℕ) (z : Object) → lookup σ o ≡ none → lookup (add σ y b) o ≡ some z → (o ≡ length (σ .objects)) × (y ≡ z)
+-- what is there after it was there, or is the one that was added
+pub lookup-new : (σ : Store) (y : Object) (b : Bool) (o : ℕ) (z : Object) → lookup σ o ≡ none → lookup (add σ y b) o ≡ some z → (o ≡ nextNumber σ) × (y ≡ z)
 unfolding lookup add
-lookup-new σ y b o z = go (σ .objects) o
+lookup-new σ y b o z e f = go (eqb (nextNumber σ) o) refl
   where
-    go : (xs : List Object) (i : ℕ) → getElem? xs i ≡ none → getElem? (xs ++ (y ∷ [])) i ≡ some z → (i ≡ length xs) × (y ≡ z)
-    go [] zero e f = (refl, cc)
-    go [] (suc i) e f = absurd (false≢true cc)
-    go (x ∷ xs) zero e f = absurd (false≢true cc)
-    go (x ∷ xs) (suc i) e f = let (p, q) = go xs i e f in (ap suc p, q)
+    go : (t : Bool) → eqb (nextNumber σ) o ≡ t → (o ≡ nextNumber σ) × (y ≡ z)
+    go true h =
+        let p = eqb-true (nextNumber σ) o h in
+        let l = subst (λ (n : ℕ). n < length (σ .objects)) (sym p) (subst (λ (n : ℕ). o < n) (length-set (σ .objects) (nextNumber σ) (some y)) (found-below (set (σ .objects) (nextNumber σ) (some y)) o z f)) in
+        let g : some y ≡ some z = sym (getD-set-same (σ .objects) (nextNumber σ) (some y) none l) ∙ (ap (λ (n : ℕ). getD (set (σ .objects) (nextNumber σ) (some y)) n none) p ∙ f) in
+        (sym p, cc)
+    go false h = let g : none ≡ some z = sym e ∙ (sym (set-other (σ .objects) (nextNumber σ) o (some y) h) ∙ f) in absurd (false≢true cc)
 
 -- an object keeps its mark, and the next one has its own
-pub function-add : (σ : Store) (y : Object) (b : Bool) (o : ℕ) (x : Object) → lookup σ o ≡ some x → isFunction (add σ y b) o ≡ isFunction σ o
-unfolding lookup add marked
-function-add σ y b o x e = bit-before (σ .callable) (length (σ .objects)) o b (found-below (σ .objects) o x e)
+pub function-add : (σ : Store) → Fresh σ → (y : Object) (b : Bool) (o : ℕ) (x : Object) → lookup σ o ≡ some x → isFunction (add σ y b) o ≡ isFunction σ o
+unfolding add
+function-add σ f y b o x e = bit-with (σ .callable) (nextNumber σ) o b ∙ rw (next-other σ f o x e)
 
-pub function-new : (σ : Store) (y : Object) (b : Bool) → isFunction (add σ y b) (length (σ .objects)) ≡ b
-unfolding add marked
-function-new σ y b = bit-at (σ .callable) (length (σ .objects)) b
+pub function-new : (σ : Store) (y : Object) (b : Bool) → isFunction (add σ y b) (nextNumber σ) ≡ b
+unfolding add
+function-new σ y b = bit-with (σ .callable) (nextNumber σ) (nextNumber σ) b ∙ rw (eq-eqb (nextNumber σ) (nextNumber σ) refl)
+
+-- the marks of live objects
+pub live-mark : (xs : List (Option Object)) (o : ℕ) → bit (liveMarks xs) o ≡ isLive (getD xs o none)
+unfolding liveMarks
+live-mark [] o = none-set o
+  where
+    none-set : (i : ℕ) → bit 0 i ≡ false
+    none-set i = rw (zero-div (2 ^ i))
+live-mark (x ∷ xs) zero = bit-first (isLive x) (liveMarks xs)
+live-mark (x ∷ xs) (suc o) = bit-next (isLive x) (liveMarks xs) o ∙ live-mark xs o
 
 pub own-add : (σ : Store) (y : Object) (c : Bool) (b : ℕ) (l : PropertyKey) → own (add σ y c) b l ≡ own σ b l
 unfolding own add
@@ -151,7 +169,7 @@ find-insert (e ∷ es) o k p b l = go (isAt e o k) refl (find-insert es o k p b 
 
 pub find-remove : (es : List Entry) (o : ℕ) (k : PropertyKey) (b : ℕ) (l : PropertyKey)
     → find (remove es o k) b l ≡ cond (samePlace o k b l) Absent (find es b l)
-unfolding find remove
+unfolding find remove excluding
 find-remove [] o k b l = sym (both (samePlace o k b l))
   where
     both : (t : Bool) → cond {A = OwnProperty} t Absent Absent ≡ Absent

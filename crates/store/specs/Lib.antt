@@ -1,3 +1,4 @@
 pub mod Store
+pub mod Release
 pub mod OwnKeys
 pub mod Words

@@ -1,11 +1,11 @@
--- The store: objects numbered from 0 in the order made, which of them are callable, and properties in the order of creation. Assumes nothing.
-use Prim.Native.Nat.{ℕ, zero, suc, _+_, _%_, _^_}
+-- The store: objects by their numbers, the numbers that were released, which objects are callable, and properties in the order of creation. Assumes nothing.
+use Prim.Native.Nat.{ℕ, zero, suc, _+_, _-_, _*_}
 use mathlib.Core.Bool.{Bool, true, false, _&&_, cond}
 use mathlib.Core.Option.{Option, none, some}
-use mathlib.Core.List.{List, [], _∷_, _++_}
-use lib.Dec.{eqb, ltb}
-use lib.ListN.{length, getElem?, set}
-use Rattle.value.specs.Bits.{bit, weight}
+use mathlib.Core.List.{List, [], _∷_}
+use lib.Dec.{eqb}
+use lib.ListN.{length, getD, set, replicate}
+use Rattle.value.specs.Bits.{bit, weight, withBit}
 use Rattle.value.specs.declared.Value.{Value}
 use Rattle.value.specs.declared.Value.the-variants as value
 use Rattle.value.specs.declared.PropertyKey.{PropertyKey}
@@ -18,7 +18,9 @@ use Rattle.store.specs.declared.Object.{Object}
 use Rattle.store.specs.declared.Entry.{Entry}
 
 pub record Store : Type 0 where
-  pub objects : List Object
+  pub objects : List (Option Object)  -- none where a number has no live object
+  pub made : ℕ  -- how many numbers objects have had; the next unused one
+  pub released : List ℕ  -- the numbers that are free again, the one released longest ago first
   pub callable : ℕ  -- bit o is the mark of the object o
   pub properties : List Entry
 
@@ -27,29 +29,71 @@ pub record World : Type 0 where
   pub store : Store
   pub strings : Strings
 
-abbrev pub empty : World
-empty = record { store = record { objects = []; callable = 0; properties = [] }; strings = [] }
-
 abbrev pub maximumObjects : ℕ
 maximumObjects = 32
+
+abbrev pub empty : World
+empty = record {
+  store = record { objects = replicate maximumObjects none; made = 0; released = []; callable = 0; properties = [] };
+  strings = [];
+}
 
 abbrev pub maximumProperties : ℕ
 maximumProperties = 256
 
+-- the live object of a number
 unfoldable pub lookup : Store → ℕ → Option Object
-lookup σ o = getElem? (σ .objects) o
+lookup σ o = getD (σ .objects) o none
 
 -- the object o is now x
 unfoldable pub put : Store → ℕ → Object → Store
-put σ o x = record { objects = set (σ .objects) o x; callable = σ .callable; properties = σ .properties }
+put σ o x = record {
+  objects = set (σ .objects) o (some x);
+  made = σ .made;
+  released = σ .released;
+  callable = σ .callable;
+  properties = σ .properties;
+}
 
--- the marks of the objects before n, and b for n
-unfoldable pub marked : ℕ → ℕ → Bool → ℕ
-marked marks n b = marks % 2 ^ n + weight b (2 ^ n)
+abbrev pub firstOr : ℕ → List ℕ → ℕ
+firstOr n [] = n
+firstOr n (o ∷ os) = o
+
+abbrev pub rest : List ℕ → List ℕ
+rest [] = []
+rest (o ∷ os) = os
+
+-- one number more is in use, unless it was free again
+abbrev pub madeWith : ℕ → List ℕ → ℕ
+madeWith n [] = suc n
+madeWith n (o ∷ os) = n
+
+-- the number that the next object takes: the one released longest ago or, with none released, the next unused one
+abbrev pub nextNumber : Store → ℕ
+nextNumber σ = firstOr (σ .made) (σ .released)
+
+-- how many objects are live
+abbrev pub liveCount : Store → ℕ
+liveCount σ = σ .made - length (σ .released)
 
 -- x is the next object, callable or not
 unfoldable pub add : Store → Object → Bool → Store
-add σ x b = record { objects = σ .objects ++ (x ∷ []); callable = marked (σ .callable) (length (σ .objects)) b; properties = σ .properties }
+add σ x b = record {
+  objects = set (σ .objects) (nextNumber σ) (some x);
+  made = madeWith (σ .made) (σ .released);
+  released = rest (σ .released);
+  callable = withBit (σ .callable) (nextNumber σ) b;
+  properties = σ .properties;
+}
+
+abbrev pub isLive : Option Object → Bool
+isLive none = false
+isLive (some x) = true
+
+-- bit o says whether the object o is live
+unfoldable pub liveMarks : List (Option Object) → ℕ
+liveMarks [] = 0
+liveMarks (x ∷ xs) = weight (isLive x) 1 + 2 * liveMarks xs
 
 -- is the object o a function?
 abbrev pub isFunction : Store → ℕ → Bool
@@ -79,18 +123,26 @@ unfoldable pub insert : List Entry → ℕ → PropertyKey → Property → List
 insert [] o k p = entry o k p ∷ []
 insert (e ∷ es) o k p = cond (isAt e o k) (entry o k p ∷ es) (e ∷ insert es o k p)
 
+-- those that do not pass the test, in their order
+unfoldable pub excluding : (Entry → Bool) → List Entry → List Entry
+excluding test [] = []
+excluding test (e ∷ es) = cond (test e) (excluding test es) (e ∷ excluding test es)
+
 unfoldable pub remove : List Entry → ℕ → PropertyKey → List Entry
-remove [] o k = []
-remove (e ∷ es) o k = cond (isAt e o k) (remove es o k) (e ∷ remove es o k)
+remove es o k = excluding (λ (e : Entry). isAt e o k) es
 
 unfoldable pub own : Store → ℕ → PropertyKey → OwnProperty
 own σ o k = find (σ .properties) o k
 
+-- the same objects, with these properties
+abbrev pub withProperties : Store → List Entry → Store
+withProperties σ es = record { objects = σ .objects; made = σ .made; released = σ .released; callable = σ .callable; properties = es }
+
 unfoldable pub withProperty : Store → ℕ → PropertyKey → Property → Store
-withProperty σ o k p = record { objects = σ .objects; callable = σ .callable; properties = insert (σ .properties) o k p }
+withProperty σ o k p = withProperties σ (insert (σ .properties) o k p)
 
 unfoldable pub withoutProperty : Store → ℕ → PropertyKey → Store
-withoutProperty σ o k = record { objects = σ .objects; callable = σ .callable; properties = remove (σ .properties) o k }
+withoutProperty σ o k = withProperties σ (remove (σ .properties) o k)
 
 -- the property of entry i is p
 unfoldable pub replaceAt : List Entry → ℕ → Property → List Entry
@@ -99,4 +151,4 @@ replaceAt (e ∷ es) zero p = entry (e .owner) (e .key) p ∷ es
 replaceAt (e ∷ es) (suc i) p = e ∷ replaceAt es i p
 
 unfoldable pub withChange : Store → ℕ → Property → Store
-withChange σ i p = record { objects = σ .objects; callable = σ .callable; properties = replaceAt (σ .properties) i p }
+withChange σ i p = withProperties σ (replaceAt (σ .properties) i p)

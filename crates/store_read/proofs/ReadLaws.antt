@@ -3,18 +3,19 @@ use Prim.Native.Nat.{ℕ, zero, suc, _+_, _-_, _*_, _/_, _%_, _^_, _<_, _≤_}
 use native.Mathlib.Omega.{arith}
 use native.Mathlib.Numerals.{add-one}
 use mathlib.Core.Path.{_≡_, refl, sym, ap, subst, _∙_}
-use mathlib.Core.Bool.{Bool, true, false, not, _&&_}
+use mathlib.Core.Bool.{Bool, true, false, not, _&&_, true≢false, false≢true}
 use mathlib.Core.Option.{none, some}
 use mathlib.Core.List.{List}
 use lib.Dec.{eqb, ltb}
-use lib.ListN.{getD, getElem?}
+use lib.ListN.{getD}
 use borrow.Author.Tests.{ltb-true, ltb-false, lt-ltb, le-ltb, eq-eqb, ne-eqb}
 use Rattle.value.specs.Bits.{bit}
 use Rattle.value.specs.declared.PropertyKey.{PropertyKey}
 use Rattle.value.specs.declared.PropertyKey.the-variants.{String, Symbol}
 use Rattle.value.specs.PropertyKey.{sameKey, keyNumber}
 use Rattle.value.specs.Words.{pick, valueOf}
-use Rattle.value.proofs.Bools.{refuted}
+use Rattle.value.proofs.BitLaws.{bit-above}
+use Rattle.value.proofs.Bools.{refuted, bool-ext}
 use Rattle.value.proofs.SameKey.{key-eq}
 use Rattle.property.specs.declared.OwnProperty.the-variants.{Absent, Present}
 use Rattle.text.specs.Table.{tabulate, stringsOf, isTable}
@@ -23,26 +24,13 @@ use Rattle.store.specs.declared.Entry.{Entry}
 use Rattle.store.specs.declared.Object.{Object}
 use Rattle.store.specs.declared.Object.the-variants as object
 use Rattle.store_read.specs.declared.Place.the-variants.{Nothing, At}
-use Rattle.store.specs.Store.{isAt, find, own, lookup}
-use Rattle.store.specs.Words.{storeOf, objectOf, objectIn, propertyIn, entryIn, keyOf, keyWord, wordAt, keyAt}
-use Rattle.store.proofs.WordLaws.{at-word}
-use Rattle.store_read.specs.declared.Place.{Place}
+use Rattle.store.specs.Store.{isAt, find, own, lookup, firstOr, nextNumber, liveCount}
+use Rattle.store.specs.Words.{madeAt, liveAt, releasedAt, firstAt, queueAt, storeOf, objectOf, objectIn, slotIn, releasedIn, nextIn, propertyIn, entryIn, keyOf, keyWord, wordAt, keyAt}
+use Rattle.store.proofs.StoreLaws.{found-below}
+use Rattle.store.proofs.WordLaws.{Sized, object-length, released-length, lookup-live, at-word}
 use Rattle.store_read.specs.Answers.{firstPlace, findPlace, keyWords, placed, classWeight}
 
--- Tabulated lists --------------------------------------------------------------------------
-
-pub get-tabulate : {A : Type 0} (f : ℕ → A) (i n k : ℕ) → k < n → getElem? (tabulate f i n) k ≡ some (f (i + k))
-unfolding tabulate
-get-tabulate f i zero k h = absurd (omega arith)
-get-tabulate f i (suc n) zero h = let e : i + 0 ≡ i = omega arith in rw e
-get-tabulate f i (suc n) (suc k) h =
-    let e : suc i + k ≡ i + suc k = omega arith in get-tabulate f (suc i) n k (omega arith) ∙ ap (λ m. some (f m)) e
-
-pub get-tabulate-none : {A : Type 0} (f : ℕ → A) (i n k : ℕ) → n ≤ k → getElem? (tabulate f i n) k ≡ none
-unfolding tabulate
-get-tabulate-none f i zero k h = refl
-get-tabulate-none f i (suc n) zero h = absurd (omega arith)
-get-tabulate-none f i (suc n) (suc k) h = get-tabulate-none f (suc i) n k (omega arith)
+-- Objects ------------------------------------------------------------------------------------------
 
 -- an object's words, by whether it is ordinary
 pub ordinary-words : (head a b : ℕ) → head < 2 → object.Ordinary (record { prototype = valueOf a b; extensible = eqb head 1 }) ≡ objectOf head a b
@@ -189,27 +177,67 @@ module _ (words : List ℕ) (o : ℕ) (k : PropertyKey) where
   unfolding findPlace storeOf own
   own-missed q = missed-by _ o k 0 (wordAt words 1) _ refl q
 
--- Objects ------------------------------------------------------------------------------------------
+-- Live objects -------------------------------------------------------------------------------------
 
-module _ (words : List ℕ) (o : ℕ) where
-  pub lookup-made : o < wordAt words 0 → lookup (storeOf words) o ≡ some (objectIn words o)
-  unfolding lookup storeOf
-  lookup-made h = get-tabulate (objectIn words) 0 (wordAt words 0) o h ∙ let z : 0 + o ≡ o = omega arith in rw z
-
-  pub lookup-missing : wordAt words 0 ≤ o → lookup (storeOf words) o ≡ none
-  unfolding lookup storeOf
-  lookup-missing h = get-tabulate-none (objectIn words) 0 (wordAt words 0) o h
-
-  -- an object that is found was made
-  pub lookup-below : (x : Object) → lookup (storeOf words) o ≡ some x → o < wordAt words 0
-  lookup-below x e = go (ltb o (wordAt words 0)) refl
+module _ (words : List ℕ) (s : Sized words) (o : ℕ) where
+  pub live-below : bit (wordAt words liveAt) o ≡ true → o < 32
+  live-below h = go (ltb o 32) refl
     where
-      go : (b : Bool) → ltb o (wordAt words 0) ≡ b → o < wordAt words 0
+      go : (b : Bool) → ltb o 32 ≡ b → o < 32
       go true q = ltb-true _ _ q
-      go false q =
-          let missing : lookup (storeOf words) o ≡ none = lookup-missing (ltb-false _ _ q) in
-          let z : _≡_ {A = ℕ} 0 1 = cc in
-          absurd (omega arith)
+      go false q = absurd (true≢false (sym h ∙ bit-above (wordAt words liveAt) 32 o (s .live) (ltb-false _ _ q)))
+
+  pub lookup-made : bit (wordAt words liveAt) o ≡ true → lookup (storeOf words) o ≡ some (objectIn words o)
+  unfolding slotIn
+  lookup-made h = lookup-live words s o ∙ rw h
+
+  pub lookup-missing : bit (wordAt words liveAt) o ≡ false → lookup (storeOf words) o ≡ none
+  unfolding slotIn
+  lookup-missing h = lookup-live words s o ∙ rw h
+
+  -- an object that is found is live
+  pub lookup-marked : (x : Object) → lookup (storeOf words) o ≡ some x → bit (wordAt words liveAt) o ≡ true
+  lookup-marked x e = go (bit (wordAt words liveAt) o) refl
+    where
+      go : (b : Bool) → bit (wordAt words liveAt) o ≡ b → bit (wordAt words liveAt) o ≡ true
+      go true q = q
+      go false q = let z : none ≡ some x = sym (lookup-missing q) ∙ e in absurd (false≢true cc)
+
+pub lookup-below : (words : List ℕ) (o : ℕ) (x : Object) → lookup (storeOf words) o ≡ some x → o < 32
+unfolding lookup
+lookup-below words o x e = subst (λ (n : ℕ). o < n) (object-length words) (found-below (storeOf words .objects) o x e)
+
+-- Released numbers ------------------------------------------------------------------------------------
+
+module _ (words : List ℕ) where
+  -- the next number, by whether one is released
+  pub next-unused : wordAt words releasedAt ≡ 0 → wordAt words madeAt ≡ nextIn words
+  unfolding nextIn
+  next-unused e = rw e
+
+  pub next-released : (wordAt words releasedAt ≡ 0 → ⊥) → wordAt words (queueAt (wordAt words firstAt % 32)) % 32 ≡ nextIn words
+  unfolding nextIn releasedIn
+  next-released h = let z : wordAt words firstAt + 0 ≡ wordAt words firstAt = omega arith in rw (ne-eqb _ _ h, z)
+
+  pub next-number : nextIn words ≡ nextNumber (storeOf words)
+  unfolding nextIn storeOf tabulate
+  next-number = go (wordAt words releasedAt)
+    where
+      go : (n : ℕ) → pick (eqb n 0) (wordAt words madeAt) (releasedIn words 0) ≡ firstOr (wordAt words madeAt) (tabulate (releasedIn words) 0 n)
+      go zero = refl
+      go (suc n) = rw (ne-eqb (suc n) 0 (λ (z : suc n ≡ 0). omega arith))
+
+  made-word : storeOf words .made ≡ wordAt words madeAt
+  unfolding storeOf
+  made-word = refl
+
+  -- one more object may be live
+  pub object-room : ltb (wordAt words madeAt) (32 + wordAt words releasedAt) ≡ ltb (liveCount (storeOf words)) 32
+  object-room =
+      let e = released-length words in
+      bool-ext _ _
+      (λ t. lt-ltb (liveCount (storeOf words)) 32 (omega (arith, e, made-word, ltb-true (wordAt words madeAt) (32 + wordAt words releasedAt) t)))
+      (λ t. lt-ltb (wordAt words madeAt) (32 + wordAt words releasedAt) (omega (arith, e, made-word, ltb-true (liveCount (storeOf words)) 32 t)))
 
 -- Flags ---------------------------------------------------------------------------------------------
 

@@ -1,6 +1,7 @@
 // Reading the store's words: where a property stands, and what it is.
 use crate::KEYS;
 use crate::Place;
+use crate::ROWS;
 use property::OwnProperty;
 use property::Property;
 use value::PropertyKey;
@@ -13,8 +14,6 @@ ghost use Rattle.value.specs.PropertyKey.{keyNumber};
 ghost use Rattle.store.specs.Store as store;
 ghost use Rattle.store.specs.Words.{isStore, storeOf, wordAt, propertyIn};
 ghost use Rattle.store_read.specs.Answers.{findPlace, firstPlace, keyWords, placed, classWeight};
-
-const ROWS: usize = 355;
 
 pub const NUMBERS: u64 = 288230376151711744;
 

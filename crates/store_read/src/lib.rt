@@ -1,20 +1,24 @@
 // Reading the store's words.
-// read: counts, marks and objects. finding: where a property stands, and what it is. own_key_order: 10.1.11.1, by way of sorted_words.
+// read: counts, marks and objects. finding: where a property stands, and what it is. naming: whether an object is named.
+// own_key_order: 10.1.11.1, by way of sorted_words.
 use store::Object;
 
 pub mod finding;
+pub mod naming;
 pub mod own_key_order;
 mod read;
 pub mod sorted_words;
 
 pub use read::callable;
+pub use read::has_object_room;
 pub use read::is_store;
 pub use read::key_from_word;
+pub use read::live;
+pub use read::next_number;
 pub use read::object_at;
-pub use read::object_count;
 pub use read::property_count;
 
-// The object of a number, if it was made.
+// The object of a number, if it is live.
 pub enum ObjectFound {
     Missing,
     Made(Object),
@@ -32,5 +36,9 @@ pub enum IndexWord {
     Joined(u64),
 }
 
-// Where the key words begin.
-const KEYS: usize = 99;
+// Where the objects, the key words and the properties begin.
+const OBJECTS: usize = 38;
+
+const KEYS: usize = 134;
+
+const ROWS: usize = 390;

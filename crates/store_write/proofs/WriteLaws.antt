@@ -1,14 +1,18 @@
 -- What each write to the words makes of the store that they hold. Assumes nothing.
-use Prim.Native.Nat.{ℕ, zero, suc, _+_, _-_, _<_, _≤_}
+use Prim.Native.Nat.{ℕ, zero, suc, _+_, _-_, _%_, _^_, _<_, _≤_}
+use native.Mathlib.Nat.{mod-eq-of-lt, zero-div}
 use native.Mathlib.Omega.{arith}
 use native.Mathlib.Numerals.{add-one}
 use mathlib.Core.Path.{_≡_, refl, sym, ap, _∙_}
 use mathlib.Core.Bool.{Bool, true, false, cond}
+use mathlib.Core.Option.{Option, none, some}
 use mathlib.Core.List.{List, [], _∷_, _++_, append-assoc, append-nil}
-use lib.ListN.{length, set, length-set}
+use lib.Dec.{eqb, ltb}
+use lib.ListN.{length, set, replicate, length-set}
 use lib.Seq.{sets, length-sets, getD-set-same, getD-set-other}
-use borrow.Author.Tests.{eq-eqb, ne-eqb}
-use Rattle.value.specs.Bits.{weight}
+use borrow.Author.Tests.{eq-eqb, ne-eqb, eqb-true, eqb-false, ltb-true, ltb-false, lt-ltb, le-ltb}
+use Rattle.value.specs.Bits.{bit, weight, withBit}
+use Rattle.value.proofs.BitLaws.{bit-with, with-below}
 use Rattle.value.specs.declared.Value.{Value}
 use Rattle.value.specs.declared.Value.the-variants.{Undefined}
 use Rattle.value.specs.declared.PropertyKey.{PropertyKey}
@@ -23,11 +27,13 @@ use Rattle.store.specs.declared.Object.the-variants.{Ordinary, Proxy}
 use Rattle.store.specs.declared.Entry.{Entry}
 use Rattle.store_write.specs.declared.write.ObjectWords.{ObjectWords}
 use Rattle.store_write.specs.declared.write.PropertyWords.{PropertyWords}
-use Rattle.store.specs.Store.{Store, empty, entry, isAt, remove, put, marked, add, own, withProperty, withoutProperty, replaceAt, withChange}
-use Rattle.store.specs.Words.{objectAt, keyAt, rowAt, wordAt, objectOf, objectIn, headOf, firstOf, secondOf, keyWord, propertyOf, flagsOf, primary, secondary, propertyIn, entryIn, storeOf, isStore, withObject, withNewObject, withRow, withNewRow, moved, swept, withoutRow}
+use Rattle.store.specs.Store.{Store, empty, entry, isAt, excluding, remove, put, rest, madeWith, liveCount, add, own, withProperties, withProperty, withoutProperty, replaceAt, withChange}
+use Rattle.store.specs.Release.{isOwnedBy, queued, release}
+use Rattle.store.specs.Words.{queueAt, placeOf, releasedIn, slotIn, nextIn, withNumberTaken, withLiveObject, withNumberReleased, withoutRows, withoutObject, objectAt, keyAt, rowAt, wordAt, objectOf, objectIn, headOf, firstOf, secondOf, keyWord, propertyOf, flagsOf, primary, secondary, propertyIn, entryIn, storeOf, isStore, withObject, withNewObject, withRow, withNewRow, moved, swept, withoutRow}
 use Rattle.store_write.specs.Write.{Fits, FitsObject, FitsProperty, cellsOf, ObjectCells, PropertyCells, New, Becomes}
 use Rattle.store.proofs.WordLaws.{Sized, sized, is-store, word-owner, word-key, at-word}
 use Rattle.store.proofs.FindLaws.{absent-appended}
+use Rattle.store_read.proofs.ReadLaws.{live-below, next-number}
 
 -- Words ---------------------------------------------------------------------------------
 
@@ -136,16 +142,30 @@ object-made w o x l f =
     let a : wordAt (sets w (objectAt o) us) (objectAt o) ≡ headOf x = rw e at (sets-in us w (objectAt o) 0 l (omega arith)) in
     rw (object-sets w o x, a, sets-in us w (objectAt o) 1 l (omega arith), sets-in us w (objectAt o) 2 l (omega arith)) (object-again x f)
 
--- the objects of words, and their properties
-abbrev objectsOf : List ℕ → List Object
-objectsOf w = tabulate (objectIn w) 0 (wordAt w 0)
+-- The store by its words ------------------------------------------------------------------
+
+-- the objects of words, their released numbers and their properties
+abbrev objectsOf : List ℕ → List (Option Object)
+objectsOf w = tabulate (slotIn w) 0 32
+
+abbrev releasedOf : List ℕ → List ℕ
+releasedOf w = tabulate (releasedIn w) 0 (wordAt w 4)
 
 abbrev propertiesOf : List ℕ → List Entry
 propertiesOf w = tabulate (entryIn w) 0 (wordAt w 1)
 
-objects-same : (u w : List ℕ) → wordAt w 0 ≤ 32 → wordAt u 0 ≡ wordAt w 0 → ((m : ℕ) → 3 ≤ m → m < 99 → wordAt u m ≡ wordAt w m) → objectsOf u ≡ objectsOf w
-objects-same u w l e h =
-    rw e (tabulate-ext (objectIn u) (objectIn w) 0 (wordAt w 0) (λ o a b. object-same u w o (λ m t. h _ (omega arith) (omega arith))))
+slot-same : (u w : List ℕ) (o : ℕ) → bit (wordAt u 3) o ≡ bit (wordAt w 3) o → ((m : ℕ) → m < 3 → wordAt u (objectAt o + m) ≡ wordAt w (objectAt o + m)) → slotIn u o ≡ slotIn w o
+unfolding slotIn
+slot-same u w o e h = rw (e, object-same u w o h)
+
+objects-same : (u w : List ℕ) → wordAt u 3 ≡ wordAt w 3 → ((m : ℕ) → 38 ≤ m → m < 134 → wordAt u m ≡ wordAt w m) → objectsOf u ≡ objectsOf w
+objects-same u w e h =
+    tabulate-ext (slotIn u) (slotIn w) 0 32 (λ o a b. slot-same u w o (ap (λ (n : ℕ). bit n o) e) (λ m t. h _ (omega arith) (omega arith)))
+
+released-same : (u w : List ℕ) → wordAt u 4 ≡ wordAt w 4 → wordAt u 5 ≡ wordAt w 5 → ((m : ℕ) → 6 ≤ m → m < 38 → wordAt u m ≡ wordAt w m) → releasedOf u ≡ releasedOf w
+unfolding releasedIn
+released-same u w e f h =
+    rw e (tabulate-ext (releasedIn u) (releasedIn w) 0 (wordAt w 4) (λ i a b. rw f (ap (λ (n : ℕ). n % 32) (h (6 + (wordAt w 5 + i) % 32) (omega arith) (omega arith)))))
 
 pub entry-same : (u w : List ℕ) (i j : ℕ) → wordAt u (keyAt i) ≡ wordAt w (keyAt j) → ((m : ℕ) → m < 5 → wordAt u (rowAt i + m) ≡ wordAt w (rowAt j + m))
     → entryIn u i ≡ entryIn w j
@@ -156,84 +176,375 @@ entry-same u w i j k h =
     let d : wordAt u (rowAt i) ≡ wordAt w (rowAt j) = rw (a, b) at (h 0 (omega arith)) in
     rw (k, d, h 1 (omega arith), h 2 (omega arith), h 3 (omega arith), h 4 (omega arith))
 
-properties-same : (u w : List ℕ) → wordAt u 1 ≡ wordAt w 1 → ((m : ℕ) → 99 ≤ m → wordAt u m ≡ wordAt w m) → propertiesOf u ≡ propertiesOf w
+properties-same : (u w : List ℕ) → wordAt u 1 ≡ wordAt w 1 → ((m : ℕ) → 134 ≤ m → wordAt u m ≡ wordAt w m) → propertiesOf u ≡ propertiesOf w
 properties-same u w e h =
     rw e (tabulate-ext (entryIn u) (entryIn w) 0 (wordAt w 1) (λ i a b. entry-same u w i i (h _ (omega arith)) (λ m t. h _ (omega arith))))
 
-store-by : (w : List ℕ) (σ : Store) → objectsOf w ≡ σ .objects → wordAt w 2 ≡ σ .callable → propertiesOf w ≡ σ .properties → storeOf w ≡ σ
+store-by : (w : List ℕ) (σ : Store) → objectsOf w ≡ σ .objects → wordAt w 0 ≡ σ .made → releasedOf w ≡ σ .released → wordAt w 2 ≡ σ .callable → propertiesOf w ≡ σ .properties → storeOf w ≡ σ
 unfolding storeOf
-store-by w σ a m b = rw (a, m, b)
+store-by w σ a b c d e = rw (a, b, c, d, e)
+
+-- words whose properties alone are others
+module _ (u w : List ℕ) (h : (m : ℕ) → m < 134 → (m ≡ 1 → ⊥) → wordAt u m ≡ wordAt w m) where
+  store-properties : (es : List Entry) → propertiesOf u ≡ es → storeOf u ≡ withProperties (storeOf w) es
+  unfolding storeOf
+  store-properties es e =
+      let at : (m : ℕ) → m < 134 → 1 < m → wordAt u m ≡ wordAt w m = λ m l t. h m l (λ q. omega arith) in
+      store-by u _
+      (objects-same u w (at 3 (omega arith) (omega arith)) (λ m a b. at m b (omega arith)))
+      (h 0 (omega arith) (λ q. omega arith))
+      (released-same u w (at 4 (omega arith) (omega arith)) (at 5 (omega arith) (omega arith)) (λ m a b. at m (omega arith) (omega arith)))
+      (at 2 (omega arith) (omega arith))
+      e
+
+  sized-properties : Sized w → length u ≡ 1670 → wordAt u 1 ≤ 256 → Sized u
+  sized-properties s l n = record {
+    size = l;
+    made = rw (h 0 (omega arith) (λ q. omega arith)) (s .made);
+    properties = n;
+    live = rw (h 3 (omega arith) (λ q. omega arith)) (s .live);
+    released = rw (h 4 (omega arith) (λ q. omega arith)) (s .released);
+  }
+
+-- Objects written -----------------------------------------------------------------------
+
+-- the objects with one more or less
+objects-set : (u w : List ℕ) (o : ℕ) (x : Option Object) → o < 32 → slotIn u o ≡ x
+    → ((j : ℕ) → (j ≡ o → ⊥) → bit (wordAt u 3) j ≡ bit (wordAt w 3) j) → ((j m : ℕ) → j < 32 → (j ≡ o → ⊥) → m < 3 → wordAt u (objectAt j + m) ≡ wordAt w (objectAt j + m))
+    → objectsOf u ≡ set (objectsOf w) o x
+objects-set u w o x h e f g =
+    tabulate-set (slotIn u) (slotIn w) 32 o h (λ j l r. slot-same u w j (f j r) (λ m t. g j m l r t))
+    ∙ ap (set (objectsOf w) o) e
+
+bit-set : (m n : ℕ) (b : Bool) → bit (withBit m n b) n ≡ b
+bit-set m n b = bit-with m n n b ∙ rw (eq-eqb n n refl)
+
+bit-kept : (m n j : ℕ) (b : Bool) → (j ≡ n → ⊥) → bit (withBit m n b) j ≡ bit m j
+bit-kept m n j b h = bit-with m n j b ∙ rw (ne-eqb n j (λ e. h (sym e)))
 
 module _ (w : List ℕ) (s : Sized w) (o : ℕ) (x : Object) where
-  module _ (h : o < wordAt w 0) where
-    pub sized-object : Sized (withObject w o x)
-    sized-object = record {
-      size = length-object w o x ∙ s .size;
-      objects = rw (object-out w o x 0 (λ m t e. omega arith)) (s .objects);
-      properties = rw (object-out w o x 1 (λ m t e. omega arith)) (s .properties);
+  out : (j : ℕ) → j < 38 → wordAt (withObject w o x) j ≡ wordAt w j
+  out j l = object-out w o x j (λ m t e. omega arith)
+
+  beyond : o < 32 → (j : ℕ) → 134 ≤ j → wordAt (withObject w o x) j ≡ wordAt w j
+  beyond h j l = object-out w o x j (λ m t e. omega arith)
+
+  apart : (j m : ℕ) → (j ≡ o → ⊥) → m < 3 → wordAt (withObject w o x) (objectAt j + m) ≡ wordAt w (objectAt j + m)
+  apart j m r t = object-out w o x _ (λ n l e. r (omega arith))
+
+  made-object : o < 32 → FitsObject x → objectIn (withObject w o x) o ≡ x
+  made-object h f = object-made w o x (omega (arith, s .size)) f
+
+  pub sized-object : Sized (withObject w o x)
+  sized-object = record {
+    size = length-object w o x ∙ s .size;
+    made = rw (out 0 (omega arith)) (s .made);
+    properties = rw (out 1 (omega arith)) (s .properties);
+    live = rw (out 3 (omega arith)) (s .live);
+    released = rw (out 4 (omega arith)) (s .released);
+  }
+
+  pub store-object : bit (wordAt w 3) o ≡ true → FitsObject x → storeOf (withObject w o x) ≡ put (storeOf w) o x
+  unfolding put storeOf slotIn
+  store-object b f =
+      let h = live-below w s o b in
+      let u = withObject w o x in
+      let live : wordAt u 3 ≡ wordAt w 3 = out 3 (omega arith) in
+      store-by u _
+      (objects-set u w o (some x) h (rw (live, b, made-object h f)) (λ j r. ap (λ (n : ℕ). bit n j) live) (λ j m l r t. apart j m r t))
+      (out 0 (omega arith))
+      (released-same u w (out 4 (omega arith)) (out 5 (omega arith)) (λ m a b. out m b))
+      (out 2 (omega arith))
+      (properties-same u w (out 1 (omega arith)) (beyond h))
+
+  -- made live, and callable or not
+  abbrev afterLive : Bool → Store → ℕ → Store
+  afterLive b σ n = record { objects = set (σ .objects) n (some x); made = σ .made; released = σ .released; callable = withBit (σ .callable) n b; properties = σ .properties }
+
+  module _ (b : Bool) where
+    abbrev marked : List ℕ
+    marked = set (withObject w o x) 2 (withBit (wordAt w 2) o b)
+
+    length-live : length (withLiveObject w o x b) ≡ length w
+    unfolding withLiveObject
+    length-live = length-set marked 3 (withBit (wordAt w 3) o true) ∙ length-set (withObject w o x) 2 (withBit (wordAt w 2) o b) ∙ length-object w o x
+
+    live-out : (j : ℕ) → (j ≡ 2 → ⊥) → (j ≡ 3 → ⊥) → wordAt (withLiveObject w o x b) j ≡ wordAt (withObject w o x) j
+    unfolding withLiveObject
+    live-out j y z = other marked 3 j (withBit (wordAt w 3) o true) z ∙ other (withObject w o x) 2 j (withBit (wordAt w 2) o b) y
+
+    live-head : (j : ℕ) → j < 38 → (j ≡ 2 → ⊥) → (j ≡ 3 → ⊥) → wordAt (withLiveObject w o x b) j ≡ wordAt w j
+    live-head j l y z = live-out j y z ∙ out j l
+
+    live-callable : wordAt (withLiveObject w o x b) 2 ≡ withBit (wordAt w 2) o b
+    unfolding withLiveObject
+    live-callable =
+        other marked 3 2 (withBit (wordAt w 3) o true) (λ e. omega arith)
+        ∙ same (withObject w o x) 2 (withBit (wordAt w 2) o b) (omega (arith, length-object w o x, s .size))
+
+    live-marks : wordAt (withLiveObject w o x b) 3 ≡ withBit (wordAt w 3) o true
+    unfolding withLiveObject
+    live-marks =
+        same marked 3 (withBit (wordAt w 3) o true)
+        (omega (arith, length-set (withObject w o x) 2 (withBit (wordAt w 2) o b), length-object w o x, s .size))
+
+    pub sized-live : o < 32 → Sized (withLiveObject w o x b)
+    sized-live h = record {
+      size = length-live ∙ s .size;
+      made = rw (live-head 0 (omega arith) (λ e. omega arith) (λ e. omega arith)) (s .made);
+      properties = rw (live-head 1 (omega arith) (λ e. omega arith) (λ e. omega arith)) (s .properties);
+      live = rw live-marks (with-below (wordAt w 3) o 32 true h (s .live));
+      released = rw (live-head 4 (omega arith) (λ e. omega arith) (λ e. omega arith)) (s .released);
     }
 
-    pub store-object : FitsObject x → storeOf (withObject w o x) ≡ put (storeOf w) o x
-    unfolding put storeOf
-    store-object f =
-        let u = withObject w o x in
-        let z : wordAt u 0 ≡ wordAt w 0 = object-out w o x 0 (λ m t e. omega arith) in
-        let made : objectIn u o ≡ x = object-made w o x (omega (arith, s .size, s .objects)) f in
-        let a : objectsOf u ≡ set (objectsOf w) o x =
-        rw z (tabulate-set (objectIn u) (objectIn w) (wordAt w 0) o h
-        (λ j q r. object-same u w j (λ m t. object-out w o x _ (λ n l e. r (omega arith))))
-        ∙ ap (set (objectsOf w) o) made) in
-        let b : propertiesOf u ≡ propertiesOf w =
-        properties-same u w (object-out w o x 1 (λ m t e. omega arith)) (λ m l. object-out w o x m (λ n t e. omega (arith, s .objects))) in
-        store-by u _ a (object-out w o x 2 (λ m t e. omega arith)) b
+    objects-live : o < 32 → FitsObject x → objectsOf (withLiveObject w o x b) ≡ set (objectsOf w) o (some x)
+    unfolding slotIn
+    objects-live h f =
+        let u = withLiveObject w o x b in
+        let made : objectIn u o ≡ x = object-same u (withObject w o x) o (λ m t. live-out _ (λ e. omega arith) (λ e. omega arith)) ∙ made-object h f in
+        objects-set u w o (some x) h
+        (rw (live-marks, bit-set (wordAt w 3) o true, made))
+        (λ j r. ap (λ (n : ℕ). bit n j) live-marks ∙ bit-kept (wordAt w 3) o j true r)
+        (λ j m l r t. live-out _ (λ e. omega arith) (λ e. omega arith) ∙ apart j m r t)
 
--- the words with the next object and its mark
-abbrev markedBy : List ℕ → Object → Bool → List ℕ
-markedBy w x b = set (withObject w (wordAt w 0) x) 2 (marked (wordAt w 2) (wordAt w 0) b)
+    released-live : releasedOf (withLiveObject w o x b) ≡ releasedOf w
+    released-live =
+        released-same (withLiveObject w o x b) w
+        (live-head 4 (omega arith) (λ e. omega arith) (λ e. omega arith))
+        (live-head 5 (omega arith) (λ e. omega arith) (λ e. omega arith))
+        (λ m k l. live-head m l (λ e. omega arith) (λ e. omega arith))
 
-pub length-marked : (w : List ℕ) (x : Object) (b : Bool) → length (markedBy w x b) ≡ length w
-length-marked w x b = length-set (withObject w (wordAt w 0) x) 2 (marked (wordAt w 2) (wordAt w 0) b) ∙ length-object w (wordAt w 0) x
+    properties-live : o < 32 → propertiesOf (withLiveObject w o x b) ≡ propertiesOf w
+    properties-live h =
+        properties-same (withLiveObject w o x b) w
+        (live-head 1 (omega arith) (λ e. omega arith) (λ e. omega arith))
+        (λ m l. live-out m (λ e. omega arith) (λ e. omega arith) ∙ beyond h m l)
 
-module _ (w : List ℕ) (s : Sized w) (x : Object) (b : Bool) (h : wordAt w 0 < 32) where
-  made-out : (j : ℕ) → (j ≡ 0 → ⊥) → (j ≡ 2 → ⊥) → wordAt (withNewObject w x b) j ≡ wordAt (withObject w (wordAt w 0) x) j
-  unfolding withNewObject
-  made-out j z y = other (markedBy w x b) 0 j (suc (wordAt w 0)) z ∙ other (withObject w (wordAt w 0) x) 2 j (marked (wordAt w 2) (wordAt w 0) b) y
+    pub store-live : o < 32 → FitsObject x → storeOf (withLiveObject w o x b) ≡ afterLive b (storeOf w) o
+    unfolding storeOf
+    store-live h f =
+        store-by (withLiveObject w o x b) _ (objects-live h f) (live-head 0 (omega arith) (λ e. omega arith) (λ e. omega arith)) released-live live-callable (properties-live h)
 
-  out : (j : ℕ) → (j ≡ 0 → ⊥) → (j ≡ 2 → ⊥) → ((m : ℕ) → m < 3 → j ≡ objectAt (wordAt w 0) + m → ⊥) → wordAt (withNewObject w x b) j ≡ wordAt w j
-  out j z y r = made-out j z y ∙ object-out w (wordAt w 0) x j r
+-- Numbers -------------------------------------------------------------------------------
 
-  count : wordAt (withNewObject w x b) 0 ≡ suc (wordAt w 0)
-  unfolding withNewObject
-  count = same (markedBy w x b) 0 (suc (wordAt w 0)) (omega (arith, length-marked w x b, s .size))
+-- a table read from its second on
+tabulate-next : (f g : ℕ → ℕ) (i n : ℕ) → ((j : ℕ) → f j ≡ g (suc j)) → tabulate f i n ≡ tabulate g (suc i) n
+unfolding tabulate
+tabulate-next f g i zero h = refl
+tabulate-next f g i (suc n) h = rw (h i, tabulate-next f g (suc i) n h)
 
-  marks : wordAt (withNewObject w x b) 2 ≡ marked (wordAt w 2) (wordAt w 0) b
-  unfolding withNewObject
-  marks =
-      other (markedBy w x b) 0 2 (suc (wordAt w 0)) (λ e. omega arith)
-      ∙ same (withObject w (wordAt w 0) x) 2 (marked (wordAt w 2) (wordAt w 0) b) (omega (arith, length-object w (wordAt w 0) x, s .size))
+rest-tabulate : (f : ℕ → ℕ) (n : ℕ) → rest (tabulate f 0 (suc n)) ≡ tabulate f 1 n
+unfolding tabulate
+rest-tabulate f n = refl
+
+-- the next number is taken
+abbrev afterTaken : Store → Store
+afterTaken σ = record { objects = σ .objects; made = madeWith (σ .made) (σ .released); released = rest (σ .released); callable = σ .callable; properties = σ .properties }
+
+module _ (w : List ℕ) (s : Sized w) where
+  none-released : wordAt w 4 ≡ 0 → releasedOf w ≡ []
+  unfolding tabulate
+  none-released e = rw e
+
+  some-released : (wordAt w 4 ≡ 0 → ⊥) → tabulate (releasedIn w) 0 (suc (wordAt w 4 - 1)) ≡ releasedOf w
+  some-released h = let e : suc (wordAt w 4 - 1) ≡ wordAt w 4 = above (wordAt w 4) h in rw e
+    where
+      above : (n : ℕ) → (n ≡ 0 → ⊥) → suc (n - 1) ≡ n
+      above zero h = absurd (h refl)
+      above (suc n) h = omega arith
+
+  made-kept : (wordAt w 4 ≡ 0 → ⊥) → madeWith (wordAt w 0) (releasedOf w) ≡ wordAt w 0
+  unfolding tabulate
+  made-kept h = ap (madeWith (wordAt w 0)) (sym (some-released h))
+
+  abbrev counted : List ℕ
+  counted = set w 0 (suc (wordAt w 0))
+
+  abbrev turned : List ℕ
+  turned = set w 5 ((wordAt w 5 + 1) % 32)
+
+  abbrev advanced : List ℕ
+  advanced = set turned 4 (wordAt w 4 - 1)
+
+  advanced-out : (j : ℕ) → (j ≡ 4 → ⊥) → (j ≡ 5 → ⊥) → wordAt advanced j ≡ wordAt w j
+  advanced-out j y z = other turned 4 j (wordAt w 4 - 1) y ∙ other w 5 j ((wordAt w 5 + 1) % 32) z
+
+  fewer : wordAt advanced 4 ≡ wordAt w 4 - 1
+  fewer = same turned 4 (wordAt w 4 - 1) (omega (arith, length-set w 5 ((wordAt w 5 + 1) % 32), s .size))
+
+  next-first : wordAt advanced 5 ≡ (wordAt w 5 + 1) % 32
+  next-first = other turned 4 5 (wordAt w 4 - 1) (λ e. omega arith) ∙ same w 5 ((wordAt w 5 + 1) % 32) (omega (arith, s .size))
+
+  released-advanced : (wordAt w 4 ≡ 0 → ⊥) → releasedOf advanced ≡ rest (releasedOf w)
+  unfolding releasedIn
+  released-advanced h =
+      let each : (i : ℕ) → releasedIn advanced i ≡ releasedIn w (suc i) = λ i.
+      let p : ((wordAt w 5 + 1) % 32 + i) % 32 ≡ (wordAt w 5 + suc i) % 32 = omega arith in
+      rw (next-first, p) (ap (λ (n : ℕ). n % 32) (advanced-out (6 + (wordAt w 5 + suc i) % 32) (λ e. omega arith) (λ e. omega arith))) in
+      rw fewer (tabulate-next (releasedIn advanced) (releasedIn w) 0 (wordAt w 4 - 1) each)
+      ∙ (sym (rest-tabulate (releasedIn w) (wordAt w 4 - 1)) ∙ ap rest (some-released h))
+
+  store-counted : wordAt w 4 ≡ 0 → storeOf counted ≡ afterTaken (storeOf w)
+  unfolding storeOf
+  store-counted e =
+      let u = counted in
+      let at : (m : ℕ) → 0 < m → wordAt u m ≡ wordAt w m = λ m l. other w 0 m (suc (wordAt w 0)) (λ q. omega arith) in
+      let z = none-released e in
+      store-by u _
+      (objects-same u w (at 3 (omega arith)) (λ m a b. at m (omega arith)))
+      (same w 0 (suc (wordAt w 0)) (omega (arith, s .size)) ∙ ap (madeWith (wordAt w 0)) (sym z))
+      (released-same u w (at 4 (omega arith)) (at 5 (omega arith)) (λ m a b. at m (omega arith)) ∙ (z ∙ ap rest (sym z)))
+      (at 2 (omega arith))
+      (properties-same u w (at 1 (omega arith)) (λ m l. at m (omega arith)))
+
+  store-advanced : (wordAt w 4 ≡ 0 → ⊥) → storeOf advanced ≡ afterTaken (storeOf w)
+  unfolding storeOf
+  store-advanced h =
+      let u = advanced in
+      let at : (m : ℕ) → (m ≡ 4 → ⊥) → (m ≡ 5 → ⊥) → wordAt u m ≡ wordAt w m = advanced-out in
+      store-by u _
+      (objects-same u w (at 3 (λ e. omega arith) (λ e. omega arith)) (λ m a b. at m (λ e. omega arith) (λ e. omega arith)))
+      (at 0 (λ e. omega arith) (λ e. omega arith) ∙ sym (made-kept h))
+      (released-advanced h)
+      (at 2 (λ e. omega arith) (λ e. omega arith))
+      (properties-same u w (at 1 (λ e. omega arith) (λ e. omega arith)) (λ m l. at m (λ e. omega arith) (λ e. omega arith)))
+
+  pub store-taken : storeOf (withNumberTaken w) ≡ afterTaken (storeOf w)
+  unfolding withNumberTaken
+  store-taken = go (eqb (wordAt w 4) 0) refl
+    where
+      go : (t : Bool) → eqb (wordAt w 4) 0 ≡ t → storeOf (pick t counted advanced) ≡ afterTaken (storeOf w)
+      go true e = store-counted (eqb-true _ _ e)
+      go false e = store-advanced (eqb-false _ _ e)
+
+  pub sized-taken : (wordAt w 4 ≡ 0 → wordAt w 0 < 32) → Sized (withNumberTaken w)
+  unfolding withNumberTaken
+  sized-taken h = go (eqb (wordAt w 4) 0) refl
+    where
+      go : (t : Bool) → eqb (wordAt w 4) 0 ≡ t → Sized (pick t counted advanced)
+      go true e = record {
+        size = length-set w 0 (suc (wordAt w 0)) ∙ s .size;
+        made = rw (same w 0 (suc (wordAt w 0)) (omega (arith, s .size))) (h (eqb-true _ _ e));
+        properties = rw (other w 0 1 (suc (wordAt w 0)) (λ q. omega arith)) (s .properties);
+        live = rw (other w 0 3 (suc (wordAt w 0)) (λ q. omega arith)) (s .live);
+        released = rw (other w 0 4 (suc (wordAt w 0)) (λ q. omega arith)) (s .released);
+      }
+      go false e = record {
+        size = length-set turned 4 (wordAt w 4 - 1) ∙ length-set w 5 ((wordAt w 5 + 1) % 32) ∙ s .size;
+        made = rw (advanced-out 0 (λ q. omega arith) (λ q. omega arith)) (s .made);
+        properties = rw (advanced-out 1 (λ q. omega arith) (λ q. omega arith)) (s .properties);
+        live = rw (advanced-out 3 (λ q. omega arith) (λ q. omega arith)) (s .live);
+        released = rw fewer (omega (arith, s .released));
+      }
+
+-- a number is released
+abbrev afterReleased : ℕ → Store → Store
+afterReleased o σ = record { objects = σ .objects; made = σ .made; released = queued (σ .released) o; callable = σ .callable; properties = σ .properties }
+
+module _ (w : List ℕ) (s : Sized w) (o : ℕ) (h : o < 32) where
+  abbrev queuedBy : List ℕ
+  queuedBy = set w (queueAt (placeOf w (wordAt w 4))) o
+
+  abbrev enqueued : List ℕ
+  enqueued = set queuedBy 4 (suc (wordAt w 4))
+
+  queued-out : (j : ℕ) → (j ≡ 4 → ⊥) → (j ≡ queueAt (placeOf w (wordAt w 4)) → ⊥) → wordAt enqueued j ≡ wordAt w j
+  queued-out j y z = other queuedBy 4 j (suc (wordAt w 4)) y ∙ other w (queueAt (placeOf w (wordAt w 4))) j o z
+
+  more : wordAt enqueued 4 ≡ suc (wordAt w 4)
+  more = same queuedBy 4 (suc (wordAt w 4)) (omega (arith, length-set w (queueAt (placeOf w (wordAt w 4))) o, s .size))
+
+  last-queued : wordAt enqueued (queueAt (placeOf w (wordAt w 4))) ≡ o
+  last-queued =
+      other queuedBy 4 (queueAt (placeOf w (wordAt w 4))) (suc (wordAt w 4)) (λ e. omega arith)
+      ∙ same w (queueAt (placeOf w (wordAt w 4))) o (omega (arith, s .size))
+
+  released-queued : wordAt w 4 < 32 → releasedOf enqueued ≡ releasedOf w ++ (o ∷ [])
+  unfolding releasedIn
+  released-queued l =
+      let u = enqueued in
+      let first : wordAt u 5 ≡ wordAt w 5 = queued-out 5 (λ e. omega arith) (λ e. omega arith) in
+      let before : tabulate (releasedIn u) 0 (wordAt w 4) ≡ releasedOf w =
+      tabulate-ext (releasedIn u) (releasedIn w) 0 (wordAt w 4) (λ i a b.
+      rw first (ap (λ (n : ℕ). n % 32) (queued-out (6 + (wordAt w 5 + i) % 32) (λ e. omega arith) (λ e. omega arith)))) in
+      let last : releasedIn u (wordAt w 4) ≡ o = rw first (ap (λ (n : ℕ). n % 32) last-queued ∙ mod-eq-of-lt h) in
+      rw (more, one-more (releasedIn u) (wordAt w 4), before, last)
+
+  store-enqueued : wordAt w 4 < 32 → storeOf enqueued ≡ afterReleased o (storeOf w)
+  unfolding storeOf
+  store-enqueued l =
+      let u = enqueued in
+      let t : ltb (length (releasedOf w)) 32 ≡ true = lt-ltb (length (releasedOf w)) 32 (rw (length-tabulate (releasedIn w) 0 (wordAt w 4)) l) in
+      store-by u _
+      (objects-same u w (queued-out 3 (λ e. omega arith) (λ e. omega arith)) (λ m a b. queued-out m (λ e. omega arith) (λ e. omega arith)))
+      (queued-out 0 (λ e. omega arith) (λ e. omega arith))
+      (released-queued l ∙ rw t)
+      (queued-out 2 (λ e. omega arith) (λ e. omega arith))
+      (properties-same u w (queued-out 1 (λ e. omega arith) (λ e. omega arith)) (λ m l. queued-out m (λ e. omega arith) (λ e. omega arith)))
+
+  store-full : 32 ≤ wordAt w 4 → storeOf w ≡ afterReleased o (storeOf w)
+  unfolding storeOf
+  store-full l =
+      let t : ltb (length (releasedOf w)) 32 ≡ false = le-ltb (length (releasedOf w)) 32 (rw (length-tabulate (releasedIn w) 0 (wordAt w 4)) l) in
+      rw t
+
+  pub store-released : storeOf (withNumberReleased w o) ≡ afterReleased o (storeOf w)
+  unfolding withNumberReleased
+  store-released = go (ltb (wordAt w 4) 32) refl
+    where
+      go : (t : Bool) → ltb (wordAt w 4) 32 ≡ t → storeOf (pick t enqueued w) ≡ afterReleased o (storeOf w)
+      go true e = store-enqueued (ltb-true _ _ e)
+      go false e = store-full (ltb-false _ _ e)
+
+  pub sized-released : Sized (withNumberReleased w o)
+  unfolding withNumberReleased
+  sized-released = go (ltb (wordAt w 4) 32) refl
+    where
+      go : (t : Bool) → ltb (wordAt w 4) 32 ≡ t → Sized (pick t enqueued w)
+      go true e = record {
+        size = length-set queuedBy 4 (suc (wordAt w 4)) ∙ length-set w (queueAt (placeOf w (wordAt w 4))) o ∙ s .size;
+        made = rw (queued-out 0 (λ q. omega arith) (λ q. omega arith)) (s .made);
+        properties = rw (queued-out 1 (λ q. omega arith) (λ q. omega arith)) (s .properties);
+        live = rw (queued-out 3 (λ q. omega arith) (λ q. omega arith)) (s .live);
+        released = rw more (ltb-true _ _ e);
+      }
+      go false e = s
+
+-- A new object --------------------------------------------------------------------------
+
+-- where one more object may be live, the next number is one of the 32
+pub next-below : (w : List ℕ) → liveCount (storeOf w) < 32 → nextIn w < 32
+unfolding nextIn storeOf releasedIn
+next-below w h = go (eqb (wordAt w 4) 0) refl
+  where
+    go : (t : Bool) → eqb (wordAt w 4) 0 ≡ t → pick t (wordAt w 0) (releasedIn w 0) < 32
+    go true e = omega (arith, h, eqb-true (wordAt w 4) 0 e, length-tabulate (releasedIn w) 0 (wordAt w 4))
+    go false e = omega arith
+
+pub unused-below : (w : List ℕ) → liveCount (storeOf w) < 32 → wordAt w 4 ≡ 0 → wordAt w 0 < 32
+unfolding storeOf
+unused-below w h e = omega (arith, h, length-tabulate (releasedIn w) 0 (wordAt w 4))
+
+module _ (w : List ℕ) (s : Sized w) (x : Object) (b : Bool) (h : liveCount (storeOf w) < 32) where
+  abbrev lived : List ℕ
+  lived = withLiveObject w (nextIn w) x b
+
+  lived-head : (j : ℕ) → j < 38 → (j ≡ 2 → ⊥) → (j ≡ 3 → ⊥) → wordAt lived j ≡ wordAt w j
+  lived-head = live-head w s (nextIn w) x b
 
   pub sized-new-object : Sized (withNewObject w x b)
   unfolding withNewObject
-  sized-new-object = record {
-    size = length-set (markedBy w x b) 0 (suc (wordAt w 0)) ∙ length-marked w x b ∙ s .size;
-    objects = rw count (omega arith);
-    properties = rw (out 1 (λ e. omega arith) (λ e. omega arith) (λ m t e. omega arith)) (s .properties);
-  }
+  sized-new-object =
+      sized-taken lived (sized-live w s (nextIn w) x b (next-below w h)) (λ e.
+      rw (lived-head 0 (omega arith) (λ q. omega arith) (λ q. omega arith))
+      (unused-below w h (sym (lived-head 4 (omega arith) (λ q. omega arith) (λ q. omega arith)) ∙ e)))
 
   pub store-new-object : FitsObject x → storeOf (withNewObject w x b) ≡ add (storeOf w) x b
-  unfolding add storeOf
+  unfolding withNewObject add
   store-new-object f =
-      let n = wordAt w 0 in
-      let u = withNewObject w x b in
-      let made : objectIn u n ≡ x =
-      object-same u (withObject w n x) n (λ m t. made-out _ (λ e. omega arith) (λ e. omega arith)) ∙ object-made w n x (omega (arith, s .size)) f in
-      let before : tabulate (objectIn u) 0 n ≡ tabulate (objectIn w) 0 n =
-      tabulate-ext (objectIn u) (objectIn w) 0 n (λ j p q. object-same u w j (λ m t. out _ (λ e. omega arith) (λ e. omega arith) (λ k l e. omega arith))) in
-      let a : objectsOf u ≡ objectsOf w ++ (x ∷ []) = rw (count, one-more (objectIn u) n, before, made) in
-      let m : wordAt u 2 ≡ marked (wordAt w 2) (length (objectsOf w)) b = rw (length-tabulate (objectIn w) 0 n) marks in
-      let c : propertiesOf u ≡ propertiesOf w =
-      properties-same u w (out 1 (λ e. omega arith) (λ e. omega arith) (λ m t e. omega arith)) (λ m l. out m (λ e. omega arith) (λ e. omega arith) (λ k t e. omega arith)) in
-      store-by u _ a m c
+      store-taken lived (sized-live w s (nextIn w) x b (next-below w h))
+      ∙ ap afterTaken (store-live w s (nextIn w) x b (next-below w h) f)
+      ∙ ap (λ (n : ℕ). afterTaken (afterLive w s (nextIn w) x b (storeOf w) n)) (next-number w)
 
 -- Properties ----------------------------------------------------------------------------
 
@@ -305,15 +616,13 @@ pub replaced : (f : ℕ → Entry) (n i : ℕ) (p : Property) → i < n → repl
 replaced f n i p h = let e : 0 + i ≡ i = omega arith in rw e at (replace-from f 0 n i p h)
 
 module _ (w : List ℕ) (s : Sized w) (i : ℕ) (p : Property) (h : i < wordAt w 1) where
-  low : (j : ℕ) → j < 355 → wordAt (withRow w i p) j ≡ wordAt w j
+  low : (j : ℕ) → j < 390 → wordAt (withRow w i p) j ≡ wordAt w j
   low j l = row-out w i p j (λ m t e. omega arith)
 
   pub sized-row : Sized (withRow w i p)
-  sized-row = record {
-    size = length-row w i p ∙ s .size;
-    objects = rw (low 0 (omega arith)) (s .objects);
-    properties = rw (low 1 (omega arith)) (s .properties);
-  }
+  sized-row =
+      sized-properties (withRow w i p) w (λ m l q. low m (omega arith)) s (length-row w i p ∙ s .size)
+      (rw (low 1 (omega arith)) (s .properties))
 
   pub properties-row : FitsProperty p → propertiesOf (withRow w i p) ≡ set (propertiesOf w) i (entry (entryIn w i .owner) (entryIn w i .key) p)
   properties-row f =
@@ -325,10 +634,7 @@ module _ (w : List ℕ) (s : Sized w) (i : ℕ) (p : Property) (h : i < wordAt w
   pub store-row : FitsProperty p → storeOf (withRow w i p) ≡ withChange (storeOf w) i p
   unfolding withChange storeOf
   store-row f =
-      let u = withRow w i p in
-      let a : objectsOf u ≡ objectsOf w = objects-same u w (s .objects) (low 0 (omega arith)) (λ m t l. low m (omega arith)) in
-      let b : propertiesOf u ≡ replaceAt (propertiesOf w) i p = properties-row f ∙ sym (replaced (entryIn w) (wordAt w 1) i p h) in
-      store-by u _ a (low 2 (omega arith)) b
+      store-properties (withRow w i p) w (λ m l q. low m (omega arith)) _ (properties-row f ∙ sym (replaced (entryIn w) (wordAt w 1) i p h))
 
 -- the words with the next key word
 abbrev keyedBy : List ℕ → ℕ → PropertyKey → List ℕ
@@ -343,6 +649,9 @@ module _ (w : List ℕ) (s : Sized w) (o : ℕ) (k : PropertyKey) (p : Property)
       → wordAt (withNewRow w o k p) j ≡ wordAt w j
   new-out j z y r = row-kept j z ∙ row-out (keyedBy w o k) (wordAt w 1) p j r ∙ other w (keyAt (wordAt w 1)) j (keyWord o k) y
 
+  new-head : (m : ℕ) → m < 134 → (m ≡ 1 → ⊥) → wordAt (withNewRow w o k p) m ≡ wordAt w m
+  new-head m l z = new-out m z (λ e. omega arith) (λ q r e. omega arith)
+
   new-count : wordAt (withNewRow w o k p) 1 ≡ suc (wordAt w 1)
   unfolding withNewRow
   new-count =
@@ -351,11 +660,10 @@ module _ (w : List ℕ) (s : Sized w) (o : ℕ) (k : PropertyKey) (p : Property)
 
   pub sized-new-row : Sized (withNewRow w o k p)
   unfolding withNewRow
-  sized-new-row = record {
-    size = length-set (withRow (keyedBy w o k) (wordAt w 1) p) 1 (suc (wordAt w 1)) ∙ length-keyed w (wordAt w 1) (keyWord o k) p ∙ s .size;
-    objects = rw (new-out 0 (λ e. omega arith) (λ e. omega arith) (λ m t e. omega arith)) (s .objects);
-    properties = rw new-count (omega arith);
-  }
+  sized-new-row =
+      sized-properties (withNewRow w o k p) w new-head s
+      (length-set (withRow (keyedBy w o k) (wordAt w 1) p) 1 (suc (wordAt w 1)) ∙ length-keyed w (wordAt w 1) (keyWord o k) p ∙ s .size)
+      (rw new-count (omega arith))
 
   entry-keyed : o < 32 → entry (entryIn (keyedBy w o k) (wordAt w 1) .owner) (entryIn (keyedBy w o k) (wordAt w 1) .key) p ≡ entry o k p
   unfolding entryIn
@@ -373,15 +681,12 @@ module _ (w : List ℕ) (s : Sized w) (o : ℕ) (k : PropertyKey) (p : Property)
   store-new-row b f a =
       let u = withNewRow w o k p in
       let n = wordAt w 1 in
-      let x : objectsOf u ≡ objectsOf w =
-      objects-same u w (s .objects) (new-out 0 (λ e. omega arith) (λ e. omega arith) (λ m t e. omega arith))
-      (λ m t l. new-out m (λ e. omega arith) (λ e. omega arith) (λ q r e. omega arith)) in
       let before : tabulate (entryIn u) 0 n ≡ tabulate (entryIn w) 0 n =
       tabulate-ext (entryIn u) (entryIn w) 0 n (λ j t l. entry-same u w j j
       (new-out _ (λ e. omega arith) (λ e. omega arith) (λ q r e. omega arith))
       (λ m r. new-out _ (λ e. omega arith) (λ e. omega arith) (λ q z e. omega arith))) in
       let y : propertiesOf u ≡ propertiesOf w ++ (entry o k p ∷ []) = rw (new-count, one-more (entryIn u) n, before, entry-new b f) in
-      store-by u _ x (new-out 2 (λ e. omega arith) (λ e. omega arith) (λ m t e. omega arith)) (y ∙ sym (absent-appended (propertiesOf w) o k p a))
+      store-properties u w new-head _ (y ∙ sym (absent-appended (propertiesOf w) o k p a))
 
 -- Removal -------------------------------------------------------------------------------
 
@@ -403,7 +708,7 @@ module _ (w : List ℕ) (i j : ℕ) where
   moved-out : (n : ℕ) → (n ≡ keyAt j → ⊥) → ((m : ℕ) → m < 5 → n ≡ rowAt j + m → ⊥) → wordAt (moved w i j) n ≡ wordAt w n
   moved-out n y r = rw moved-sets (sets-out (rowOf w i) (movedKey w i j) (rowAt j) n r ∙ other w (keyAt j) n (wordAt w (keyAt i)) y)
 
-  moved-entry : length w ≡ 1635 → j < 256 → entryIn (moved w i j) j ≡ entryIn w i
+  moved-entry : length w ≡ 1670 → j < 256 → entryIn (moved w i j) j ≡ entryIn w i
   moved-entry l h = entry-same (moved w i j) w j i
       (rw moved-sets (sets-out (rowOf w i) (movedKey w i j) (rowAt j) (keyAt j) (λ m t e. omega arith) ∙ same w (keyAt j) (wordAt w (keyAt i)) (omega arith)))
       at-row
@@ -422,121 +727,173 @@ module _ (w : List ℕ) (i j : ℕ) where
       at-row : (m : ℕ) → m < 5 → wordAt (moved w i j) (rowAt j + m) ≡ wordAt w (rowAt i + m)
       at-row m t = rw moved-sets (sets-in (rowOf w i) (movedKey w i j) (rowAt j) m long t ∙ row-word m t)
 
-pub swept-hit : (n : ℕ) (w : List ℕ) (o : ℕ) (k : PropertyKey) (i j : ℕ) → isAt (entryIn w i) o k ≡ true → swept (suc n) w o k i j ≡ swept n w o k (suc i) j
-unfolding swept
-swept-hit n w o k i j h = rw h
+module _ (test : Entry → Bool) where
+  swept-hit : (n : ℕ) (w : List ℕ) (i j : ℕ) → test (entryIn w i) ≡ true → swept test (suc n) w i j ≡ swept test n w (suc i) j
+  unfolding swept
+  swept-hit n w i j h = rw h
 
-pub swept-miss : (n : ℕ) (w : List ℕ) (o : ℕ) (k : PropertyKey) (i j : ℕ) → isAt (entryIn w i) o k ≡ false
-    → swept (suc n) w o k i j ≡ swept n (moved w i j) o k (suc i) (suc j)
-unfolding swept
-swept-miss n w o k i j h = rw h
+  swept-miss : (n : ℕ) (w : List ℕ) (i j : ℕ) → test (entryIn w i) ≡ false → swept test (suc n) w i j ≡ swept test n (moved w i j) (suc i) (suc j)
+  unfolding swept
+  swept-miss n w i j h = rw h
 
--- u is w with the n properties from i on moved to j, but for the property k of o
-record Swept (n : ℕ) (w : List ℕ) (o : ℕ) (k : PropertyKey) (i j : ℕ) (u : List ℕ) : Type 0 where
-  size : length u ≡ 1635
-  low : (m : ℕ) → m < 99 → (m ≡ 1 → ⊥) → wordAt u m ≡ wordAt w m
-  count : wordAt u 1 ≤ j + n
-  properties : propertiesOf u ≡ tabulate (entryIn w) 0 j ++ remove (tabulate (entryIn w) i n) o k
+  -- u is w with the n properties from i on moved to j, but for those that pass the test
+  record Swept (n : ℕ) (w : List ℕ) (i j : ℕ) (u : List ℕ) : Type 0 where
+    size : length u ≡ 1670
+    low : (m : ℕ) → m < 134 → (m ≡ 1 → ⊥) → wordAt u m ≡ wordAt w m
+    count : wordAt u 1 ≤ j + n
+    properties : propertiesOf u ≡ tabulate (entryIn w) 0 j ++ excluding test (tabulate (entryIn w) i n)
 
-swept-none : (w : List ℕ) (o : ℕ) (k : PropertyKey) (i j : ℕ) → length w ≡ 1635 → Swept 0 w o k i j (set w 1 j)
-unfolding tabulate remove
-swept-none w o k i j l =
-    let u = set w 1 j in
-    let e : wordAt u 1 ≡ j = same w 1 j (omega arith) in
-    let b : tabulate (entryIn u) 0 j ≡ tabulate (entryIn w) 0 j =
-    tabulate-ext (entryIn u) (entryIn w) 0 j (λ m s t. entry-same u w m m (other w 1 _ j (λ q. omega arith)) (λ r q. other w 1 _ j (λ z. omega arith))) in
-    record {
-      size = length-set w 1 j ∙ l;
-      low = λ m t z. other w 1 m j z;
-      count = omega (arith, e);
-      properties = rw (e, b, append-nil);
-    }
+  swept-none : (w : List ℕ) (i j : ℕ) → length w ≡ 1670 → Swept 0 w i j (set w 1 j)
+  unfolding tabulate excluding
+  swept-none w i j l =
+      let u = set w 1 j in
+      let e : wordAt u 1 ≡ j = same w 1 j (omega arith) in
+      let b : tabulate (entryIn u) 0 j ≡ tabulate (entryIn w) 0 j =
+      tabulate-ext (entryIn u) (entryIn w) 0 j (λ m s t. entry-same u w m m (other w 1 _ j (λ q. omega arith)) (λ r q. other w 1 _ j (λ z. omega arith))) in
+      record {
+        size = length-set w 1 j ∙ l;
+        low = λ m t z. other w 1 m j z;
+        count = omega (arith, e);
+        properties = rw (e, b, append-nil);
+      }
 
-removed-hit : (w : List ℕ) (i n o : ℕ) (k : PropertyKey) → isAt (entryIn w i) o k ≡ true
-    → remove (tabulate (entryIn w) i (suc n)) o k ≡ remove (tabulate (entryIn w) (suc i) n) o k
-unfolding tabulate remove
-removed-hit w i n o k t = rw t
+  removed-hit : (w : List ℕ) (i n : ℕ) → test (entryIn w i) ≡ true
+      → excluding test (tabulate (entryIn w) i (suc n)) ≡ excluding test (tabulate (entryIn w) (suc i) n)
+  unfolding tabulate excluding
+  removed-hit w i n t = rw t
 
-removed-miss : (w : List ℕ) (i n o : ℕ) (k : PropertyKey) → isAt (entryIn w i) o k ≡ false
-    → remove (tabulate (entryIn w) i (suc n)) o k ≡ entryIn w i ∷ remove (tabulate (entryIn w) (suc i) n) o k
-unfolding tabulate remove
-removed-miss w i n o k t = rw t
+  removed-miss : (w : List ℕ) (i n : ℕ) → test (entryIn w i) ≡ false
+      → excluding test (tabulate (entryIn w) i (suc n)) ≡ entryIn w i ∷ excluding test (tabulate (entryIn w) (suc i) n)
+  unfolding tabulate excluding
+  removed-miss w i n t = rw t
 
-swept-all : (n : ℕ) (w : List ℕ) (o : ℕ) (k : PropertyKey) (i j : ℕ) → length w ≡ 1635 → j ≤ i → i + n ≤ 256 → Swept n w o k i j (swept n w o k i j)
-unfolding swept
-swept-all zero w o k i j l h b = swept-none w o k i j l
-swept-all (suc n) w o k i j l h b =
-    go (isAt (entryIn w i) o k) refl
-    (swept-all n w o k (suc i) j l (omega arith) (omega arith))
-    (swept-all n (moved w i j) o k (suc i) (suc j) (length-moved w i j ∙ l) (omega arith) (omega arith))
-  where
-    go : (t : Bool) → isAt (entryIn w i) o k ≡ t → Swept n w o k (suc i) j (swept n w o k (suc i) j)
-        → Swept n (moved w i j) o k (suc i) (suc j) (swept n (moved w i j) o k (suc i) (suc j))
-        → Swept (suc n) w o k i j (pick t (swept n w o k (suc i) j) (swept n (moved w i j) o k (suc i) (suc j)))
-    go true t a c = record {
-      size = a .size;
-      low = a .low;
-      count = omega (arith, a .count);
-      properties = a .properties ∙ ap (_++_ (tabulate (entryIn w) 0 j)) (sym (removed-hit w i n o k t));
-    }
-    go false t a c =
-        let v = moved w i j in
-        let first : tabulate (entryIn v) 0 (suc j) ≡ tabulate (entryIn w) 0 j ++ (entryIn w i ∷ []) =
-        one-more (entryIn v) j
-        ∙ rw (tabulate-ext (entryIn v) (entryIn w) 0 j (λ m x y. entry-same v w m m (moved-out w i j _ (λ e. omega arith) (λ r q e. omega arith)) (λ r q. moved-out w i j _ (λ e. omega arith) (λ s u e. omega arith))), moved-entry w i j l (omega arith)) in
-        let rest : tabulate (entryIn v) (suc i) n ≡ tabulate (entryIn w) (suc i) n =
-        tabulate-ext (entryIn v) (entryIn w) (suc i) n (λ m x y. entry-same v w m m (moved-out w i j _ (λ e. omega arith) (λ r q e. omega arith)) (λ r q. moved-out w i j _ (λ e. omega arith) (λ s u e. omega arith))) in
-        record {
-          size = c .size;
-          low = λ m x y. c .low m x y ∙ moved-out w i j m (λ e. omega arith) (λ r q e. omega arith);
-          count = omega (arith, c .count);
-          properties = c .properties ∙ rw (first, rest, append-assoc) (ap (_++_ (tabulate (entryIn w) 0 j)) (sym (removed-miss w i n o k t)));
-        }
+  swept-all : (n : ℕ) (w : List ℕ) (i j : ℕ) → length w ≡ 1670 → j ≤ i → i + n ≤ 256 → Swept n w i j (swept test n w i j)
+  unfolding swept
+  swept-all zero w i j l h b = swept-none w i j l
+  swept-all (suc n) w i j l h b =
+      go (test (entryIn w i)) refl
+      (swept-all n w (suc i) j l (omega arith) (omega arith))
+      (swept-all n (moved w i j) (suc i) (suc j) (length-moved w i j ∙ l) (omega arith) (omega arith))
+    where
+      go : (t : Bool) → test (entryIn w i) ≡ t → Swept n w (suc i) j (swept test n w (suc i) j)
+          → Swept n (moved w i j) (suc i) (suc j) (swept test n (moved w i j) (suc i) (suc j))
+          → Swept (suc n) w i j (pick t (swept test n w (suc i) j) (swept test n (moved w i j) (suc i) (suc j)))
+      go true t a c = record {
+        size = a .size;
+        low = a .low;
+        count = omega (arith, a .count);
+        properties = a .properties ∙ ap (_++_ (tabulate (entryIn w) 0 j)) (sym (removed-hit w i n t));
+      }
+      go false t a c =
+          let v = moved w i j in
+          let first : tabulate (entryIn v) 0 (suc j) ≡ tabulate (entryIn w) 0 j ++ (entryIn w i ∷ []) =
+          one-more (entryIn v) j
+          ∙ rw (tabulate-ext (entryIn v) (entryIn w) 0 j (λ m x y. entry-same v w m m (moved-out w i j _ (λ e. omega arith) (λ r q e. omega arith)) (λ r q. moved-out w i j _ (λ e. omega arith) (λ s u e. omega arith))), moved-entry w i j l (omega arith)) in
+          let rest : tabulate (entryIn v) (suc i) n ≡ tabulate (entryIn w) (suc i) n =
+          tabulate-ext (entryIn v) (entryIn w) (suc i) n (λ m x y. entry-same v w m m (moved-out w i j _ (λ e. omega arith) (λ r q e. omega arith)) (λ r q. moved-out w i j _ (λ e. omega arith) (λ s u e. omega arith))) in
+          record {
+            size = c .size;
+            low = λ m x y. c .low m x y ∙ moved-out w i j m (λ e. omega arith) (λ r q e. omega arith);
+            count = omega (arith, c .count);
+            properties = c .properties ∙ rw (first, rest, append-assoc) (ap (_++_ (tabulate (entryIn w) 0 j)) (sym (removed-miss w i n t)));
+          }
 
-module _ (w : List ℕ) (s : Sized w) (o : ℕ) (k : PropertyKey) where
-  swept-store : Swept (wordAt w 1) w o k 0 0 (withoutRow w o k)
-  unfolding withoutRow
-  swept-store = swept-all (wordAt w 1) w o k 0 0 (s .size) (omega arith) (omega (arith, s .properties))
+  module _ (w : List ℕ) (s : Sized w) where
+    swept-store : Swept (wordAt w 1) w 0 0 (withoutRows test w)
+    swept-store = swept-all (wordAt w 1) w 0 0 (s .size) (omega arith) (omega (arith, s .properties))
 
-  pub sized-without : Sized (withoutRow w o k)
-  sized-without =
-      let a = swept-store in
-      record { size = a .size; objects = rw (a .low 0 (omega arith) (λ e. omega arith)) (s .objects); properties = omega (arith, a .count, s .properties) }
+    pub sized-without : Sized (withoutRows test w)
+    sized-without = let a = swept-store in sized-properties (withoutRows test w) w (a .low) s (a .size) (omega (arith, a .count, s .properties))
 
-  pub store-without : storeOf (withoutRow w o k) ≡ withoutProperty (storeOf w) o k
-  unfolding withoutProperty storeOf tabulate
-  store-without =
-      let a = swept-store in
-      let u = withoutRow w o k in
-      store-by u _ (objects-same u w (s .objects) (a .low 0 (omega arith) (λ e. omega arith)) (λ m t l. a .low m l (λ e. omega arith)))
-      (a .low 2 (omega arith) (λ e. omega arith))
-      (a .properties)
+    pub store-without : storeOf (withoutRows test w) ≡ withProperties (storeOf w) (excluding test (storeOf w .properties))
+    unfolding storeOf tabulate
+    store-without = let a = swept-store in store-properties (withoutRows test w) w (a .low) _ (a .properties)
+
+-- Release -------------------------------------------------------------------------------
+
+module _ (w : List ℕ) (s : Sized w) (o : ℕ) (h : o < 32) where
+  abbrev unmarked : List ℕ
+  unmarked = set w 3 (withBit (wordAt w 3) o false)
+
+  unmarked-out : (j : ℕ) → (j ≡ 3 → ⊥) → wordAt unmarked j ≡ wordAt w j
+  unmarked-out j z = other w 3 j (withBit (wordAt w 3) o false) z
+
+  unmarked-live : wordAt unmarked 3 ≡ withBit (wordAt w 3) o false
+  unmarked-live = same w 3 (withBit (wordAt w 3) o false) (omega (arith, s .size))
+
+  pub sized-unmarked : Sized unmarked
+  sized-unmarked = record {
+    size = length-set w 3 (withBit (wordAt w 3) o false) ∙ s .size;
+    made = rw (unmarked-out 0 (λ e. omega arith)) (s .made);
+    properties = rw (unmarked-out 1 (λ e. omega arith)) (s .properties);
+    live = rw unmarked-live (with-below (wordAt w 3) o 32 false h (s .live));
+    released = rw (unmarked-out 4 (λ e. omega arith)) (s .released);
+  }
+
+  abbrev afterUnmarked : Store → Store
+  afterUnmarked σ = record { objects = set (σ .objects) o none; made = σ .made; released = σ .released; callable = σ .callable; properties = σ .properties }
+
+  store-unmarked : storeOf unmarked ≡ afterUnmarked (storeOf w)
+  unfolding storeOf slotIn
+  store-unmarked =
+      let u = unmarked in
+      store-by u _
+      (objects-set u w o none h
+      (rw (unmarked-live, bit-set (wordAt w 3) o false))
+      (λ j r. ap (λ (n : ℕ). bit n j) unmarked-live ∙ bit-kept (wordAt w 3) o j false r)
+      (λ j m l r t. unmarked-out _ (λ e. omega arith)))
+      (unmarked-out 0 (λ e. omega arith))
+      (released-same u w (unmarked-out 4 (λ e. omega arith)) (unmarked-out 5 (λ e. omega arith)) (λ m a b. unmarked-out m (λ e. omega arith)))
+      (unmarked-out 2 (λ e. omega arith))
+      (properties-same u w (unmarked-out 1 (λ e. omega arith)) (λ m l. unmarked-out m (λ e. omega arith)))
+
+  abbrev disowned : List ℕ
+  disowned = withoutRows (isOwnedBy o) unmarked
+
+  pub sized-without-object : Sized (withoutObject w o)
+  unfolding withoutObject
+  sized-without-object = sized-released disowned (sized-without (isOwnedBy o) unmarked sized-unmarked) o h
+
+  pub store-without-object : storeOf (withoutObject w o) ≡ release (storeOf w) o
+  unfolding withoutObject release
+  store-without-object =
+      store-released disowned (sized-without (isOwnedBy o) unmarked sized-unmarked) o h
+      ∙ ap (afterReleased o) (store-without (isOwnedBy o) unmarked sized-unmarked)
+      ∙ ap (λ (σ : Store). afterReleased o (withProperties σ (excluding (isOwnedBy o) (σ .properties)))) store-unmarked
 
 -- An empty store ------------------------------------------------------------------------
 
-module _ (w : List ℕ) (l : length w ≡ 1635) where
+none-live : (f : ℕ → Option Object) (i n : ℕ) → ((j : ℕ) → f j ≡ none) → tabulate f i n ≡ replicate n none
+unfolding tabulate
+none-live f i zero h = refl
+none-live f i (suc n) h = rw (h i, none-live f (suc i) n h)
+
+module _ (w : List ℕ) (l : length w ≡ 1670) where
   abbrev cleared : List ℕ
-  cleared = set (set (set w 0 0) 1 0) 2 0
+  cleared = sets w 0 (0 ∷ 0 ∷ 0 ∷ 0 ∷ 0 ∷ 0 ∷ [])
 
-  no-objects : wordAt cleared 0 ≡ 0
-  no-objects = other (set (set w 0 0) 1 0) 2 0 0 (λ e. omega arith) ∙ other (set w 0 0) 1 0 0 (λ e. omega arith) ∙ same w 0 0 (omega arith)
-
-  no-properties : wordAt cleared 1 ≡ 0
-  no-properties = other (set (set w 0 0) 1 0) 2 1 0 (λ e. omega arith) ∙ same (set w 0 0) 1 0 (omega (arith, length-set w 0 0))
-
-  no-marks : wordAt cleared 2 ≡ 0
-  no-marks = same (set (set w 0 0) 1 0) 2 0 (omega (arith, length-set (set w 0 0) 1 0, length-set w 0 0))
+  zero-at : (m : ℕ) → m < 6 → wordAt cleared (0 + m) ≡ wordAt (0 ∷ 0 ∷ 0 ∷ 0 ∷ 0 ∷ 0 ∷ []) m
+  zero-at m h = sets-in (0 ∷ 0 ∷ 0 ∷ 0 ∷ 0 ∷ 0 ∷ []) w 0 m (omega arith) h
 
   pub sized-empty : Sized cleared
   sized-empty = record {
-    size = length-set (set (set w 0 0) 1 0) 2 0 ∙ length-set (set w 0 0) 1 0 ∙ length-set w 0 0 ∙ l;
-    objects = rw no-objects (omega arith);
-    properties = rw no-properties (omega arith);
+    size = length-sets w 0 (0 ∷ 0 ∷ 0 ∷ 0 ∷ 0 ∷ 0 ∷ []) ∙ l;
+    made = rw (zero-at 0 (omega arith)) (omega arith);
+    properties = rw (zero-at 1 (omega arith)) (omega arith);
+    live = rw (zero-at 3 (omega arith)) (omega arith);
+    released = rw (zero-at 4 (omega arith)) (omega arith);
   }
 
+  slot-empty : (o : ℕ) → slotIn cleared o ≡ none
+  unfolding slotIn
+  slot-empty o = let z : wordAt cleared 3 ≡ 0 = zero-at 3 (omega arith) in rw (z, zero-div (2 ^ o))
+
   pub store-empty : storeOf cleared ≡ empty .store
-  unfolding storeOf tabulate
-  store-empty = rw (no-objects, no-properties, no-marks)
+  unfolding tabulate
+  store-empty =
+      let n : wordAt cleared 1 ≡ 0 = zero-at 1 (omega arith) in
+      let r : wordAt cleared 4 ≡ 0 = zero-at 4 (omega arith) in
+      store-by cleared _ (none-live (slotIn cleared) 0 32 slot-empty) (zero-at 0 (omega arith)) (rw r) (zero-at 2 (omega arith)) (rw n)
 
 -- Each write, whole ---------------------------------------------------------------------
 
@@ -544,10 +901,10 @@ module _ (w : List ℕ) (s : isStore w ≡ true) where
   becomes : (u : List ℕ) (σ : Store) → Sized u → storeOf u ≡ σ → Becomes u u σ
   becomes u σ z e = record { words = refl; store = e; kept = is-store u z }
 
-  pub becomes-object : (o : ℕ) (x : Object) → o < wordAt w 0 → FitsObject x → Becomes (withObject w o x) (withObject w o x) (put (storeOf w) o x)
-  becomes-object o x h f = becomes _ _ (sized-object w (sized w s) o x h) (store-object w (sized w s) o x h f)
+  pub becomes-object : (o : ℕ) (x : Object) → bit (wordAt w 3) o ≡ true → FitsObject x → Becomes (withObject w o x) (withObject w o x) (put (storeOf w) o x)
+  becomes-object o x h f = becomes _ _ (sized-object w (sized w s) o x) (store-object w (sized w s) o x h f)
 
-  pub becomes-new-object : (x : Object) (b : Bool) → wordAt w 0 < 32 → FitsObject x → Becomes (withNewObject w x b) (withNewObject w x b) (add (storeOf w) x b)
+  pub becomes-new-object : (x : Object) (b : Bool) → liveCount (storeOf w) < 32 → FitsObject x → Becomes (withNewObject w x b) (withNewObject w x b) (add (storeOf w) x b)
   becomes-new-object x b h f = becomes _ _ (sized-new-object w (sized w s) x b h) (store-new-object w (sized w s) x b h f)
 
   pub becomes-row : (i : ℕ) (p : Property) → i < wordAt w 1 → FitsProperty p → Becomes (withRow w i p) (withRow w i p) (withChange (storeOf w) i p)
@@ -559,7 +916,11 @@ module _ (w : List ℕ) (s : isStore w ≡ true) where
       becomes _ _ (sized-new-row w (sized w s) o k p (h .room)) (store-new-row w (sized w s) o k p (h .room) (h .joins .owner) f (h .absent))
 
   pub becomes-without : (o : ℕ) (k : PropertyKey) → Becomes (withoutRow w o k) (withoutRow w o k) (withoutProperty (storeOf w) o k)
-  becomes-without o k = becomes _ _ (sized-without w (sized w s) o k) (store-without w (sized w s) o k)
+  unfolding withoutRow withoutProperty remove
+  becomes-without o k = becomes _ _ (sized-without (λ (e : Entry). isAt e o k) w (sized w s)) (store-without (λ (e : Entry). isAt e o k) w (sized w s))
+
+  pub becomes-released : (o : ℕ) → bit (wordAt w 3) o ≡ true → Becomes (withoutObject w o) (withoutObject w o) (release (storeOf w) o)
+  becomes-released o h = let l = live-below w (sized w s) o h in becomes _ _ (sized-without-object w (sized w s) o l) (store-without-object w (sized w s) o l)
 
 pub became : {after expected : List ℕ} {σ : Store} → after ≡ expected → Becomes expected expected σ → Becomes after expected σ
 became e b = record { words = e; store = ap storeOf e ∙ b .store; kept = ap isStore e ∙ b .kept }
@@ -591,11 +952,50 @@ object-stored w u o x r h e = e ∙ rw (h .head, h .first, h .second) (sym (obje
 pub row-stored : (w u : List ℕ) (i : ℕ) (p : Property) (r : PropertyWords) → PropertyCells p r → u ≡ sets w (rowAt i) (cellsOf r) → u ≡ withRow w i p
 row-stored w u i p r h e = e ∙ rw (h .flags, h .kind, h .payload, h .second-kind, h .second-payload) (sym (row-sets w i p))
 
-pub new-object-stored : (w u : List ℕ) (x : Object) (b : Bool) (m : ℕ) → wordAt w 0 < 32 → u ≡ withObject w (wordAt w 0) x
-    → m ≡ marked (wordAt u 2) (wordAt w 0) b → set (set u 2 m) 0 (wordAt w 0 + 1) ≡ withNewObject w x b
+pub live-stored : (w u : List ℕ) (o : ℕ) (x : Object) (b : Bool) (m l : ℕ) → u ≡ withObject w o x
+    → m ≡ withBit (wordAt u 2) o b → l ≡ withBit (wordAt (set u 2 m) 3) o true → set (set u 2 m) 3 l ≡ withLiveObject w o x b
+unfolding withLiveObject
+live-stored w u o x b m l e d f =
+    let live : wordAt (set u 2 m) 3 ≡ wordAt w 3 = other u 2 3 m (λ q. omega arith) ∙ (ap (λ (v : List ℕ). wordAt v 3) e ∙ object-out w o x 3 (λ r t q. omega arith)) in
+    let callable : wordAt u 2 ≡ wordAt w 2 = ap (λ (v : List ℕ). wordAt v 2) e ∙ object-out w o x 2 (λ r t q. omega arith) in
+    rw (f, live, d, callable, e)
+
+pub new-object-stored : (w u v : List ℕ) (n : ℕ) (x : Object) (b : Bool) → n ≡ nextIn w → u ≡ withLiveObject w n x b → v ≡ withNumberTaken u → v ≡ withNewObject w x b
 unfolding withNewObject
-new-object-stored w u x b m h e d =
-    rw (d, e, object-out w (wordAt w 0) x 2 (λ m t e. omega arith), add-one)
+new-object-stored w u v n x b e f g = rw (g, f, e)
+
+module _ (w : List ℕ) where
+  pub unused-taken : wordAt w 4 ≡ 0 → set w 0 (wordAt w 0 + 1) ≡ withNumberTaken w
+  unfolding withNumberTaken
+  unused-taken e = rw (eq-eqb (wordAt w 4) 0 e, add-one)
+
+  pub released-taken : (wordAt w 4 ≡ 0 → ⊥) → set (set w 5 ((wordAt w 5 % 32 + 1) % 32)) 4 (wordAt w 4 - 1) ≡ withNumberTaken w
+  unfolding withNumberTaken
+  released-taken h =
+      let e : (wordAt w 5 % 32 + 1) % 32 ≡ (wordAt w 5 + 1) % 32 = omega arith in
+      rw (ne-eqb (wordAt w 4) 0 h, e)
+
+  pub number-queued : (o : ℕ) → wordAt w 4 < 32 → set (set w (6 + (wordAt w 5 % 32 + wordAt w 4) % 32) o) 4 (wordAt w 4 + 1) ≡ withNumberReleased w o
+  unfolding withNumberReleased
+  number-queued o h =
+      let e : (wordAt w 5 % 32 + wordAt w 4) % 32 ≡ (wordAt w 5 + wordAt w 4) % 32 = omega arith in
+      rw (lt-ltb (wordAt w 4) 32 h, e, add-one)
+
+  pub number-left : (o : ℕ) → 32 ≤ wordAt w 4 → w ≡ withNumberReleased w o
+  unfolding withNumberReleased
+  number-left o h = rw (le-ltb (wordAt w 4) 32 h)
+
+  pub length-released : (o : ℕ) → length (withNumberReleased w o) ≡ length w
+  unfolding withNumberReleased
+  length-released o = go (ltb (wordAt w 4) 32)
+    where
+      go : (t : Bool) → length (pick t (set (set w (queueAt (placeOf w (wordAt w 4))) o) 4 (suc (wordAt w 4))) w) ≡ length w
+      go true = length-set (set w (queueAt (placeOf w (wordAt w 4))) o) 4 (suc (wordAt w 4)) ∙ length-set w (queueAt (placeOf w (wordAt w 4))) o
+      go false = refl
+
+pub released-stored : (w u v : List ℕ) (o m : ℕ) → m ≡ withBit (wordAt w 3) o false → u ≡ withoutRows (isOwnedBy o) (set w 3 m) → v ≡ withNumberReleased u o → v ≡ withoutObject w o
+unfolding withoutObject
+released-stored w u v o m e f g = rw (g, f, e)
 
 pub new-row-stored : (w u : List ℕ) (o : ℕ) (k : PropertyKey) (p : Property) (key : ℕ) → key ≡ keyWord o k
     → u ≡ withRow (set w (keyAt (wordAt w 1)) key) (wordAt w 1) p → set u 1 (wordAt w 1 + 1) ≡ withNewRow w o k p
@@ -603,21 +1003,38 @@ unfolding withNewRow
 new-row-stored w u o k p key d e = rw (e, d, add-one)
 
 -- a turn of the sweep, and its end
-module _ (w : List ℕ) (o : ℕ) (k : PropertyKey) (i n j key : ℕ) where
-  module _ (h : i < n) (b : o < 32) (e : key ≡ keyWord o k) where
-    pub turn-hit : wordAt w (keyAt i) ≡ key → swept (n - i) w o k i j ≡ swept (n - (i + 1)) w o k (i + 1) j
+module _ (test : Entry → Bool) (w : List ℕ) (i n j : ℕ) where
+  module _ (h : i < n) where
+    pub turn-hit : test (entryIn w i) ≡ true → swept test (n - i) w i j ≡ swept test (n - (i + 1)) w (i + 1) j
     turn-hit t =
         let z : n - i ≡ suc (n - (i + 1)) = omega arith in
         let y : i + 1 ≡ suc i = omega arith in
-        rw z (swept-hit _ w o k i j (at-word w i o k b ∙ eq-eqb _ _ (t ∙ e)) ∙ rw y)
+        rw z (swept-hit test _ w i j t ∙ rw y)
 
-    pub turn-miss : (wordAt w (keyAt i) ≡ key → ⊥) → swept (n - i) w o k i j ≡ swept (n - (i + 1)) (moved w i j) o k (i + 1) (j + 1)
+    pub turn-miss : test (entryIn w i) ≡ false → swept test (n - i) w i j ≡ swept test (n - (i + 1)) (moved w i j) (i + 1) (j + 1)
     turn-miss t =
         let z : n - i ≡ suc (n - (i + 1)) = omega arith in
         let y : i + 1 ≡ suc i = omega arith in
         let x : j + 1 ≡ suc j = omega arith in
-        rw z (swept-miss _ w o k i j (at-word w i o k b ∙ ne-eqb _ _ (λ q. t (q ∙ sym e))) ∙ rw (y, x))
+        rw z (swept-miss test _ w i j t ∙ rw (y, x))
 
-  pub turn-end : n ≤ i → swept (n - i) w o k i j ≡ set w 1 j
+  pub turn-end : n ≤ i → swept test (n - i) w i j ≡ set w 1 j
   unfolding swept
   turn-end h = let z : n - i ≡ 0 = omega arith in rw z
+
+-- whether an entry is the property, or the object's, by its key word
+module _ (w : List ℕ) (i o key : ℕ) (k : PropertyKey) (b : o < 32) (e : key ≡ keyWord o k) where
+  pub key-hit : wordAt w (keyAt i) ≡ key → isAt (entryIn w i) o k ≡ true
+  key-hit t = at-word w i o k b ∙ eq-eqb _ _ (t ∙ e)
+
+  pub key-miss : (wordAt w (keyAt i) ≡ key → ⊥) → isAt (entryIn w i) o k ≡ false
+  key-miss t = at-word w i o k b ∙ ne-eqb _ _ (λ q. t (q ∙ sym e))
+
+module _ (w : List ℕ) (i o : ℕ) where
+  pub owner-hit : wordAt w (keyAt i) % 32 ≡ o → isOwnedBy o (entryIn w i) ≡ true
+  unfolding entryIn
+  owner-hit t = eq-eqb _ _ t
+
+  pub owner-miss : (wordAt w (keyAt i) % 32 ≡ o → ⊥) → isOwnedBy o (entryIn w i) ≡ false
+  unfolding entryIn
+  owner-miss t = ne-eqb _ _ t

@@ -1,10 +1,12 @@
 -- A write to the store: what it asks of the words, and what it makes of them and of the store. Assumes nothing.
-use Prim.Native.Nat.{ℕ, zero, suc, _<_, _^_}
+use Prim.Native.Nat.{ℕ, _<_, _^_}
 use mathlib.Core.Path.{_≡_}
 use mathlib.Core.Bool.{true, cond}
 use mathlib.Core.List.{List, [], _∷_}
 use lib.Dec.{eqb}
-use lib.ListN.{length, set}
+use lib.ListN.{length}
+use lib.Seq.{sets}
+use Rattle.value.specs.Bits.{bit}
 use Rattle.value.specs.declared.Value.{Value}
 use Rattle.value.specs.declared.PropertyKey.{PropertyKey}
 use Rattle.value.specs.Words.{kindOf, payloadOf, valueOf}
@@ -13,13 +15,13 @@ use Rattle.property.specs.declared.Property.{Property}
 use Rattle.property.specs.declared.OwnProperty.the-variants.{Absent}
 use Rattle.store.specs.declared.Object.{Object}
 use Rattle.store.specs.declared.Object.the-variants as object
-use Rattle.store.specs.declared.Entry.{Entry}
 use Rattle.store_write.specs.declared.write.Write.{Write}
 use Rattle.store_write.specs.declared.write.Write.the-variants as write
 use Rattle.store_write.specs.declared.write.ObjectWords.{ObjectWords}
 use Rattle.store_write.specs.declared.write.PropertyWords.{PropertyWords}
-use Rattle.store.specs.Store.{Store, put, add, replaceAt, withChange, own, withProperty, withoutProperty, maximumObjects, maximumProperties}
-use Rattle.store.specs.Words.{storeSize, wordAt, headOf, firstOf, secondOf, flagsOf, primary, secondary, storeOf, isStore, withObject, withNewObject, withRow, withNewRow, withoutRow}
+use Rattle.store.specs.Store.{Store, put, liveCount, add, withChange, own, withProperty, withoutProperty, maximumObjects, maximumProperties}
+use Rattle.store.specs.Release.{release}
+use Rattle.store.specs.Words.{storeSize, liveAt, wordAt, headOf, firstOf, secondOf, flagsOf, primary, secondary, storeOf, isStore, withObject, withNewObject, withRow, withNewRow, withoutRow, withoutObject}
 
 -- the value is read back from its words, as every value of a run is
 pub record Fits (v : Value) : Type 0 where
@@ -62,6 +64,7 @@ applied (write.NewObject x b) σ = add σ x b
 applied (write.Change i p) σ = withChange σ i p
 applied (write.Add o k p) σ = withProperty σ o k p
 applied (write.Remove o k) σ = withoutProperty σ o k
+applied (write.Release o) σ = release σ o
 
 -- the words after a write
 abbrev pub writtenTo : Write → List ℕ → List ℕ
@@ -71,6 +74,7 @@ writtenTo (write.NewObject x b) words = withNewObject words x b
 writtenTo (write.Change i p) words = withRow words i p
 writtenTo (write.Add o k p) words = withNewRow words o k p
 writtenTo (write.Remove o k) words = withoutRow words o k
+writtenTo (write.Release o) words = withoutObject words o
 
 -- an owner and a key that one word can join
 pub record Joins (o : ℕ) (k : PropertyKey) : Type 0 where
@@ -85,11 +89,12 @@ pub record New (words : List ℕ) (o : ℕ) (k : PropertyKey) : Type 0 where
 
 abbrev pub within : Write → List ℕ → Type 0
 within write.Nothing words = Unit
-within (write.Object o x) words = o < wordAt words 0
-within (write.NewObject x b) words = wordAt words 0 < maximumObjects
+within (write.Object o x) words = bit (wordAt words liveAt) o ≡ true
+within (write.NewObject x b) words = liveCount (storeOf words) < maximumObjects
 within (write.Change i p) words = i < wordAt words 1
 within (write.Add o k p) words = New words o k
 within (write.Remove o k) words = Joins o k
+within (write.Release o) words = bit (wordAt words liveAt) o ≡ true
 
 -- the words are a store, and the write is one that it can take
 pub record fitsIn (w : Write) (words : List ℕ) : Type 0 where
@@ -113,6 +118,6 @@ pub record Committed (before after : List ℕ) : Type 0 where
   pub words : after ≡ writtenAll writes before
   pub kept : isStore after ≡ true
 
--- the words of an empty store: only the two counts and the marks change
+-- the words of an empty store: only those that stand first change
 abbrev pub emptied : List ℕ → List ℕ
-emptied words = cond (eqb (length words) storeSize) (set (set (set words 0 0) 1 0) 2 0) words
+emptied words = cond (eqb (length words) storeSize) (sets words 0 (0 ∷ 0 ∷ 0 ∷ 0 ∷ 0 ∷ 0 ∷ [])) words

@@ -1,9 +1,11 @@
 // Writing the store's words, one write at a time.
-// write: what a write is, and objects. properties: set and add one. removal: remove one. copying: all the words.
+// write: what a write is, and objects. numbers: those that are taken and released. properties: set and add one.
+// removal: of a property, and of an object with its properties. copying: all the words.
 ghost use Rattle.store.specs.Words.{storeOf};
 ghost use Rattle.store_write.specs.Write.{Becomes, applied, writtenTo, fitsIn};
 
 mod copying;
+mod numbers;
 pub mod properties;
 pub mod removal;
 mod write;
@@ -28,5 +30,6 @@ pub fn commit(words: &mut [u64], w: Write)
         Write::Change(i, p) => properties::set_property(words, i, p),
         Write::Add(o, k, p) => properties::add_property(words, o, k, p),
         Write::Remove(o, k) => removal::remove_property(words, o, k),
+        Write::Release(o) => removal::release_object(words, o),
     }
 }

@@ -14,6 +14,10 @@ ghost use Rattle.store.specs.Store.{withProperty, withChange};
 ghost use Rattle.store.specs.Words.{storeSize, wordAt, rowAt, keyWord, storeOf, isStore, withRow, withNewRow};
 ghost use Rattle.store_write.specs.Write.{cellsOf, PropertyCells, FitsProperty, Joins, New, Becomes};
 
+pub const KEYS: usize = 134;
+
+pub const ROWS: usize = 390;
+
 pub fn key_word(o: u64, k: PropertyKey) -> u64
     requires { ⌜ Joins o k ⌝ }
     ensures { λ r. ⌜ r ≡ keyWord o k ⌝ }
@@ -57,7 +61,7 @@ pub fn put_row(words: &mut [u64], i: usize, w: PropertyWords)
     requires { ⌜ (length (now words) ≡ storeSize) × (i < 256) ⌝ }
     ensures { λ _. ⌜ now (words .exit) ≡ sets (now (words .entry)) (rowAt i) (cellsOf w) ⌝ }
 {
-    let at = 355 + 5 * i;
+    let at = ROWS + 5 * i;
     write::put_three(words, at, w.flags, w.kind, w.payload);
     words[at + 3] = w.second_kind;
     words[at + 4] = w.second_payload;
@@ -85,7 +89,7 @@ pub fn add_property(words: &mut [u64], o: u64, k: PropertyKey, p: Property)
 {
     let n = words[1];
     let last = n as usize;
-    words[99 + last] = key_word(o, k);
+    words[KEYS + last] = key_word(o, k);
     write_row(words, last, p);
     words[1] = n + 1;
 }

@@ -1,4 +1,5 @@
 // What a write to the store's words is, and writing objects. Each changes the words that its definition names, and no other.
+use crate::numbers;
 use property::Property;
 use store::Object;
 use value::PropertyKey;
@@ -11,9 +12,12 @@ ghost use Prim.Native.Nat.{_+_, _<_, _≤_};
 ghost use lib.Dec.{eqb, ltb};
 ghost use lib.ListN.{length};
 ghost use lib.Seq.{sets};
-ghost use Rattle.store.specs.Store.{empty, put, marked, add};
-ghost use Rattle.store.specs.Words.{storeSize, wordAt, storeOf, isStore, withObject, withNewObject};
+ghost use Rattle.value.specs.Bits.{bit};
+ghost use Rattle.store.specs.Store.{empty, put, liveCount, add};
+ghost use Rattle.store.specs.Words.{storeSize, wordAt, storeOf, isStore, withObject, withLiveObject, withNewObject};
 ghost use Rattle.store_write.specs.Write.{ObjectCells, FitsObject, Becomes, emptied};
+
+const OBJECTS: usize = 38;
 
 // One change of the store. An object and an entry are given by their numbers; a new object is callable or not.
 pub enum Write {
@@ -23,6 +27,7 @@ pub enum Write {
     Change(usize, Property),
     Add(u64, PropertyKey, Property),
     Remove(u64, PropertyKey),
+    Release(u64),
 }
 
 // The words of an object.
@@ -77,7 +82,7 @@ fn write_object(words: &mut [u64], o: usize, x: Object)
     ensures { λ _. ⌜ (now (words .exit) ≡ withObject (now (words .entry)) o x) × FitsObject x ⌝ }
 {
     let w = object_words(x);
-    put_three(words, 3 + 3 * o, w.head, w.first, w.second);
+    put_three(words, OBJECTS + 3 * o, w.head, w.first, w.second);
 }
 
 // Words of the right length become an empty store; others are left.
@@ -86,10 +91,13 @@ pub fn make_empty(words: &mut [u64]) -> bool
     ensures { λ _. ⌜ now (words .exit) ≡ emptied (now (words .entry)) ⌝ }
     ensures { λ r. ⌜ (r ≡ true → (storeOf (now (words .exit)) ≡ empty .store) × (isStore (now (words .exit)) ≡ true)) ⌝ }
 {
-    if words.len() == 1635 {
+    if words.len() == 1670 {
         words[0] = 0;
         words[1] = 0;
         words[2] = 0;
+        words[3] = 0;
+        words[4] = 0;
+        words[5] = 0;
         true
     } else {
         false
@@ -105,27 +113,27 @@ pub fn room(words: &[u64], limit: usize) -> bool
 }
 
 pub fn set_object(words: &mut [u64], o: usize, x: Object)
-    requires { ⌜ (isStore (now words) ≡ true) × (o < wordAt (now words) 0) ⌝ }
+    requires { ⌜ (isStore (now words) ≡ true) × (bit (wordAt (now words) 3) o ≡ true) ⌝ }
     ensures { λ _. ⌜ Becomes (now (words .exit)) (withObject (now (words .entry)) o x) (put (storeOf (now (words .entry))) o x) ⌝ }
 {
     write_object(words, o, x);
 }
 
-// The marks of the objects before n, and one for n.
-fn mark(marks: u64, n: u64, callable: bool) -> u64
-    requires { ⌜ n < 32 ⌝ }
-    ensures { λ r. ⌜ r ≡ marked marks n callable ⌝ }
+// Object o is now x, live, and callable or not.
+fn write_live(words: &mut [u64], o: u64, x: Object, callable: bool)
+    requires { ⌜ (length (now words) ≡ storeSize) × (o < 32) ⌝ }
+    ensures { λ _. ⌜ (now (words .exit) ≡ withLiveObject (now (words .entry)) o x callable) × FitsObject x ⌝ }
 {
-    let place = 1 << n;
-    marks % place + bits::weight(callable, place)
+    write_object(words, o as usize, x);
+    words[2] = bits::with_bit(words[2], o, callable);
+    words[3] = bits::with_bit(words[3], o, true);
 }
 
 pub fn add_object(words: &mut [u64], x: Object, callable: bool)
-    requires { ⌜ (isStore (now words) ≡ true) × (wordAt (now words) 0 < 32) ⌝ }
+    requires { ⌜ (isStore (now words) ≡ true) × (liveCount (storeOf (now words)) < 32) ⌝ }
     ensures { λ _. ⌜ Becomes (now (words .exit)) (withNewObject (now (words .entry)) x callable) (add (storeOf (now (words .entry))) x callable) ⌝ }
 {
-    let n = words[0];
-    write_object(words, n as usize, x);
-    words[2] = mark(words[2], n, callable);
-    words[0] = n + 1;
+    let n = store_read::next_number(words);
+    write_live(words, n, x, callable);
+    numbers::take_number(words);
 }

@@ -31,26 +31,28 @@ use Rattle.text_form.proofs.NameLaws.{names-once}
 
 -- No call is refused as 12 -------------------------------------------------------------------
 
-abbrev Below : ℕ → List (ℕ × Bool) → Type 0
-Below m [] = Unit {0}
-Below m (t ∷ ts) = (t .0 < m) × Below m ts
+-- no test has the number
+abbrev Without : ℕ → List (ℕ × Bool) → Type 0
+Without m [] = Unit {0}
+Without m (t ∷ ts) = (t .0 ≡ m → ⊥) × Without m ts
 
--- the first that fails has one of the numbers
-first-below : (m : ℕ) (tests : List (ℕ × Bool)) → Below m tests → (n : ℕ) → firstFailing tests ≡ some n → n < m
+-- so the first that fails does not
+first-other : (m : ℕ) (tests : List (ℕ × Bool)) → Without m tests → (n : ℕ) → firstFailing tests ≡ some n → n ≡ m → ⊥
 unfolding firstFailing
-first-below m [] h n e = absurd (false≢true cc)
-first-below m (t ∷ ts) h n e = go (t .1) e (first-below m ts (h .1) n)
+first-other m [] h n e = absurd (false≢true cc)
+first-other m (t ∷ ts) h n e = go (t .1) e (first-other m ts (h .1) n)
   where
-    go : (b : Bool) → failing b (t .0) (firstFailing ts) ≡ some n → (firstFailing ts ≡ some n → n < m) → n < m
-    go true g rest = rest g
-    go false g rest = let q : t .0 ≡ n = cc in rw q at (h .0)
+    go : (b : Bool) → failing b (t .0) (firstFailing ts) ≡ some n → (firstFailing ts ≡ some n → n ≡ m → ⊥) → n ≡ m → ⊥
+    go true g rest i = rest g i
+    go false g rest i = let q : t .0 ≡ n = cc in h .0 (q ∙ i)
 
 module _ (ω : World) where
-  numbers : (bytes sheet : List ℕ) → Below 12 (recordTests ω bytes sheet)
-  numbers bytes sheet = (omega arith, (omega arith, (omega arith, (omega arith, (omega arith, (omega arith, (omega arith, tt)))))))
+  numbers : (bytes sheet : List ℕ) → Without 12 (recordTests ω bytes sheet)
+  numbers bytes sheet =
+      (λ e. omega (arith, e), (λ e. omega (arith, e), (λ e. omega (arith, e), (λ e. omega (arith, e), (λ e. omega (arith, e), (λ e. omega (arith, e), (λ e. omega (arith, e), (λ e. omega (arith, e), tt))))))))
 
   step-other : (bytes sheet output : List ℕ) (n : ℕ) → Refusal ω bytes sheet output n → n ≡ 12 → ⊥
-  step-other bytes sheet output n (refusal.inadmissible e) i = omega (arith, i, first-below 12 (recordTests ω bytes sheet) (numbers bytes sheet) n e)
+  step-other bytes sheet output n (refusal.inadmissible e) i = first-other 12 (recordTests ω bytes sheet) (numbers bytes sheet) n e i
   step-other bytes sheet output n (refusal.crowded p m h) i = omega (arith, i)
   step-other bytes sheet output n (refusal.full p l r h) i = omega (arith, i)
   step-other bytes sheet output n (refusal.spent p e h) i = omega (arith, i)

@@ -42,7 +42,7 @@ fn clear(state: &mut [u64])
 pub fn start(words: &mut [u64], strings: &mut [u16], state: &mut [u64]) -> bool
     ensures { λ r. ⌜ Started (now (words .entry)) (now (strings .entry)) (now (state .entry)) r (now (words .exit)) (now (strings .exit)) (now (state .exit)) ⌝ }
 {
-    if words.len() == 1635 {
+    if words.len() == 1670 {
         if strings.len() == 8449 {
             if state.len() == 10 {
                 store_write::make_empty(words);

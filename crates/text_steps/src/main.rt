@@ -25,7 +25,7 @@ fn make_room(rows: &[u8], used: usize) -> usize
 
 // One call of the reader: what is left of a piece, and the rows that are left.
 fn feed_from(
-    words: &mut [u64; 1635],
+    words: &mut [u64; 1670],
     strings: &mut [u16; 8449],
     state: &mut [u64; 10],
     line: &mut [u8; 16384],
@@ -49,7 +49,7 @@ fn feed_from(
 
 // All lines that a piece completes. False once nothing more is read or written.
 fn feed_all(
-    words: &mut [u64; 1635],
+    words: &mut [u64; 1670],
     strings: &mut [u16; 8449],
     state: &mut [u64; 10],
     line: &mut [u8; 16384],
@@ -73,7 +73,7 @@ fn feed_all(
 
 // One piece of the input, if there is another.
 fn turn(
-    words: &mut [u64; 1635],
+    words: &mut [u64; 1670],
     strings: &mut [u16; 8449],
     state: &mut [u64; 10],
     line: &mut [u8; 16384],
@@ -88,7 +88,7 @@ fn turn(
 }
 
 fn finish(
-    words: &mut [u64; 1635],
+    words: &mut [u64; 1670],
     strings: &mut [u16; 8449],
     state: &mut [u64; 10],
     line: &[u8; 16384],
@@ -99,7 +99,7 @@ fn finish(
 }
 
 fn main() {
-    let mut words = [0u64; 1635];
+    let mut words = [0u64; 1670];
     let mut strings = [0u16; 8449];
     let mut state = [0u64; 10];
     let mut line = [0u8; 16384];

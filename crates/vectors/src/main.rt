@@ -220,7 +220,7 @@ fn step_tests(r: &[u8]) -> bool
     requires { ⌜ length (now r) ≡ 192 ⌝ }
 {
     let n = Counts {
-        objects: bits::wide(r[1]),
+        live: bits::wide(r[1]),
         strings: bits::wide(r[2]),
         callable: bits::wide(r[181]),
     };
@@ -237,7 +237,7 @@ fn sheet_tests(r: &[u8]) -> bool
     requires { ⌜ length (now r) ≡ 192 ⌝ }
 {
     let n = Counts {
-        objects: bits::wide(r[1]),
+        live: bits::wide(r[1]),
         strings: bits::wide(r[2]),
         callable: bits::wide(r[181]),
     };

@@ -4,6 +4,7 @@
 
 use demnyaluz::notation::{cells, hex, parse, Call, Line, Strings, HEADING};
 use demnyaluz::{readable, rows, sheet_bytes, Completion, Failure, ObjectId, Step, Store, Value};
+use std::collections::BTreeMap;
 use std::error::Error;
 use std::ffi::OsString;
 use std::io::{self, BufWriter, Read, Write};
@@ -22,8 +23,9 @@ FILE may be -, the standard input, but not with --rows.
   --rows       reads the rows of such lines from the standard input and prints each beside its step; failed
                tests are named up to the first row that is not what its step reports here
   --pages      runs the steps and prints, in place of their reports, the property page of each object and
-               function, in the order of their numbers; a proxy has none. A line with the object's name stands
-               before its page, as 'o0:' or, for a function, 'f0:', and an empty line between two pages
+               function that they leave, in the order of their numbers; a proxy has none. A line with the
+               object's name stands before its page, as 'o0:' or, for a function, 'f0:', and an empty line
+               between two pages
   --help, -h   prints this
   --           ends the options, for a FILE whose name begins with a dash
 
@@ -195,22 +197,24 @@ fn run(calls: &[Line], text: &str, output: &mut impl Write) -> io::Result<()> {
     Ok(())
 }
 
-/// Runs the calls, and prints the page of each object and function that they made.
+/// Runs the calls, and prints the page of each object and function that they leave.
 fn print_pages(calls: &[Line], output: &mut impl Write) -> io::Result<()> {
     let mut store = Store::new();
-    let mut made: Vec<(String, ObjectId)> = Vec::new();
+    let mut names: BTreeMap<ObjectId, String> = BTreeMap::new();
     for Line { call, .. } in calls {
         match call {
             Call::Enter(units) => drop(store.enter_units(units)),
             Call::Step { step, answers } => match (step, store.step(step, answers).outcome) {
-                (Step::MakeObject { .. }, Ok(Completion::Value(Value::Object(o)))) => made.push((o.to_string(), o)),
-                (Step::MakeFunction { .. }, Ok(Completion::Value(Value::Function(f)))) => made.push((f.to_string(), f.into())),
+                (Step::MakeObject { .. }, Ok(Completion::Value(Value::Object(o)))) => drop(names.insert(o, o.to_string())),
+                (Step::MakeFunction { .. }, Ok(Completion::Value(Value::Function(f)))) => drop(names.insert(f.into(), f.to_string())),
+                // its number may be that of another object, or of a proxy, next
+                (Step::Release { object }, Ok(_)) => drop(names.remove(object)),
                 _ => {}
             },
             call => unreachable!("a line is an entry or a step: {call}"),
         }
     }
-    for (i, (name, object)) in made.into_iter().enumerate() {
+    for (i, (object, name)) in names.into_iter().enumerate() {
         let page = store.page(object).expect("the page of what is no proxy");
         let between = if i == 0 { "" } else { "\n" };
         write!(output, "{between}{name}:\n{page}")?;

@@ -48,8 +48,11 @@ pub struct Habits {
     pub proxies: usize,
     /// Of so many flags of a descriptor one is left out, one is true and the others are false.
     pub flags: usize,
-    /// One step in so many makes an object.
+    /// One step in so many makes an object; where there is no room, one in eight times as many.
     pub making: usize,
+    /// From so many live objects on, one step in so many releases one.
+    pub crowd: usize,
+    pub releasing: usize,
 }
 
 pub struct Generator {
@@ -67,7 +70,9 @@ impl Generator {
             functions: random.pick(&[3, 4, 8]),
             proxies: random.pick(&[1, 2, 3]),
             flags: random.pick(&[3, 4, 6]),
-            making: random.pick(&[12, 12, 3]),
+            making: random.pick(&[12, 12, 3, 2]),
+            crowd: random.pick(&[4, 8, 16, 31]),
+            releasing: random.pick(&[4, 6, 12]),
         };
         Generator { random, habits }
     }
@@ -111,20 +116,33 @@ impl Generator {
         }
     }
 
+    /// A live object, if there are any.
     fn object(&mut self, world: &World) -> u64 {
-        match world.objects.len() {
-            0 => 0,
-            n => self.random.below(n) as u64,
-        }
+        self.one_of(world, |_, _| true).unwrap_or(0)
     }
 
-    /// The value that names an object; seldom one of the other kind, or a number that was not made.
+    /// One of the live objects that are so.
+    fn one_of(&mut self, world: &World, is: impl Fn(usize, &Object) -> bool) -> Option<u64> {
+        let among: Vec<usize> = world.live().filter(|(o, object)| is(*o, object)).map(|(o, _)| o).collect();
+        (!among.is_empty()).then(|| self.random.pick(&among) as u64)
+    }
+
+    /// A number that was released and not taken again, if there are any.
+    fn released(&mut self, world: &World) -> Option<u64> {
+        (!world.released.is_empty()).then(|| world.released[self.random.below(world.released.len())] as u64)
+    }
+
+    /// The value that names an object; seldom one of the other kind, or a number that was not made or was released.
     fn name_of(&mut self, world: &World, o: u64) -> Value {
         let made = world.objects.len() as u64;
-        match (o < made, self.random.below(80)) {
+        match (world.is_live(o), self.random.below(80)) {
             (true, 0 | 1) if world.is_callable(o as usize) => Value::Object(o),
             (true, 0 | 1) => Value::Function(o),
-            (false, _) | (_, 2) => {
+            (_, 2..=5) if !world.released.is_empty() => {
+                let number = self.released(world).unwrap();
+                self.random.pick(&[Value::Object(number), Value::Function(number)])
+            }
+            (false, _) | (_, 6) => {
                 let number = self.random.pick(&[made, made + 1, 31, 32, 255, 256, u64::MAX]).max(made);
                 self.random.pick(&[Value::Object(number), Value::Function(number)])
             }
@@ -140,8 +158,19 @@ impl Generator {
 
     /// One of the functions, if there are any, or one of the others.
     fn among(&mut self, world: &World, callable: bool) -> Option<u64> {
-        let among: Vec<usize> = (0..world.objects.len()).filter(|o| world.is_callable(*o) == callable).collect();
-        (!among.is_empty()).then(|| self.random.pick(&among) as u64)
+        self.one_of(world, |o, _| world.is_callable(o) == callable)
+    }
+
+    /// An object to release: mostly one that nothing names, or what was released already.
+    fn leaving(&mut self, world: &World) -> u64 {
+        let any = self.object(world);
+        match self.random.below(12) {
+            0 | 1 => any,
+            2 => self.released(world).unwrap_or(any),
+            // of those there are few
+            3 => self.one_of(world, |o, object| matches!(object, Object::Proxy { revoked: true, .. }) && !world.is_named(o)).unwrap_or(any),
+            _ => self.one_of(world, |o, _| !world.is_named(o)).unwrap_or(any),
+        }
     }
 
     /// An object that a proxy can stand before; seldom a function.
@@ -154,7 +183,8 @@ impl Generator {
 
     /// An object to seal or freeze: often a proxy over one that has properties.
     fn closing(&mut self, world: &World) -> usize {
-        let likely = |o: &usize| matches!(world.objects[*o], Object::Proxy { .. }) && world.ordinary(world.base(*o)).properties.len() > 1;
+        let properties = |o: usize| world.base(o).map_or(0, |base| world.ordinary(base).properties.len());
+        let likely = |o: &usize| matches!(world.object(*o), Object::Proxy { .. }) && properties(*o) > 1;
         let tried: Vec<usize> = (0..1 + self.random.below(8)).map(|_| self.object(world) as usize).collect();
         tried.iter().copied().find(likely).unwrap_or(tried[0])
     }
@@ -170,11 +200,10 @@ impl Generator {
 
     /// A key for a step on an object: often one that it has.
     fn key_at(&mut self, world: &World, o: usize) -> Key {
-        let properties = &world.ordinary(world.base(o)).properties;
-        if properties.is_empty() || self.random.once_in(3) {
-            return self.key(world);
+        match world.base(o).map(|base| &world.ordinary(base).properties) {
+            Some(properties) if !properties.is_empty() && !self.random.once_in(3) => properties[self.random.below(properties.len())].0,
+            _ => self.key(world),
         }
-        properties[self.random.below(properties.len())].0
     }
 
     fn value(&mut self, world: &World) -> Value {
@@ -182,11 +211,11 @@ impl Generator {
             0 => Value::Undefined,
             1 => Value::Null,
             2 | 3 => Value::Boolean(self.random.once_in(2)),
-            4 if !world.objects.is_empty() => match self.among(world, true) {
+            4 if world.live().next().is_some() => match self.among(world, true) {
                 Some(f) => self.name_of(world, f),
                 None => self.named(world),
             },
-            5 if !world.objects.is_empty() => self.named(world),
+            5 if world.live().next().is_some() => self.named(world),
             6 => self.key(world).value(),
             _ => self.number(),
         }
@@ -252,7 +281,7 @@ impl Generator {
     }
 
     fn held(&self, world: &World, o: usize, key: Key) -> Option<Descriptor> {
-        world.ordinary(world.base(o)).own(key)
+        world.ordinary(world.base(o)?).own(key)
     }
 
     /// An answer to what was asked.
@@ -270,9 +299,9 @@ impl Generator {
         }
         match asked {
             Asked::Yes => Answer::Value(if self.random.once_in(5) { self.value(world) } else { Value::Boolean(!self.random.once_in(4)) }),
-            Asked::Extensible(o) => Answer::Value(Value::Boolean(world.ordinary(world.base(o)).extensible)),
-            Asked::Prototype(_) if self.random.once_in(4) && !world.objects.is_empty() => Answer::Value(self.named(world)),
-            Asked::Prototype(o) => Answer::Value(world.prototype_value(world.ordinary(world.base(o)).prototype)),
+            Asked::Extensible(o) => Answer::Value(Value::Boolean(world.base(o).map_or(true, |base| world.ordinary(base).extensible))),
+            Asked::Prototype(_) if self.random.once_in(4) => Answer::Value(self.named(world)),
+            Asked::Prototype(o) => Answer::Value(world.prototype_value(world.base(o).and_then(|base| world.ordinary(base).prototype))),
             Asked::Accessor => Answer::Value(self.value(world)),
             Asked::Value(o, key) => Answer::Value(match self.held(world, o, key) {
                 Some(Descriptor { value: Some(v), .. }) => self.near_value(v),
@@ -285,7 +314,7 @@ impl Generator {
                 _ => Answer::Value(Value::Undefined),
             },
             Asked::Keys(o) => {
-                let mut keys: Vec<Value> = world.own_keys(world.base(o)).into_iter().map(Key::value).collect();
+                let mut keys: Vec<Value> = world.base(o).into_iter().flat_map(|base| world.own_keys(base)).map(Key::value).collect();
                 match self.random.below(9) {
                     0 if !keys.is_empty() => drop(keys.remove(self.random.below(keys.len()))),
                     1 => keys.push(self.key(world).value()),
@@ -306,12 +335,15 @@ impl Generator {
     }
 
     fn code(&mut self, world: &World) -> u8 {
-        let made = world.objects.len();
-        if made < 2 || made < 32 && self.random.once_in(self.habits.making) || self.random.once_in(100) {
+        let live = world.live().count();
+        if live >= self.habits.crowd && self.random.once_in(self.habits.releasing) || live > 0 && self.random.once_in(60) {
+            return 17;
+        }
+        if live < 2 || self.random.once_in(if live < 32 { self.habits.making } else { 8 * self.habits.making }) {
             if self.random.once_in(self.habits.functions) {
                 return 16;
             }
-            let targets = (0..made).any(|o| !world.is_callable(o)) || self.random.once_in(12) && made > 0;
+            let targets = world.live().any(|(o, _)| !world.is_callable(o)) || self.random.once_in(12) && live > 0;
             return if targets && self.random.once_in(self.habits.proxies) { 2 } else { 1 };
         }
         if self.random.once_in(150) {
@@ -326,6 +358,7 @@ impl Generator {
         let object = match code {
             1 | 16 => 0,
             2 => self.target(world) as usize,
+            17 => self.leaving(world) as usize,
             18 | 19 => self.closing(world),
             _ => self.object(world) as usize,
         };
@@ -336,10 +369,9 @@ impl Generator {
         }
         match code {
             1 | 5 | 16 => {
-                step.value = if world.objects.is_empty() || self.random.once_in(3) { Value::Null } else { self.named(world) };
+                step.value = if world.live().next().is_none() || self.random.once_in(3) { Value::Null } else { self.named(world) };
                 if code == 5 && self.random.once_in(3) {
-                    let base = world.base(object);
-                    step.value = world.prototype_value(world.ordinary(base).prototype);
+                    step.value = world.prototype_value(world.base(object).and_then(|base| world.ordinary(base).prototype));
                 }
             }
             2 => {
@@ -360,6 +392,10 @@ impl Generator {
                     Some(held) if self.random.once_in(2) => self.near_descriptor(world, &held),
                     _ => self.descriptor(world),
                 };
+                // an object that names itself
+                if step.descriptor.value.is_some() && self.random.once_in(20) {
+                    step.descriptor.value = Some(world.value(object));
+                }
             }
             11 | 12 => {
                 step.receiver = match self.random.below(6) {
@@ -382,6 +418,9 @@ impl Generator {
                 };
             }
             _ => {}
+        }
+        if !matches!(code, 1 | 16) && self.random.once_in(60) {
+            step.object = self.released(world).unwrap_or(object as u64) as usize;
         }
         step
     }
@@ -430,7 +469,7 @@ impl Generator {
                 2 | 3 => bytes[at] ^= 1 << self.random.below(8),
                 4 | 5 => bytes[at] = bytes[at].wrapping_add(1),
                 6 => bytes[at] = bytes[at].wrapping_sub(1),
-                7 => bytes[at] = self.random.pick(&[0, 1, 2, 5, 6, 7, 8, 9, 14, 15, 16, 17, 18, 19, 20, 32, 64, 65, 255]),
+                7 => bytes[at] = self.random.pick(&[0, 1, 2, 5, 6, 7, 8, 9, 14, 15, 16, 17, 17, 18, 19, 20, 32, 64, 65, 255]),
                 8 => drop(bytes.remove(at)),
                 _ => bytes[at] = self.random.next() as u8,
             }
@@ -575,7 +614,7 @@ impl Generator {
 
     /// An output for the page of an object: often as long as the page or a byte shorter, and of any content.
     fn output_for_page(&mut self, world: &World, object: u64) -> Vec<u8> {
-        let properties = match world.objects.get(object as usize) {
+        let properties = match usize::try_from(object).ok().and_then(|o| world.objects.get(o)?.as_ref()) {
             Some(Object::Ordinary(o)) => o.properties.len(),
             _ => self.random.below(4),
         };
@@ -592,17 +631,19 @@ impl Generator {
         (0..length).map(|_| self.random.next() as u8).collect()
     }
 
-    /// Another length of store or table, or a count that they cannot hold.
+    /// Another length of store or table, or a count or a mark that they cannot hold.
     fn damage_memory(&mut self, pair: &mut Pair) {
-        match self.random.below(5) {
+        match self.random.below(7) {
             0 => {
                 let mut words = pair.words.to_vec();
-                words.resize(self.random.pick(&[0, 1, 2, 3, 99, 1634, 1636, 2000]), 0);
+                words.resize(self.random.pick(&[0, 1, 2, 3, 38, 134, 1635, 1669, 1671, 2000]), 0);
                 pair.words = words.into();
             }
             1 => pair.words[0] = self.random.pick(&[33, 34, 64, 256, 1 << 32, u64::MAX]),
             2 => pair.words[1] = self.random.pick(&[257, 258, 512, 1 << 16, 1 << 32, u64::MAX]),
-            3 => {
+            3 => pair.words[3] |= 1 << (32 + self.random.below(32)),
+            4 => pair.words[4] = self.random.pick(&[33, 34, 64, 256, 1 << 32, u64::MAX]),
+            5 => {
                 let mut strings = pair.strings.to_vec();
                 strings.resize(self.random.pick(&[0, 1, 33, 34, 8448, 8450, 9000]), 0);
                 pair.strings = strings.into();
@@ -611,7 +652,8 @@ impl Generator {
         }
     }
 
-    /// The page of an object or a function; seldom of a proxy, of a number that was not made, or over memory that is no store or no table.
+    /// The page of an object or a function; seldom of a proxy, of a number that was not made or was released, or over memory that is no store or no
+    /// table.
     pub fn run_page(&mut self, pair: &mut Pair) {
         let made = pair.world.objects.len() as u64;
         let any = self.object(&pair.world);
@@ -619,8 +661,9 @@ impl Generator {
             0 => self.random.pick(&[made, made + 1, 31, 32, 33, 255, 256, u64::MAX]),
             1 => any | 1 << (5 + self.random.below(59)),
             2 | 3 => any,
-            _ if made == 0 => any,
-            _ => pair.world.base(any as usize) as u64,
+            4 => self.released(&pair.world).unwrap_or(any),
+            _ if pair.world.live().next().is_none() => any,
+            _ => pair.world.base(any as usize).map_or(any, |base| base as u64),
         };
         let output = self.output_for_page(&pair.world, object);
         let kept = (pair.words.clone(), pair.strings.clone());
@@ -672,7 +715,7 @@ impl Generator {
             descriptor: Descriptor::default(),
         };
         pair.step(&step_bytes(&object(1, Value::Null)), &[0], 0);
-        let Some(o) = pair.world.objects.iter().position(|o| matches!(o, Object::Ordinary(o) if o.extensible)) else { return };
+        let Some((o, _)) = pair.world.live().find(|(_, object)| matches!(object, Object::Ordinary(o) if o.extensible)) else { return };
         for i in 0..250 + self.random.below(8) as u64 {
             let key = if i < 200 { Value::String(i) } else { Value::Symbol(i) };
             let step =

@@ -44,9 +44,10 @@ pub fn page_words(told: Result<u64, u64>) -> [u64; 10] {
     }
 }
 
-/// Whether memory is a store and a table: their lengths, and counts that they can hold.
+/// Whether memory is a store and a table: their lengths, counts that they can hold, and no live object above the last.
 pub fn is_memory(words: &[u64], strings: &[u16]) -> bool {
-    words.len() == 1635 && words[0] <= 32 && words[1] <= 256 && strings.len() == 8449 && strings[0] <= 256
+    let is_store = words.len() == 1670 && words[0] <= 32 && words[1] <= 256 && words[3] < 1 << 32 && words[4] <= 32;
+    is_store && strings.len() == 8449 && strings[0] <= 256
 }
 
 fn value(kind: u64, payload: u64) -> Value {
@@ -64,31 +65,41 @@ fn value(kind: u64, payload: u64) -> Value {
     }
 }
 
-/// Two counts, the marks of functions, 32 objects of 3 words, 256 key words, 256 properties of 5 words; a count, 256 rows of a length and 32 code
-/// units.
+/// Two counts, the marks of functions, the marks of live objects; how many numbers are released, where the first of them stands, and 32 places for
+/// them, as a ring; 32 objects of 3 words, 256 key words, 256 properties of 5 words. A count, 256 rows of a length and 32 code units.
 pub fn world(words: &[u64], strings: &[u16]) -> World {
     let mut world = World::default();
     let is_marked = |o: u64| words[2] >> o & 1 == 1;
-    assert_eq!(words[2] >> words[0], 0, "marks of what was not made");
-    for (o, object) in (0..words[0]).zip(words[3..99].chunks_exact(3)) {
-        world.objects.push(match object[0] {
+    let is_live = |o: u64| words[3] >> o & 1 == 1;
+    assert_eq!(words[3] >> words[0], 0, "live, and never made");
+    world.released = (0..words[4]).map(|i| words[6 + ((words[5] + i) % 32) as usize] as usize).collect();
+    let mut free = world.released.iter().copied().collect::<Vec<_>>();
+    free.sort_unstable();
+    assert!(free.iter().copied().eq((0..words[0] as usize).filter(|o| !is_live(*o as u64))), "released {free:?}, live {:b}", words[3]);
+    for (o, object) in (0..words[0]).zip(words[38..134].chunks_exact(3)) {
+        if !is_live(o) {
+            world.objects.push(None);
+            continue;
+        }
+        world.objects.push(Some(match object[0] {
             head @ (0 | 1) => {
                 let prototype = match value(object[1], object[2]) {
                     Value::Null => None,
-                    Value::Object(o) if !is_marked(o) => Some(o as usize),
-                    Value::Function(o) if is_marked(o) => Some(o as usize),
+                    Value::Object(o) if is_live(o) && !is_marked(o) => Some(o as usize),
+                    Value::Function(o) if is_live(o) && is_marked(o) => Some(o as usize),
                     other => panic!("prototype {other:?}"),
                 };
                 Object::Ordinary(Ordinary { prototype, callable: is_marked(o), extensible: head == 1, properties: Vec::new() })
             }
             head @ (2 | 3) => {
-                assert!(!is_marked(o) && !is_marked(object[1]), "a mark of a proxy or of its target");
+                // the number of a revoked one's target may be that of another object
+                assert!(!is_marked(o) && (head == 3 || is_live(object[1]) && !is_marked(object[1])), "a mark of a proxy, or its target");
                 Object::Proxy { target: object[1] as usize, traps: object[2] as u32, revoked: head == 3 }
             }
             head => panic!("head {head}"),
-        });
+        }));
     }
-    for (key, property) in words[99..355].iter().zip(words[355..].chunks_exact(5)).take(words[1] as usize) {
+    for (key, property) in words[134..390].iter().zip(words[390..].chunks_exact(5)).take(words[1] as usize) {
         let owner = (key % 32) as usize;
         let number = key / 64;
         let key = if key / 32 % 2 == 0 { Key::String(number) } else { Key::Symbol(number) };
@@ -114,11 +125,12 @@ pub fn world(words: &[u64], strings: &[u16]) -> World {
 
 /// All of a world as bytes, representations of numbers included.
 pub fn image(world: &World) -> Vec<u8> {
-    let mut bytes = Vec::new();
+    let mut bytes = format!("released {:?};", world.released).into_bytes();
     for object in &world.objects {
         match object {
-            Object::Proxy { target, traps, revoked } => bytes.extend(format!("proxy {target} {traps} {revoked};").bytes()),
-            Object::Ordinary(o) => {
+            None => bytes.extend(b"none;"),
+            Some(Object::Proxy { target, traps, revoked }) => bytes.extend(format!("proxy {target} {traps} {revoked};").bytes()),
+            Some(Object::Ordinary(o)) => {
                 bytes.extend(format!("ordinary {} {:?} {} {};", o.callable, o.prototype, o.extensible, o.properties.len()).bytes());
                 for (key, d) in &o.properties {
                     bytes.extend(key.value().bytes());

@@ -1,10 +1,11 @@
 //! One store in the library's memory and one plain world, that must agree after every call.
 use super::{entries, layout};
+use crate::plain::descriptor::Descriptor;
 use crate::plain::property_page;
 use crate::plain::record;
 use crate::plain::step::{self, Completion, Outcome, Report, Stepped};
 use crate::plain::value::Value;
-use crate::plain::world::World;
+use crate::plain::world::{Object, World};
 use demnyaluz::lent;
 
 /// How often functions came in each place, and how often they were refused.
@@ -50,8 +51,9 @@ impl Functions {
     /// One step over the world from before it.
     fn count(&mut self, world: &World, bytes: &[u8], sheet: &[u8], outcome: &Outcome) {
         let Some(step) = record::step(bytes) else { return };
-        let made = world.objects.len() as u64;
-        let on_function = !matches!(step.code, 1 | 16) && (step.object as u64) < made && world.is_callable(step.object);
+        let is_function = |n: u64| world.is_live(n) && world.is_callable(n as usize);
+        let is_other = |n: u64| world.is_live(n) && !world.is_callable(n as usize);
+        let on_function = !matches!(step.code, 1 | 16) && is_function(step.object as u64);
         let answers = record::sheet(sheet).unwrap_or_default();
         let some = |is: &dyn Fn(Value) -> bool| step.values().any(is) || answers.iter().flat_map(|a| a.values()).any(is);
         match outcome {
@@ -62,10 +64,10 @@ impl Functions {
                 self.accessors += u64::from([step.descriptor.get, step.descriptor.set].into_iter().flatten().any(Value::is_function));
                 self.answered += u64::from(step.code == 4 && matches!(completion, Completion::Value(Value::Function(_))));
             }
-            Outcome::Refused(2) => self.never_made += u64::from(some(&|v| matches!(v, Value::Function(n) if n >= made))),
+            Outcome::Refused(2) => self.never_made += u64::from(some(&|v| matches!(v, Value::Function(n) if n >= world.objects.len() as u64))),
             Outcome::Refused(3) => {
-                self.no_functions += u64::from(some(&|v| matches!(v, Value::Function(n) if n < made && !world.is_callable(n as usize))));
-                self.as_objects += u64::from(some(&|v| matches!(v, Value::Object(n) if n < made && world.is_callable(n as usize))));
+                self.no_functions += u64::from(some(&|v| matches!(v, Value::Function(n) if is_other(n))));
+                self.as_objects += u64::from(some(&|v| matches!(v, Value::Object(n) if is_function(n))));
                 self.targets += u64::from(step.code == 2 && on_function);
                 self.revoked += u64::from(step.code == 3 && on_function);
             }
@@ -127,6 +129,131 @@ impl Pages {
     }
 }
 
+/// How often objects were released, their numbers taken again, and refused.
+#[derive(Clone, Copy, Debug, Default, PartialEq, Eq)]
+pub struct Releases {
+    pub objects: u64,
+    pub functions: u64,
+    pub proxies: u64,
+    pub revoked: u64,
+    /// Properties that went with their objects.
+    pub properties: u64,
+    /// Objects made under a released number.
+    pub reused: u64,
+    /// Of these, those made where all 32 numbers had been given out.
+    pub reused_of_all: u64,
+    /// Refused as 7: objects too many, after some had been released.
+    pub full: u64,
+    /// Refused as 14: by a prototype, a value, a getter, a setter and a target; by its own property.
+    pub prototypes: u64,
+    pub values: u64,
+    pub getters: u64,
+    pub setters: u64,
+    pub targets: u64,
+    pub own: u64,
+    /// Refused as 2, with a released number as the step's object, to be released again, as value, as receiver, in a descriptor, in a sheet, of a page.
+    pub as_object: u64,
+    pub again: u64,
+    pub as_value: u64,
+    pub as_receiver: u64,
+    pub in_descriptor: u64,
+    pub in_sheet: u64,
+    pub of_page: u64,
+}
+
+impl Releases {
+    fn counts(&mut self) -> [&mut u64; 21] {
+        let Releases { objects, functions, proxies, revoked, properties, reused, reused_of_all, full, .. } = self;
+        let Releases { prototypes, values, getters, setters, targets, own, .. } = self;
+        let Releases { as_object, again, as_value, as_receiver, in_descriptor, in_sheet, of_page, .. } = self;
+        [
+            objects,
+            functions,
+            proxies,
+            revoked,
+            properties,
+            reused,
+            reused_of_all,
+            full,
+            prototypes,
+            values,
+            getters,
+            setters,
+            targets,
+            own,
+            as_object,
+            again,
+            as_value,
+            as_receiver,
+            in_descriptor,
+            in_sheet,
+            of_page,
+        ]
+    }
+
+    /// Whether each came.
+    pub fn all(mut self) -> bool {
+        self.counts().iter().all(|n| **n > 0)
+    }
+
+    fn add(&mut self, mut other: Releases) {
+        self.counts().into_iter().zip(other.counts()).for_each(|(a, b)| *a += *b);
+    }
+
+    /// One step over the world from before it; `once` says whether anything was released before.
+    fn count(&mut self, world: &World, once: bool, bytes: &[u8], sheet: &[u8], outcome: &Outcome) {
+        let Some(step) = record::step(bytes) else { return };
+        let makes = matches!(step.code, 1 | 2 | 16);
+        let is_released = |v: Value| v.object().is_some_and(|o| world.released.contains(&o));
+        match outcome {
+            Outcome::Result(_) if makes && !world.released.is_empty() => {
+                self.reused += 1;
+                self.reused_of_all += u64::from(world.objects.len() == 32);
+            }
+            Outcome::Result(_) if step.code == 17 => match world.object(step.object) {
+                Object::Ordinary(it) => {
+                    self.functions += u64::from(it.callable);
+                    self.objects += u64::from(!it.callable);
+                    self.properties += it.properties.len() as u64;
+                }
+                Object::Proxy { revoked, .. } => {
+                    self.revoked += u64::from(*revoked);
+                    self.proxies += u64::from(!revoked);
+                }
+            },
+            Outcome::Refused(7) if makes => self.full += u64::from(once),
+            Outcome::Refused(14) => self.count_names(world, step.object),
+            Outcome::Refused(2) => {
+                let on_released = !matches!(step.code, 1 | 16) && world.released.contains(&step.object);
+                self.as_object += u64::from(on_released);
+                self.again += u64::from(on_released && step.code == 17);
+                self.as_value += u64::from(is_released(step.value));
+                self.as_receiver += u64::from(is_released(step.receiver));
+                self.in_descriptor += u64::from(step.descriptor.values().any(is_released));
+                self.in_sheet += u64::from(record::sheet(sheet).unwrap_or_default().iter().flat_map(|a| a.values()).any(is_released));
+            }
+            _ => {}
+        }
+    }
+
+    fn count_names(&mut self, world: &World, o: usize) {
+        let is = |v: Option<Value>| v.is_some_and(|v| v.object() == Some(o));
+        for (owner, object) in world.live() {
+            match object {
+                Object::Proxy { target, revoked, .. } => self.targets += u64::from(!revoked && *target == o),
+                Object::Ordinary(it) => {
+                    let some = |of: &dyn Fn(&Descriptor) -> bool| u64::from(it.properties.iter().any(|(_, d)| of(d)));
+                    self.prototypes += u64::from(it.prototype == Some(o));
+                    self.values += some(&|d| is(d.value));
+                    self.getters += some(&|d| is(d.get));
+                    self.setters += some(&|d| is(d.set));
+                    self.own += some(&|d| owner == o && (is(d.value) || is(d.get) || is(d.set)));
+                }
+            }
+        }
+    }
+}
+
 /// How often each outcome came, over all entries but the pages, which have counts of their own.
 #[derive(Clone, Debug)]
 pub struct Tally {
@@ -135,7 +262,7 @@ pub struct Tally {
     pub results: u64,
     pub thrown: u64,
     /// 12 is of a line of text, and never comes here.
-    pub refusals: [u64; 14],
+    pub refusals: [u64; 15],
     pub messages: [u64; 33],
     pub codes: [u64; 20],
     /// Validations that were not refused, by the first test that failed; 0 is none.
@@ -144,6 +271,7 @@ pub struct Tally {
     pub midway: u64,
     pub functions: Functions,
     pub pages: Pages,
+    pub releases: Releases,
 }
 
 impl Default for Tally {
@@ -152,13 +280,14 @@ impl Default for Tally {
             calls: 0,
             results: 0,
             thrown: 0,
-            refusals: [0; 14],
+            refusals: [0; 15],
             messages: [0; 33],
             codes: [0; 20],
             tests: [0; 9],
             midway: 0,
             functions: Functions::default(),
             pages: Pages::default(),
+            releases: Releases::default(),
         }
     }
 }
@@ -181,6 +310,7 @@ impl Tally {
         self.midway += other.midway;
         self.functions.add(other.functions);
         self.pages.add(other.pages);
+        self.releases.add(other.releases);
         let all = |mine: &mut [u64], theirs: &[u64]| mine.iter_mut().zip(theirs).for_each(|(a, b)| *a += b);
         all(&mut self.refusals, &other.refusals);
         all(&mut self.messages, &other.messages);
@@ -190,7 +320,7 @@ impl Tally {
 
     /// How many steps there were of each code.
     pub fn steps(&self) -> impl Iterator<Item = (usize, u64)> + '_ {
-        (1..=14).chain([16, 18, 19]).map(|code| (code, self.codes[code]))
+        (1..=14).chain([16, 17, 18, 19]).map(|code| (code, self.codes[code]))
     }
 
     /// The refusals and messages that never came.
@@ -212,11 +342,14 @@ pub struct Pair {
     pub words: Box<[u64]>,
     pub strings: Box<[u16]>,
     pub tally: Tally,
+    /// Whether anything was released.
+    once: bool,
 }
 
 impl Pair {
     pub fn new() -> Self {
-        let mut pair = Pair { world: World::default(), words: vec![0; 1635].into(), strings: vec![0; 8449].into(), tally: Tally::default() };
+        let mut pair =
+            Pair { world: World::default(), words: vec![0; 1670].into(), strings: vec![0; 8449].into(), tally: Tally::default(), once: false };
         // the memory need not be zero before it is emptied
         pair.words.fill(0xdead_beef_dead_beef);
         pair.strings.fill(0xbeef);
@@ -256,6 +389,8 @@ impl Pair {
         }
         self.tally.count(&stepped.report);
         self.tally.functions.count(&world_before, bytes, sheet, &stepped.report.outcome);
+        self.tally.releases.count(&world_before, self.once, bytes, sheet, &stepped.report.outcome);
+        self.once |= !self.world.released.is_empty();
         if changes && !matches!(stepped.report.outcome, Outcome::Result(_)) && self.words != before.0 {
             self.tally.midway += 1;
         }
@@ -291,6 +426,7 @@ impl Pair {
         assert!(self.words == before.0 && self.strings == before.1, "store or strings changed\n{}", input());
         self.tally.calls += 1;
         self.tally.pages.count(&self.world, object, expected, content.len());
+        self.tally.releases.of_page += u64::from(expected == Err(2) && self.world.released.iter().any(|o| *o as u64 == object));
         expected
     }
 

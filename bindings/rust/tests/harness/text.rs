@@ -24,7 +24,7 @@ impl Reader {
     pub fn new() -> Self {
         // the memory need not be zero before it starts
         let mut reader = Reader {
-            words: vec![0xdead_beef_dead_beef; 1635].into(),
+            words: vec![0xdead_beef_dead_beef; 1670].into(),
             strings: vec![0xbeef; 8449].into(),
             state: vec![u64::MAX; 10].into(),
             line: vec![0xa5; MAXIMUM_CHARACTERS].into(),

@@ -57,7 +57,7 @@ impl Run {
             return Err(Stop::Refused(10));
         }
         self.calls += 1;
-        match self.world.objects[o] {
+        match *self.world.object(o) {
             Object::Ordinary(_) => Ok(Kind::Ordinary),
             Object::Proxy { revoked: true, .. } => type_error(1),
             Object::Proxy { target, traps, .. } if traps >> (code - 4) & 1 == 1 => Ok(Kind::Trapping(target)),
@@ -147,7 +147,7 @@ impl Run {
             if above == o {
                 return false;
             }
-            p = match &self.world.objects[above] {
+            p = match self.world.object(above) {
                 Object::Ordinary(a) => a.prototype,
                 Object::Proxy { .. } => None,
             };

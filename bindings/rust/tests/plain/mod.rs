@@ -1,4 +1,4 @@
-//! Descriptors, ordinary objects, functions and proxies of ECMA-262 (2024) over a store of 32 objects, written plainly with Vec, Option and Result.
+//! Descriptors, ordinary objects, functions and proxies of ECMA-262 (2024) over a store of 32 live objects, written plainly with Vec, Option and Result.
 //!
 //! The library is held against this. It follows docs/REFERENCE.md and the standard's numbered steps and shares no code with the
 //! library or with the crate's own encoding.

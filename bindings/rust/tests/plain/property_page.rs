@@ -37,10 +37,12 @@ fn text(world: &World, o: usize) -> String {
 /// The page at the output's start: how many bytes it has. Else the number of the refusal, and the output stays.
 pub fn page(world: &World, object: u64, output: &mut [u8]) -> Result<u64, u64> {
     let o = usize::try_from(object).map_err(|_| 2u64)?;
-    let text = match world.objects.get(o) {
-        None => return Err(2),
-        Some(Object::Proxy { .. }) => return Err(3),
-        Some(Object::Ordinary(_)) => text(world, o),
+    if !world.is_live(object) {
+        return Err(2);
+    }
+    let text = match world.object(o) {
+        Object::Proxy { .. } => return Err(3),
+        Object::Ordinary(_) => text(world, o),
     };
     output.get_mut(..text.len()).ok_or(11u64)?.copy_from_slice(text.as_bytes());
     Ok(text.len() as u64)

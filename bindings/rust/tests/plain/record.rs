@@ -1,4 +1,4 @@
-//! Values, descriptors, steps and answer sheets as bytes; refusals 1 to 4.
+//! Values, descriptors, steps and answer sheets as bytes; refusals 1 to 4 and 14.
 use super::descriptor::Descriptor;
 use super::value::{Key, Value};
 use super::world::{Object, World};
@@ -118,7 +118,7 @@ fn uses(code: u8) -> Option<[bool; 5]> {
     Some(match code {
         1 | 16 => [N, N, Y, N, N],
         2 => [Y, N, Y, N, N],
-        3 | 4 | 6 | 7 | 14 => [Y, N, N, N, N],
+        3 | 4 | 6 | 7 | 14 | 17 => [Y, N, N, N, N],
         5 | 18 | 19 => [Y, N, Y, N, N],
         8 | 10 | 13 => [Y, Y, N, N, N],
         9 => [Y, Y, N, N, Y],
@@ -155,15 +155,15 @@ pub fn step(bytes: &[u8]) -> Option<Step> {
     }
 }
 
-/// Refusal 2: every object that is named was made.
+/// Refusal 2: every object that is named was made, and not released.
 pub fn all_made(world: &World, mut values: impl Iterator<Item = Value>) -> bool {
     values.all(|v| match v {
-        Value::Object(n) | Value::Function(n) => n < world.objects.len() as u64,
+        Value::Object(n) | Value::Function(n) => world.is_live(n),
         _ => true,
     })
 }
 
-/// Refusal 3 as far as numbers go, where every object was made: functions are named as functions, and nothing else is.
+/// Refusal 3 as far as numbers go, where every object is live: functions are named as functions, and nothing else is.
 pub fn all_known(world: &World, mut values: impl Iterator<Item = Value>) -> bool {
     values.all(|v| match v {
         Value::String(n) => n < world.strings.len() as u64,
@@ -188,7 +188,7 @@ impl Step {
         };
         let object = match self.code {
             2 => !world.is_callable(self.object),
-            3 => matches!(world.objects[self.object], Object::Proxy { .. }),
+            3 => matches!(world.object(self.object), Object::Proxy { .. }),
             _ => true,
         };
         key && value && object
@@ -205,15 +205,18 @@ impl Answer {
     }
 }
 
-/// Refusals 1 to 4 over the step, then 1 to 3 over the sheet, else both.
+/// Refusals 1 to 3, 14 and 4 over the step, then 1 to 3 over the sheet, else both.
 pub fn read(world: &World, step_bytes: &[u8], sheet_bytes: &[u8]) -> Result<(Step, Vec<Answer>), u64> {
     let step = step(step_bytes).ok_or(1u64)?;
     let makes = matches!(step.code, 1 | 16);
-    if !makes && step.object >= world.objects.len() || !all_made(world, step.values()) {
+    if !makes && !world.is_live(step.object as u64) || !all_made(world, step.values()) {
         return Err(2);
     }
     if !all_known(world, step.values()) || !step.kinds_fit(world) {
         return Err(3);
+    }
+    if step.code == 17 && world.is_named(step.object) {
+        return Err(14);
     }
     if !step.descriptor.is_usable() {
         return Err(4);

@@ -94,11 +94,11 @@ pub fn step(world: &mut World, bytes: &[u8], sheet: &[u8], output: &mut [u8]) ->
 }
 
 fn make(run: &mut Run, object: Object) -> Result<Completion, Stop> {
-    if run.world.objects.len() == MAXIMUM_OBJECTS {
+    if run.world.live().count() == MAXIMUM_OBJECTS {
         return Err(Stop::Refused(7));
     }
-    run.world.objects.push(object);
-    Ok(Completion::Value(run.world.value(run.world.objects.len() - 1)))
+    let o = run.world.add(object);
+    Ok(Completion::Value(run.world.value(o)))
 }
 
 fn perform(run: &mut Run, step: &Step) -> Result<Completion, Stop> {
@@ -115,7 +115,7 @@ fn perform(run: &mut Run, step: &Step) -> Result<Completion, Stop> {
             make(run, Object::Proxy { target: o, traps: mask as u32, revoked: false })
         }
         3 => {
-            if let Object::Proxy { revoked, .. } = &mut run.world.objects[o] {
+            if let Some(Object::Proxy { revoked, .. }) = &mut run.world.objects[o] {
                 *revoked = true;
             }
             Ok(boolean(true))
@@ -134,6 +134,10 @@ fn perform(run: &mut Run, step: &Step) -> Result<Completion, Stop> {
         12 => run.set(o, key, step.value, step.receiver).map(boolean),
         13 => run.delete(o, key).map(boolean),
         14 => run.own_property_keys(o).map(Completion::Keys),
+        17 => {
+            run.world.release(o);
+            Ok(boolean(true))
+        }
         18 => run.set_integrity_level(o, Level::of(step.value).unwrap()).map(boolean),
         19 => run.test_integrity_level(o, Level::of(step.value).unwrap()).map(boolean),
         _ => unreachable!(),

@@ -10,7 +10,7 @@ use Rattle.definition.proofs.ordinary_define_own_property.Statement.{st
 use Rattle.definition.proofs.ordinary_define_own_property.Tie as tie
 
 apply-validation-requires : tie.Need-apply-validation-requires
-apply-validation-requires c κs = (c .before .before .before .before .before .before .before .before .before .before .before .before .pre .0 .readable .store, (record { owner = ordinary-below (now (c .before .before .before .before .before .before .before .before .before .before .before .before .args .words)) (c .before .before .before .before .before .before .before .before .before .before .before .before .args .o) (c .before .before .before .before .before .before .before .before .before .before .before .before .pre .0 .readable .store) (c .before .before .before .before .before .before .before .before .before .before .before .before .pre .1); number = c .before .before .before .before .before .before .before .before .before .before .before .before .pre .0 .number }, c .before .before .before .before .before .before .before .before .before .before .before .before .pre .0 .limit))
+apply-validation-requires c κs = (c .before .before .before .before .before .before .before .before .before .before .before .before .pre .0 .readable .store, (record { owner = ordinary-below (now (c .before .before .before .before .before .before .before .before .before .before .before .before .args .words)) (c .before .before .before .before .before .before .before .before .before .before .before .before .args .o) (c .before .before .before .before .before .before .before .before .before .before .before .before .pre .1); number = c .before .before .before .before .before .before .before .before .before .before .before .before .pre .0 .number }, c .before .before .before .before .before .before .before .before .before .before .before .before .pre .0 .limit))
 
 returns : tie.Need-returns
 unfolding pure fails next _>>=_ ordinaryDefineOwnProperty

@@ -1,4 +1,4 @@
-use borrow.Author.Tests.{lt-ltb, le-ltb}
+use borrow.Author.Tests.{lt-ltb, le-ltb, eq-eqb, ne-eqb}
 use Rattle.performing.proofs.is_creation.Statement.{statement}
 use Rattle.performing.proofs.is_creation.Tie as tie
 
@@ -6,7 +6,10 @@ returns : tie.Need-returns
 returns c = rw (lt-ltb _ _ (c .if1 .taken))
 
 returns-2 : tie.Need-returns-2
-returns-2 c = rw (le-ltb _ _ (c .if1 .left))
+returns-2 c = rw (le-ltb _ _ (c .before .if1 .left), eq-eqb _ _ (c .if2 .taken))
+
+returns-3 : tie.Need-returns-3
+returns-3 c = rw (le-ltb _ _ (c .before .if1 .left), ne-eqb _ _ (c .if2 .left))
 
 pub is-creation-spec : {M : Type 1} → statement M
-is-creation-spec = tie.close (tie.spec returns returns-2)
+is-creation-spec = tie.close (tie.spec returns returns-2 returns-3)

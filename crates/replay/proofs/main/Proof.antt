@@ -5,7 +5,7 @@ use Rattle.replay.proofs.main.Statement.{statement}
 use Rattle.replay.proofs.main.Tie as tie
 
 abbrev Inv-loop : tie.InvT-loop
-Inv-loop words₀ strings₀ text₀ output₀ tally₀ turns₀ words strings text output tally turns = (length words ≡ 1635) × ((length strings ≡ 8449) × ((length text ≡ 65536) × (length output ≡ 65536)))
+Inv-loop words₀ strings₀ text₀ output₀ tally₀ turns₀ words strings text output tally turns = (length words ≡ 1670) × ((length strings ≡ 8449) × ((length text ≡ 65536) × (length output ≡ 65536)))
 
 abbrev μ-loop : tie.MeasureT-loop
 μ-loop words₀ strings₀ text₀ output₀ tally₀ turns₀ words strings text output tally turns = turns

@@ -18,6 +18,9 @@ add-property-requires c κs = (c .before .before .before .before .before .pre .s
 remove-property-requires : tie.Need-remove-property-requires
 remove-property-requires c κs = (c .before .before .before .before .before .pre .store, rw (c .before .before .w5 .given .1) at (c .before .before .before .before .before .pre .bounds))
 
+release-object-requires : tie.Need-release-object-requires
+release-object-requires c κs = (c .before .before .before .before .before .pre .store, rw (c .before .before .w6 .given .1) at (c .before .before .before .before .before .pre .bounds))
+
 returns : tie.Need-returns
 returns c = rw (c .enum-told .given .1) (record { words = refl; store = refl; kept = c .before .before .before .pre .store })
 
@@ -36,6 +39,9 @@ returns-5 c = rw (c .before .before .before .before .before .w4 .given .1) (c .b
 returns-6 : tie.Need-returns-6
 returns-6 c = rw (c .before .before .before .before .before .w5 .given .1) (c .before .before .remove-property .ensures)
 
+returns-7 : tie.Need-returns-7
+returns-7 c = rw (c .before .before .before .before .before .w6 .given .1) (c .before .before .release-object .ensures)
+
 pub commit-spec : {M : Type 1} → statement M
 commit-spec =
     tie.close
@@ -51,6 +57,8 @@ commit-spec =
     add-property-requires
     (λ c. search needs)
     remove-property-requires
+    (λ c. search needs)
+    release-object-requires
     returns
     (λ c. search needs)
     returns-2
@@ -61,4 +69,6 @@ commit-spec =
     (λ c. search needs)
     returns-5
     (λ c. search needs)
-    returns-6)
+    returns-6
+    (λ c. search needs)
+    returns-7)

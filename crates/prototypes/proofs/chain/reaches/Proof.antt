@@ -4,6 +4,7 @@ use native.Mathlib.Omega.{arith}
 use mathlib.Core.Path.{_≡_, refl, sym}
 use borrow.Author.Needs.{needs}
 use Rattle.store.specs.Words.{storeOf}
+use Rattle.store.proofs.WordLaws.{object-length}
 use Rattle.internal_methods.specs.Ordinary.{reaches}
 use Rattle.prototypes.proofs.chain.reaches.Statement.{statement}
 use Rattle.prototypes.proofs.chain.reaches.Tie as tie
@@ -18,17 +19,17 @@ loop-holds : tie.Need-loop-holds Inv-loop μ-loop
 loop-holds c = refl
 
 returns : tie.Need-returns Inv-loop μ-loop
-returns c = rw (sym (c .before .before .before .before .before .object-count .ensures .0), follow _ _ _ (c .before .before .next-link .result) (c .before .before .next-link .ensures) _ _ _ (c .before .before .before .loop-test .taken) (c .before .before .before .before .loop .inv), c .enum-told .given .1)
+returns c = rw (object-length _, follow _ _ _ (c .before .before .next-link .result) (c .before .before .next-link .ensures) _ _ _ (c .before .before .before .loop-test .taken) (c .before .before .before .before .loop .inv), c .enum-told .given .1)
 
 returns-2 : tie.Need-returns-2 Inv-loop μ-loop
-returns-2 c = rw (sym (c .before .before .before .before .before .object-count .ensures .0), follow _ _ _ (c .before .before .next-link .result) (c .before .before .next-link .ensures) _ _ _ (c .before .before .before .loop-test .taken) (c .before .before .before .before .loop .inv), c .enum-told2 .given .1)
+returns-2 c = rw (object-length _, follow _ _ _ (c .before .before .next-link .result) (c .before .before .next-link .ensures) _ _ _ (c .before .before .before .loop-test .taken) (c .before .before .before .before .loop .inv), c .enum-told2 .given .1)
 
 loop-again : tie.Need-loop-again Inv-loop μ-loop
 loop-again c = rw (follow _ _ _ (c .before .before .before .next-link .result) (c .before .before .before .next-link .ensures) _ _ _ (c .before .before .before .before .loop-test .taken) (c .before .before .before .before .before .loop .inv), c .before .parent .given .1)
 
 returns-3 : tie.Need-returns-3 Inv-loop μ-loop
 unfolding reaches
-returns-3 c = let z : c .before .loop .left ≡ 0 = omega arith in rw (sym (c .before .before .object-count .ensures .0), sym (c .before .loop .inv), z)
+returns-3 c = let z : c .before .loop .left ≡ 0 = omega arith in rw (object-length _, sym (c .before .loop .inv), z)
 
 pub reaches-spec : {M : Type 1} → statement M
 reaches-spec =
@@ -36,7 +37,6 @@ reaches-spec =
     (tie.spec
     Inv-loop
     μ-loop
-    (λ c κs. search needs)
     loop-holds
     (λ c κs. search needs)
     (λ c. search needs)

@@ -6,10 +6,10 @@ use Rattle.replay.proofs.readout.put_objects.Statement.{statement}
 use Rattle.replay.proofs.readout.put_objects.Tie as tie
 
 abbrev Inv-loop : tie.InvT-loop
-Inv-loop out₀ at words strings n next₀ o₀ out next o = (o ≤ n) × ((n ≤ 32) × (length out ≡ length out₀))
+Inv-loop out₀ at words strings next₀ o₀ out next o = (o ≤ 32) × (length out ≡ length out₀)
 
 abbrev μ-loop : tie.MeasureT-loop
-μ-loop out₀ at words strings n next₀ o₀ out next o = n - o
+μ-loop out₀ at words strings next₀ o₀ out next o = 32 - o
 
 pub put-objects-spec : {M : Type 1} → statement M
 put-objects-spec =

@@ -33,7 +33,7 @@ returns-9 : tie.Need-returns-9
 returns-9 c = c .set-step .ensures ∙ rw (c .before .before .wide2 .ensures .0) (set-code _ _ _ (c .before .before .before .before .before .before .if1 .left) _ (c .before .before .before .before .wide .ensures .0) (c .before .match .keys9))
 
 returns-10 : tie.Need-returns-10
-returns-10 c = c .level-step .ensures ∙ rw (c .before .before .before .before .before .before .wide2 .ensures .0) (level-code _ _ _ (c .before .before .before .before .before .before .before .before .before .before .if1 .left) _ (c .before .before .before .before .before .before .before .before .wide .ensures .0) (c .before .before .if4 .left) (c .before .if5 .taken))
+returns-10 c = c .level-step .ensures ∙ rw (c .before .before .before .before .before .before .wide2 .ensures .0) (level-code _ _ _ (c .before .before .before .before .before .before .before .before .before .before .if1 .left) _ (c .before .before .before .before .before .before .before .before .wide .ensures .0) (c .before .before .before .before .before .match .rest .0 .0 .0 .0 .0 .0 .0 .0 .1) (c .before .before .before .before .before .match .rest .0 .0 .0 .0 .1) (c .before .before .if4 .left) (c .before .if5 .taken))
 
 returns-11 : tie.Need-returns-11
 returns-11 c = no-code _ _ _ (c .before .before .before .before .before .before .if1 .left) _ (c .before .before .before .before .wide .ensures .0) (code-low _ (c .if2 .taken))

@@ -33,11 +33,11 @@ returns-7 c = rw (c .enum-told7 .given .1)
 
 returns-8 : tie.Need-returns-8
 unfolding isMade
-returns-8 c = rw (c .before .before .v .given .1)
+returns-8 c = rw (c .before .before .v .given .1) (c .bit .ensures)
 
 returns-9 : tie.Need-returns-9
 unfolding isMade
-returns-9 c = rw (c .before .before .v2 .given .1)
+returns-9 c = rw (c .before .before .v2 .given .1) (c .bit2 .ensures)
 
 pub is-made-spec : {M : Type 1} → statement M
-is-made-spec = tie.close (tie.spec (λ c. search needs) (λ c. search needs) (λ c. search needs) (λ c. search needs) (λ c. search needs) (λ c. search needs) (λ c. search needs) (λ c. search needs) (λ c. search needs) returns returns-2 returns-3 returns-4 returns-5 returns-6 returns-7 returns-8 returns-9)
+is-made-spec = tie.close (tie.spec (λ c. search needs) (λ c. search needs) (λ c. search needs) (λ c. search needs) (λ c. search needs) (λ c. search needs) (λ c. search needs) (λ c. search needs) (λ c κs. search needs) (λ c. search needs) (λ c κs. search needs) returns returns-2 returns-3 returns-4 returns-5 returns-6 returns-7 returns-8 returns-9)

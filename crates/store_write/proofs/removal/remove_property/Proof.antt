@@ -1,5 +1,7 @@
 use Rattle.store.proofs.WordLaws.{sized}
-use Rattle.store_write.proofs.WriteLaws.{length-moved, became, becomes-without, turn-hit, turn-miss, turn-end}
+use Rattle.store_write.proofs.WriteLaws.{length-moved, became, becomes-without, turn-hit, turn-miss, turn-end, key-hit, key-miss}
+use Rattle.store.specs.declared.Entry.{Entry}
+use Rattle.store.specs.Store.{isAt}
 use Rattle.store.specs.Words.{keyWord, swept, withoutRow}
 use Rattle.value.specs.declared.PropertyKey.{PropertyKey}
 use lib.ListN.{length, length-set}
@@ -13,7 +15,7 @@ use Rattle.store_write.proofs.removal.remove_property.Tie as tie
 
 abbrev Inv-loop : tie.InvT-loop
 Inv-loop words₀ o n key i₀ j₀ words i j =
-    (i ≤ n) × ((j ≤ i) × ((length words ≡ 1635) × ((k : PropertyKey) → key ≡ keyWord o k → withoutRow words₀ o k ≡ swept (n - i) words o k i j)))
+    (i ≤ n) × ((j ≤ i) × ((length words ≡ 1670) × ((k : PropertyKey) → key ≡ keyWord o k → withoutRow words₀ o k ≡ swept (λ (e : Entry). isAt e o k) (n - i) words i j)))
 
 abbrev μ-loop : tie.MeasureT-loop
 μ-loop words₀ o n key i₀ j₀ words i j = n - i
@@ -35,7 +37,7 @@ loop-again c =
         (
           g .1 .1 .0,
           λ k e.
-              g .1 .1 .1 k e ∙ turn-hit (c .before .before .before .loop .words) (c .before .before .before .before .before .before .before .args .o) k (c .before .before .before .loop .i) _ (c .before .before .before .loop .j) _ (c .before .before .loop-test .taken) (c .before .before .before .before .before .before .before .pre .1 .owner) e (c .if1 .taken),
+              g .1 .1 .1 k e ∙ turn-hit (λ (x : Entry). isAt x _ k) _ _ _ _ (c .before .before .loop-test .taken) (key-hit _ _ _ _ k (c .before .before .before .before .before .before .before .pre .1 .owner) e (c .if1 .taken)),
         ),
       ),
     )
@@ -54,7 +56,7 @@ loop-again-2 c =
         (
           ap length m ∙ length-moved (c .before .before .before .before .before .before .before .loop .words) (c .before .before .before .before .before .before .before .loop .i) (c .before .before .before .before .before .before .before .loop .j) ∙ g .1 .1 .0,
           λ k e.
-              rw m (g .1 .1 .1 k e ∙ turn-miss (c .before .before .before .before .before .before .before .loop .words) (c .before .before .before .before .before .before .before .before .before .before .before .args .o) k (c .before .before .before .before .before .before .before .loop .i) _ (c .before .before .before .before .before .before .before .loop .j) _ (c .before .before .before .before .before .before .loop-test .taken) (c .before .before .before .before .before .before .before .before .before .before .before .pre .1 .owner) e (c .before .before .before .before .if1 .left)),
+              rw m (g .1 .1 .1 k e ∙ turn-miss (λ (x : Entry). isAt x _ k) _ _ _ _ (c .before .before .before .before .before .before .loop-test .taken) (key-miss _ _ _ _ k (c .before .before .before .before .before .before .before .before .before .before .before .pre .1 .owner) e (c .before .before .before .before .if1 .left))),
         ),
       ),
     )
@@ -65,7 +67,7 @@ same-length c = let s = sized (now (c .before .before .before .before .before .a
 returns : tie.Need-returns Inv-loop μ-loop
 returns c =
     let a = c .before .before .before .before .before .args in
-    became (sym (c .before .loop .inv .1 .1 .1 (a .k) (c .before .before .key-word .ensures) ∙ turn-end (c .before .loop .words) (a .o) (a .k) (c .before .loop .i) _ (c .before .loop .j) (c .before .before .key-word .result) (c .loop-test .left)))
+    became (sym (c .before .loop .inv .1 .1 .1 (a .k) (c .before .before .key-word .ensures) ∙ turn-end (λ (e : Entry). isAt e (a .o) (a .k)) _ _ _ _ (c .loop-test .left)))
     (becomes-without (now (a .words)) (c .before .before .before .before .before .pre .0) (a .o) (a .k))
 
 pub remove-property-spec : {M : Type 1} → statement M

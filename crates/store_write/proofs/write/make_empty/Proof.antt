@@ -4,6 +4,8 @@ use borrow.Author.Tests.{eq-eqb, ne-eqb}
 use mathlib.Core.Bool.{false≢true}
 use denote.Ref.{now}
 use mathlib.Core.Path.{sym}
+use lib.ListN.{length-set}
+use native.Mathlib.Omega.{arith}
 use borrow.Author.Needs.{needs}
 use Rattle.store_write.proofs.write.make_empty.Statement.{statement}
 use Rattle.store_write.proofs.write.make_empty.Tie as tie
@@ -27,6 +29,9 @@ make-empty-spec =
     (λ c. search needs)
     (λ c. search needs)
     (λ c. search needs)
+    (λ c. search needs)
+    (λ c. simp length-set (omega arith))
+    (λ c. simp length-set (omega arith))
     (λ c. search needs)
     returns
     returns-2)

@@ -1,13 +1,13 @@
 use Rattle.store.proofs.WordLaws.{sized}
+use Rattle.store_read.proofs.ReadLaws.{live-below}
 use Rattle.store_write.proofs.WriteLaws.{became, becomes-object}
 use denote.Ref.{now}
-use native.Mathlib.Omega.{arith}
 use borrow.Author.Needs.{needs}
 use Rattle.store_write.proofs.write.set_object.Statement.{statement}
 use Rattle.store_write.proofs.write.set_object.Tie as tie
 
 write-object-requires : tie.Need-write-object-requires
-write-object-requires c κs = let s = sized (now (c .before .before .args .words)) (c .before .before .pre .0) in (s .size, omega arith)
+write-object-requires c κs = let s = sized (now (c .before .before .args .words)) (c .before .before .pre .0) in (s .size, live-below _ s _ (c .before .before .pre .1))
 
 returns : tie.Need-returns
 returns c =
