@@ -2,34 +2,9 @@
  * Functions through include/demnyaluz.h: made by code 16, as prototype, receiver and operand, as getter and setter, as a handler's answer; then all that
  * is refused of them, and a full store.
  */
-#include "checked.h"
-#include <string.h>
+#include "stepping.h"
 
-static uint64_t before[DEMNYALUZ_STORE_WORDS];
-
-/* A step with one answer, or with none where its tag is 0. */
-static void run_answered(struct demnyaluz_step_parts parts, uint8_t tag, struct demnyaluz_value answer)
-{
-    uint8_t step[DEMNYALUZ_STEP_BYTES], sheet[2 + DEMNYALUZ_VALUE_BYTES] = {tag != 0, tag};
-    demnyaluz_write_value(sheet + 2, answer);
-    demnyaluz_write_step(step, &parts);
-    memcpy(before, words, sizeof before);
-    demnyaluz_step(MEMORY, step, sizeof step, sheet, tag != 0 ? sizeof sheet : 1, output, sizeof output, report_words);
-}
-
-static void run(struct demnyaluz_step_parts parts)
-{
-    run_answered(parts, 0, demnyaluz_make_value(DEMNYALUZ_KIND_UNDEFINED, 0));
-}
-
-#define RUN(...) run((struct demnyaluz_step_parts){__VA_ARGS__})
 #define RUN_ANSWERED(answer, ...) run_answered((struct demnyaluz_step_parts){__VA_ARGS__}, DEMNYALUZ_ANSWER_VALUE, answer)
-
-static bool is_report(uint64_t outcome, uint64_t number, uint64_t answers, uint64_t calls)
-{
-    const struct demnyaluz_report r = report();
-    return r.outcome == outcome && r.number == number && r.answers == answers && r.calls == calls;
-}
 
 static bool is_same(struct demnyaluz_value a, struct demnyaluz_value b)
 {
