@@ -3,7 +3,7 @@ use Prim.Native.Nat.{ℕ, zero, suc, _-_, _<_}
 use native.Mathlib.Omega.{arith}
 use native.Mathlib.Numerals.{unary-clauses}
 use mathlib.Core.Path.{_≡_, refl, sym, _∙_, ap}
-use mathlib.Core.Bool.{Bool, true, false}
+use mathlib.Core.Bool.{Bool, true, false, true≢false}
 use mathlib.Core.Option.{Option, none, some}
 use mathlib.Core.List.{List}
 use Rattle.value.specs.declared.Value.{Value}
@@ -23,11 +23,11 @@ use Rattle.internal_methods.specs.Proxy.{hasTrap, proxyGetPrototypeOf, proxySet
 use Rattle.internal_methods.specs.Internal.{methods}
 use Rattle.store_read.specs.declared.ObjectFound.{ObjectFound}
 use Rattle.store_read.specs.declared.ObjectFound.the-variants as answer
-use Rattle.store_read.specs.Answers.{objectFound}
+use Rattle.store_read.specs.Answers.{objectFound, isOrdinary}
 use Rattle.calls.specs.declared.Progress.{Progress}
 use Rattle.calls.specs.declared.Entered.{Entered}
 use Rattle.calls.specs.declared.Entered.the-variants as entered
-use Rattle.calls.specs.Entering.{progress, ordinaryIn, isOrdinary, proxied, looked, goingDown, entering}
+use Rattle.calls.specs.Entering.{progress, ordinaryIn, proxied, looked, goingDown, entering}
 use Rattle.calls.specs.Outs.{stateOf}
 
 -- an object's answer is the definitions'
@@ -206,11 +206,11 @@ module _ (trap : ℕ) (σ : Store) (at left o depth calls : ℕ) where
         unfolding goingDown hasTrap
         down-hop v h = rw (down-more deep more, objectful (lookup σ o) y (sym e ∙ m), k, v, h)
 
-    pub down-at-once : isOrdinary x ≡ true → entered.Ordinary o (depth - 1) (progress at left (calls - 1)) ≡ goingDown trap σ at left o depth calls
-    down-at-once i = rw (down-more deep more) (go (lookup σ o) (ap isOrdinary (sym e) ∙ i))
-      where
-        go : (z : Option Object) → isOrdinary (objectFound z) ≡ true
-            → entered.Ordinary o (depth - 1) (progress at left (calls - 1)) ≡ looked trap z o (depth - 1) (progress at left (calls - 1)) (λ q. goingDown trap σ at left q (depth - 1) (calls - 1))
-        go none n = let z : _≡_ {A = ℕ} 0 1 = cc in absurd (omega arith)
-        go (some (object.Ordinary r)) n = refl
-        go (some (object.Proxy p)) n = let z : _≡_ {A = ℕ} 0 1 = cc in absurd (omega arith)
+  pub down-at-once : 0 < depth → (calls ≡ 0 → ⊥) → true ≡ isOrdinary (lookup σ o) → entered.Ordinary o (depth - 1) (progress at left (calls - 1)) ≡ goingDown trap σ at left o depth calls
+  down-at-once deep more i = rw (down-more deep more) (go (lookup σ o) i)
+    where
+      go : (z : Option Object) → true ≡ isOrdinary z
+          → entered.Ordinary o (depth - 1) (progress at left (calls - 1)) ≡ looked trap z o (depth - 1) (progress at left (calls - 1)) (λ q. goingDown trap σ at left q (depth - 1) (calls - 1))
+      go none n = absurd (true≢false n)
+      go (some (object.Ordinary r)) n = refl
+      go (some (object.Proxy p)) n = absurd (true≢false n)

@@ -25,11 +25,6 @@ ordinaryIn answer.Missing = record { prototype = Undefined; extensible = false }
 ordinaryIn (answer.Made (object.Ordinary r)) = r
 ordinaryIn (answer.Made (object.Proxy p)) = record { prototype = Undefined; extensible = false }
 
-abbrev pub isOrdinary : ObjectFound → Bool
-isOrdinary answer.Missing = false
-isOrdinary (answer.Made (object.Ordinary r)) = true
-isOrdinary (answer.Made (object.Proxy p)) = false
-
 -- 10.5.14 ValidateNonRevokedProxy, then the trap, or what the target makes of the call
 abbrev pub proxied : Bool → Bool → ProxyObject → ℕ → Progress → Entered → Entered
 proxied true has p depth s handed = Failed (TypeError 1) s

@@ -14,7 +14,7 @@ ghost use Rattle.internal_methods.specs.Proxy.{hasTrap};
 ghost use Rattle.store.specs.Store.{lookup};
 ghost use Rattle.store.specs.Words.{isStore, storeOf};
 ghost use Rattle.store_read.specs.Answers.{objectFound};
-ghost use Rattle.calls.specs.Entering.{progress, ordinaryIn, isOrdinary, entering};
+ghost use Rattle.calls.specs.Entering.{progress, ordinaryIn, entering};
 
 // Is the trap of this number there?
 pub fn has_trap(p: ProxyObject, trap: u64) -> bool
@@ -32,18 +32,6 @@ fn with_calls(s: Progress, calls: usize) -> Progress
         at: s.at,
         left: s.left,
         calls,
-    }
-}
-
-fn is_ordinary(found: ObjectFound) -> bool
-    ensures { λ r. ⌜ r ≡ isOrdinary found ⌝ }
-{
-    match found {
-        ObjectFound::Missing => false,
-        ObjectFound::Made(x) => match x {
-            Object::Ordinary(_) => true,
-            Object::Proxy(_) => false,
-        },
     }
 }
 
@@ -115,9 +103,9 @@ pub fn enter(words: &[u64], o: u64, trap: u64, depth: usize, s: Progress) -> Ent
     requires { ⌜ (isStore (now words) ≡ true) × (trap < 64) ⌝ }
     ensures { λ r. ⌜ r ≡ entering trap (storeOf (now (words .entry))) o depth s ⌝ }
 {
-    if 0 < s.calls {
-        if s.calls <= depth {
-            if is_ordinary(store_read::object_at(words, o)) {
+    if store_read::is_ordinary_at(words, o) {
+        if 0 < s.calls {
+            if s.calls <= depth {
                 return Entered::Ordinary(o, depth - 1, with_calls(s, s.calls - 1));
             }
         }

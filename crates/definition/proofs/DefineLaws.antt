@@ -14,6 +14,7 @@ use Rattle.store.specs.declared.Object.{Object}
 use Rattle.store.specs.declared.Object.the-variants.{Ordinary, Proxy}
 use Rattle.store.specs.Store.{lookup, own}
 use Rattle.store.specs.Words.{storeOf}
+use Rattle.store_read.specs.Answers.{isOrdinary}
 use Rattle.store_read.proofs.ReadLaws.{lookup-below}
 use Rattle.internal_methods.specs.Monad.{State, Out, done, M, pure}
 use Rattle.internal_methods.specs.Methods.{Context}
@@ -25,7 +26,6 @@ use Rattle.calls.specs.declared.Entered.{Entered}
 use Rattle.calls.specs.Entering.{progress, looked, goingDown}
 use Rattle.calls.specs.Outs.{stateOf}
 use Rattle.calls.proofs.EnterLaws.{after, get-own-property-goes-on}
-use Rattle.definition.specs.Define.{isOrdinary}
 
 pub ordinary-known : (x : Option Object) (r : OrdinaryObject) → x ≡ some (Ordinary r) → isOrdinary x ≡ true
 ordinary-known x r e = rw e

@@ -2,7 +2,6 @@
 -- `proxyDefineOwnProperty`, in parts. Assumes nothing.
 use Prim.Native.Nat.{ℕ, _<_, _≤_, _^_}
 use mathlib.Core.Bool.{Bool, true, false, not, _&&_}
-use mathlib.Core.Option.{Option, none, some}
 use mathlib.Core.List.{List}
 use Rattle.value.specs.declared.PropertyKey.{PropertyKey}
 use Rattle.value.specs.PropertyKey.{keyNumber}
@@ -11,8 +10,6 @@ use Rattle.property.specs.declared.OwnProperty.{OwnProperty}
 use Rattle.property.specs.declared.OwnProperty.the-variants.{Absent, Present}
 use Rattle.property.specs.Fields.{isFalse, writableField, configurable}
 use Rattle.property.specs.Validate.{isCompatible}
-use Rattle.store.specs.declared.Object.{Object}
-use Rattle.store.specs.declared.Object.the-variants.{Ordinary, Proxy}
 use Rattle.store.specs.Store.{maximumProperties}
 use Rattle.internal_methods.specs.Monad.{M, pure, _>>=_, _>>_, throwIf, if_then_else_}
 use Rattle.internal_methods.specs.Answers.{askBoolean}
@@ -25,11 +22,6 @@ pub record Definable (words cells : List ℕ) (allowance : ℕ) (k : PropertyKey
   pub readable : Readable words cells
   pub number : keyNumber k < 2 ^ 58
   pub limit : allowance ≤ maximumProperties
-
-abbrev pub isOrdinary : Option Object → Bool
-isOrdinary none = false
-isOrdinary (some (Ordinary r)) = true
-isOrdinary (some (Proxy p)) = false
 
 -- steps 14.a and 14.b, where each test is done
 abbrev pub testedNew : Context → Bool → Bool → M Written

@@ -12,11 +12,12 @@ ghost use mathlib.Core.Path.{_≡_};
 ghost use mathlib.Core.Bool.{true};
 ghost use Rattle.store.specs.Store.{lookup};
 ghost use Rattle.store.specs.Words.{storeOf};
+ghost use Rattle.store_read.specs.Answers.{isOrdinary};
 ghost use Rattle.internal_methods.specs.Ordinary.{ordinaryDefineOwnProperty};
 ghost use Rattle.internal_methods.specs.Proxy.{proxyDefineOwnProperty};
 ghost use Rattle.internal_methods.specs.Internal.{methods};
 ghost use Rattle.calls.specs.Outs.{context, stateOf, outWrite, Fitting};
-ghost use Rattle.definition.specs.Define.{Definable, isOrdinary};
+ghost use Rattle.definition.specs.Define.{Definable};
 
 mod checks;
 pub mod trap;

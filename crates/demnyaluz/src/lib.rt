@@ -31,7 +31,7 @@ pub extern "C" fn demnyaluz_step(
 )
     ensures { λ _. ⌜ StepExported (now (words .entry)) (now (strings .entry)) (now (bytes .entry)) (now (sheet .entry)) (now (output .entry)) (now (report .exit)) (now (words .exit)) (now (output .exit)) ⌝ }
 {
-    *report = report_words::report_words(step::step(words, strings, bytes, sheet, output));
+    report_words::write_report(step::step(words, strings, bytes, sheet, output), report);
 }
 
 // A string's code units are entered.
@@ -39,7 +39,7 @@ pub extern "C" fn demnyaluz_step(
 pub extern "C" fn demnyaluz_enter_string(strings: &mut [u16], units: &[u16], report: &mut [u64; 10])
     ensures { λ _. ⌜ StringExported (now (strings .entry)) (now (units .entry)) (now (report .exit)) (now (strings .exit)) ⌝ }
 {
-    *report = report_words::report_words(step::enter_string(strings, units));
+    report_words::write_report(step::enter_string(strings, units), report);
 }
 
 // The property page of an ordinary object.
@@ -53,7 +53,7 @@ pub extern "C" fn demnyaluz_page(
 )
     ensures { λ _. ⌜ PageExported (now (words .entry)) (now (strings .entry)) object (now (output .entry)) (now (report .exit)) (now (output .exit)) ⌝ }
 {
-    *report = report_words::report_words(property_page::page(words, strings, object, output));
+    report_words::write_report(property_page::page(words, strings, object, output), report);
 }
 
 // A descriptor is completed by itself.
@@ -66,7 +66,7 @@ pub extern "C" fn demnyaluz_complete(
 )
     ensures reported { λ _. ⌜ now (report .exit) ≡ reportWords (completeOver (now (words .entry)) (now (strings .entry)) (now (bytes .entry))) ⌝ }
 {
-    *report = report_words::report_words(descriptor_entries::complete(words, strings, bytes));
+    report_words::write_report(descriptor_entries::complete(words, strings, bytes), report);
 }
 
 // A descriptor is validated by itself over a current one, or none: yes or no, the first test that fails, and a report of the property after it.
@@ -85,7 +85,7 @@ pub extern "C" fn demnyaluz_validate(
     ensures reported { λ _. ⌜ now (report .exit) ≡ reportWords (verdictReport (validateOver (now (words .entry)) (now (strings .entry)) extensible (now (bytes .entry)) (now (current .entry)))) ⌝ }
 {
     let verdict = descriptor_entries::validate(words, strings, extensible, bytes, current);
-    *report = report_words::report_words(descriptor_entries::verdict_report(verdict));
+    report_words::write_report(descriptor_entries::verdict_report(verdict), report);
     *test = descriptor_entries::failed_test(verdict);
     descriptor_entries::is_accepted(verdict)
 }
@@ -101,7 +101,10 @@ pub extern "C" fn demnyaluz_merge(
 )
     ensures reported { λ _. ⌜ now (report .exit) ≡ reportWords (mergeOver (now (words .entry)) (now (strings .entry)) (now (current .entry)) (now (bytes .entry))) ⌝ }
 {
-    *report = report_words::report_words(descriptor_entries::merge(words, strings, current, bytes));
+    report_words::write_report(
+        descriptor_entries::merge(words, strings, current, bytes),
+        report,
+    );
 }
 
 // The text of message n, where it fits, and its length.

@@ -114,8 +114,7 @@ fn completion_words(c: Completion, answers: u64, calls: u64) -> [u64; 10]
     }
 }
 
-// The words tell the report again.
-pub fn report_words(report: Report) -> [u64; 10]
+fn report_words(report: Report) -> [u64; 10]
     ensures { λ r. ⌜ (r ≡ reportWords report) × (reportFrom r ≡ report) ⌝ }
 {
     let outcome = report.outcome;
@@ -127,4 +126,11 @@ pub fn report_words(report: Report) -> [u64; 10]
         Outcome::TypeError(n) => [2, n, answers, calls, 0, 0, 0, 0, 0, 0],
         Outcome::Thrown(v) => value_words(3, v, answers, calls),
     }
+}
+
+// The words tell the report again. All who write a report share these lines: so the words are made where they are to stand.
+pub fn write_report(report: Report, words: &mut [u64; 10])
+    ensures { λ _. ⌜ (now (words .exit) ≡ reportWords report) × (reportFrom (now (words .exit)) ≡ report) ⌝ }
+{
+    *words = report_words(report);
 }

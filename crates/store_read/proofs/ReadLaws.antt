@@ -21,14 +21,16 @@ use Rattle.property.specs.declared.OwnProperty.the-variants.{Absent, Present}
 use Rattle.text.specs.Table.{tabulate, stringsOf, isTable}
 use Rattle.text.specs.Answers.{readTable}
 use Rattle.store.specs.declared.Entry.{Entry}
+use Rattle.store.specs.declared.OrdinaryObject.{OrdinaryObject}
+use Rattle.store.specs.declared.ProxyObject.{ProxyObject}
 use Rattle.store.specs.declared.Object.{Object}
 use Rattle.store.specs.declared.Object.the-variants as object
 use Rattle.store_read.specs.declared.Place.the-variants.{Nothing, At}
 use Rattle.store.specs.Store.{isAt, find, own, lookup, firstOr, nextNumber, liveCount}
-use Rattle.store.specs.Words.{madeAt, liveAt, releasedAt, firstAt, queueAt, storeOf, objectOf, objectIn, slotIn, releasedIn, nextIn, propertyIn, entryIn, keyOf, keyWord, wordAt, keyAt}
+use Rattle.store.specs.Words.{madeAt, liveAt, releasedAt, firstAt, queueAt, storeOf, objectOf, objectIn, slotIn, releasedIn, nextIn, propertyIn, entryIn, keyOf, keyWord, wordAt, objectAt, keyAt}
 use Rattle.store.proofs.StoreLaws.{found-below}
 use Rattle.store.proofs.WordLaws.{Sized, object-length, released-length, lookup-live, at-word}
-use Rattle.store_read.specs.Answers.{firstPlace, findPlace, keyWords, placed, classWeight}
+use Rattle.store_read.specs.Answers.{isOrdinary, firstPlace, findPlace, keyWords, placed, classWeight}
 
 -- Objects ------------------------------------------------------------------------------------------
 
@@ -194,6 +196,23 @@ module _ (words : List ℕ) (s : Sized words) (o : ℕ) where
   pub lookup-missing : bit (wordAt words liveAt) o ≡ false → lookup (storeOf words) o ≡ none
   unfolding slotIn
   lookup-missing h = lookup-live words s o ∙ rw h
+
+  -- whether it is ordinary, by its head
+  pub ordinary-marked : wordAt words (objectAt o) < 2 → bit (wordAt words liveAt) o ≡ isOrdinary (lookup (storeOf words) o)
+  unfolding slotIn objectIn
+  ordinary-marked h = rw (lookup-live words s o, sym (ordinary-words _ (wordAt words (objectAt o + 1)) (wordAt words (objectAt o + 2)) h)) (go _ (bit (wordAt words liveAt) o))
+    where
+      go : (r : OrdinaryObject) (b : Bool) → b ≡ isOrdinary (pick b (some (object.Ordinary r)) none)
+      go r true = refl
+      go r false = refl
+
+  pub proxy-marked : 2 ≤ wordAt words (objectAt o) → false ≡ isOrdinary (lookup (storeOf words) o)
+  unfolding slotIn objectIn
+  proxy-marked h = rw (lookup-live words s o, sym (proxy-words _ (wordAt words (objectAt o + 1)) (wordAt words (objectAt o + 2)) h)) (go _ (bit (wordAt words liveAt) o))
+    where
+      go : (p : ProxyObject) (b : Bool) → false ≡ isOrdinary (pick b (some (object.Proxy p)) none)
+      go p true = refl
+      go p false = refl
 
   -- an object that is found is live
   pub lookup-marked : (x : Object) → lookup (storeOf words) o ≡ some x → bit (wordAt words liveAt) o ≡ true

@@ -12,6 +12,7 @@ use Rattle.value.specs.Words.{pick}
 use Rattle.text.specs.Strings.{Strings}
 use Rattle.text.specs.Table.{tabulate}
 use Rattle.store.specs.declared.Object.{Object}
+use Rattle.store.specs.declared.Object.the-variants.{Ordinary, Proxy}
 use Rattle.store.specs.declared.Entry.{Entry}
 use Rattle.store_read.specs.declared.ObjectFound.{ObjectFound}
 use Rattle.store_read.specs.declared.ObjectFound.the-variants.{Missing, Made}
@@ -26,6 +27,11 @@ use Rattle.store.specs.Words.{wordAt, keyAt}
 abbrev pub objectFound : Option Object → ObjectFound
 objectFound none = Missing
 objectFound (some x) = Made x
+
+abbrev pub isOrdinary : Option Object → Bool
+isOrdinary none = false
+isOrdinary (some (Ordinary r)) = true
+isOrdinary (some (Proxy p)) = false
 
 -- the place, counted from i, of the first that passes the test
 unfoldable pub firstPlace : {A : Type 0} → (A → Bool) → ℕ → List A → Place

@@ -11,6 +11,7 @@ pub mod sorted_words;
 
 pub use read::callable;
 pub use read::has_object_room;
+pub use read::is_ordinary_at;
 pub use read::is_store;
 pub use read::key_from_word;
 pub use read::live;

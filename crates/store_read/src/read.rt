@@ -14,7 +14,7 @@ ghost use lib.Dec.{ltb};
 ghost use lib.ListN.{length};
 ghost use Rattle.store.specs.Store as store;
 ghost use Rattle.store.specs.Words.{isStore, storeOf, objectOf, nextIn};
-ghost use Rattle.store_read.specs.Answers.{objectFound, keyFromWord};
+ghost use Rattle.store_read.specs.Answers.{objectFound, isOrdinary, keyFromWord};
 
 const STORE_SIZE: usize = 1670;
 
@@ -109,6 +109,20 @@ pub fn object_at(words: &[u64], o: u64) -> ObjectFound
         }
     }
     ObjectFound::Missing
+}
+
+// Whether it is ordinary and live. Its head is read before its mark: in a row of proxies the head tells them apart.
+pub fn is_ordinary_at(words: &[u64], o: u64) -> bool
+    requires { ⌜ isStore (now words) ≡ true ⌝ }
+    ensures { λ r. ⌜ r ≡ isOrdinary (store.lookup (storeOf (now (words .entry))) o) ⌝ }
+{
+    if o < 32 {
+        let at = OBJECTS + 3 * (o as usize);
+        if words[at] < 2 {
+            return bits::bit(words[3], o);
+        }
+    }
+    false
 }
 
 pub fn key_from_word(word: u64) -> PropertyKey

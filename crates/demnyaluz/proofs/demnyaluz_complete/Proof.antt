@@ -5,7 +5,7 @@ use Rattle.demnyaluz.proofs.demnyaluz_complete.Statement.{statement}
 use Rattle.demnyaluz.proofs.demnyaluz_complete.Tie as tie
 
 returns : tie.Need-returns
-returns c = c .report-words .ensures .0 ∙ ap reportWords (c .before .complete .ensures)
+returns c = c .write-report .ensures .0 ∙ ap reportWords (c .before .before .complete .ensures)
 
 pub demnyaluz-complete-spec : {M : Type 1} → statement M
 demnyaluz-complete-spec = tie.close (tie.spec (λ c κs. search needs) (λ c κs. search needs) returns)

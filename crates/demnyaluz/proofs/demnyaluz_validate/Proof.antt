@@ -6,7 +6,7 @@ use Rattle.demnyaluz.proofs.demnyaluz_validate.Statement.{statement}
 use Rattle.demnyaluz.proofs.demnyaluz_validate.Tie as tie
 
 returns : tie.Need-returns
-returns c = (c .is-accepted .ensures ∙ ap isAccepted (c .before .before .before .before .validate .ensures), (c .before .failed-test .ensures ∙ ap failedTest (c .before .before .before .before .validate .ensures), c .before .before .report-words .ensures .0 ∙ ap reportWords (c .before .before .before .verdict-report .ensures ∙ ap verdictReport (c .before .before .before .before .validate .ensures))))
+returns c = (c .is-accepted .ensures ∙ ap isAccepted (c .before .before .before .before .before .validate .ensures), (c .before .failed-test .ensures ∙ ap failedTest (c .before .before .before .before .before .validate .ensures), c .before .before .write-report .ensures .0 ∙ ap reportWords (c .before .before .before .before .verdict-report .ensures ∙ ap verdictReport (c .before .before .before .before .before .validate .ensures))))
 
 pub demnyaluz-validate-spec : {M : Type 1} → statement M
 demnyaluz-validate-spec =
