@@ -1,5 +1,5 @@
 -- What `enter` is to the definitions: each method ends as its body does where the call arrives. Assumes nothing.
-use Prim.Native.Nat.{ℕ, zero, suc, _-_, _<_}
+use Prim.Native.Nat.{ℕ, zero, suc, _-_, _<_, min}
 use native.Mathlib.Omega.{arith}
 use native.Mathlib.Numerals.{unary-clauses}
 use mathlib.Core.Path.{_≡_, refl, sym, _∙_, ap}
@@ -163,51 +163,49 @@ is-below trap σ o depth s r e = rw (sym e) (down trap σ (s .at) (s .left) dept
 
 -- `enter` and `go_down`, case by case
 module _ (trap : ℕ) (σ : Store) (at left o depth calls : ℕ) where
-  pub down-flat : depth ≡ 0 → entered.Failed (Refused 10) (progress at left calls) ≡ goingDown trap σ at left o depth calls
+  -- without a level, or without a call
+  pub down-ended : min depth calls ≡ 0 → entered.Failed (Refused 10) (progress at left calls) ≡ goingDown trap σ at left o depth calls
   unfolding goingDown
-  down-flat e = rw e
-
-  pub down-spent : calls ≡ 0 → entered.Failed (Refused 10) (progress at left calls) ≡ goingDown trap σ at left o depth calls
-  unfolding goingDown
-  down-spent e = rw e (go depth)
+  down-ended e = go depth calls e
     where
-      go : (n : ℕ) → entered.Failed (Refused 10) (progress at left 0) ≡ goingDown trap σ at left o n 0
-      go zero = refl
-      go (suc n) = refl
+      go : (n m : ℕ) → min n m ≡ 0 → entered.Failed (Refused 10) (progress at left m) ≡ goingDown trap σ at left o n m
+      go zero m e = refl
+      go (suc n) zero e = refl
+      go (suc n) (suc m) e = absurd (omega (arith, e))
 
-  pub down-more : 0 < depth → (calls ≡ 0 → ⊥)
+  pub down-more : 0 < min depth calls
       → goingDown trap σ at left o depth calls ≡ looked trap (lookup σ o) o (depth - 1) (progress at left (calls - 1)) (λ q. goingDown trap σ at left q (depth - 1) (calls - 1))
   unfolding goingDown
-  down-more k l = go depth calls k l
+  down-more k = go depth calls k
     where
-      go : (n m : ℕ) → 0 < n → (m ≡ 0 → ⊥)
+      go : (n m : ℕ) → 0 < min n m
           → goingDown trap σ at left o n m ≡ looked trap (lookup σ o) o (n - 1) (progress at left (m - 1)) (λ q. goingDown trap σ at left q (n - 1) (m - 1))
-      go zero m k l = absurd (omega (arith, k))
-      go (suc n) zero k l = absurd (l refl)
-      go (suc n) (suc m) k l = simp unary-clauses refl
+      go zero m k = absurd (omega (arith, k))
+      go (suc n) zero k = absurd (omega (arith, k))
+      go (suc n) (suc m) k = simp unary-clauses refl
 
-  module _ (x : ObjectFound) (deep : 0 < depth) (more : calls ≡ 0 → ⊥) (e : x ≡ objectFound (lookup σ o)) where
+  module _ (x : ObjectFound) (more : 0 < min depth calls) (e : x ≡ objectFound (lookup σ o)) where
     pub down-missing : x ≡ answer.Missing → entered.Failed (Refused 2) (progress at left (calls - 1)) ≡ goingDown trap σ at left o depth calls
-    down-missing m = rw (down-more deep more, objectless (lookup σ o) (sym e ∙ m))
+    down-missing m = rw (down-more more, objectless (lookup σ o) (sym e ∙ m))
 
     module _ (y : Object) (m : x ≡ answer.Made y) where
       pub down-ordinary : (r : OrdinaryObject) → y ≡ object.Ordinary r → entered.Ordinary o (depth - 1) (progress at left (calls - 1)) ≡ goingDown trap σ at left o depth calls
-      down-ordinary r k = rw (down-more deep more, objectful (lookup σ o) y (sym e ∙ m), k)
+      down-ordinary r k = rw (down-more more, objectful (lookup σ o) y (sym e ∙ m), k)
 
       module _ (p : ProxyObject) (k : y ≡ object.Proxy p) where
         pub down-revoked : p .revoked ≡ true → entered.Failed (TypeError 1) (progress at left (calls - 1)) ≡ goingDown trap σ at left o depth calls
-        down-revoked v = rw (down-more deep more, objectful (lookup σ o) y (sym e ∙ m), k, v)
+        down-revoked v = rw (down-more more, objectful (lookup σ o) y (sym e ∙ m), k, v)
 
         pub down-trap : p .revoked ≡ false → hasTrap p trap ≡ true → entered.Proxy p (depth - 1) (progress at left (calls - 1)) ≡ goingDown trap σ at left o depth calls
         unfolding hasTrap
-        down-trap v h = rw (down-more deep more, objectful (lookup σ o) y (sym e ∙ m), k, v, h)
+        down-trap v h = rw (down-more more, objectful (lookup σ o) y (sym e ∙ m), k, v, h)
 
         pub down-hop : p .revoked ≡ false → hasTrap p trap ≡ false → goingDown trap σ at left (p .target) (depth - 1) (calls - 1) ≡ goingDown trap σ at left o depth calls
         unfolding goingDown hasTrap
-        down-hop v h = rw (down-more deep more, objectful (lookup σ o) y (sym e ∙ m), k, v, h)
+        down-hop v h = rw (down-more more, objectful (lookup σ o) y (sym e ∙ m), k, v, h)
 
-  pub down-at-once : 0 < depth → (calls ≡ 0 → ⊥) → true ≡ isOrdinary (lookup σ o) → entered.Ordinary o (depth - 1) (progress at left (calls - 1)) ≡ goingDown trap σ at left o depth calls
-  down-at-once deep more i = rw (down-more deep more) (go (lookup σ o) i)
+  pub down-at-once : 0 < min depth calls → true ≡ isOrdinary (lookup σ o) → entered.Ordinary o (depth - 1) (progress at left (calls - 1)) ≡ goingDown trap σ at left o depth calls
+  down-at-once more i = rw (down-more more) (go (lookup σ o) i)
     where
       go : (z : Option Object) → true ≡ isOrdinary z
           → entered.Ordinary o (depth - 1) (progress at left (calls - 1)) ≡ looked trap z o (depth - 1) (progress at left (calls - 1)) (λ q. goingDown trap σ at left q (depth - 1) (calls - 1))

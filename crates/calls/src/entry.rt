@@ -9,7 +9,7 @@ use store_read::ObjectFound;
 use value::Value;
 ghost use mathlib.Core.Path.{_≡_};
 ghost use mathlib.Core.Bool.{true};
-ghost use Prim.Native.Nat.{_<_};
+ghost use Prim.Native.Nat.{_<_, min};
 ghost use Rattle.internal_methods.specs.Proxy.{hasTrap};
 ghost use Rattle.store.specs.Store.{lookup};
 ghost use Rattle.store.specs.Words.{isStore, storeOf};
@@ -61,7 +61,13 @@ pub fn ordinary_at(words: &[u64], o: u64) -> OrdinaryObject
     ordinary_in(store_read::object_at(words, o))
 }
 
-// Down the targets past each proxy without the trap, one call and one level less at each.
+fn lesser(a: usize, b: usize) -> usize
+    ensures { λ r. ⌜ r ≡ min a b ⌝ }
+{
+    if a < b { a } else { b }
+}
+
+// Down the targets past each proxy without the trap, one call and one level less at each, as long as there are both.
 fn go_down(words: &[u64], o: u64, trap: u64, depth: usize, s: Progress) -> Entered
     requires { ⌜ (isStore (now words) ≡ true) × (trap < 64) ⌝ }
     ensures { λ r. ⌜ r ≡ entering trap (storeOf (now (words .entry))) o depth s ⌝ }
@@ -69,10 +75,9 @@ fn go_down(words: &[u64], o: u64, trap: u64, depth: usize, s: Progress) -> Enter
     let mut object = o;
     let mut left = depth;
     let mut calls = s.calls;
-    while 0 < left {
-        if calls == 0 {
-            return Entered::Failed(Failure::Refused(10), with_calls(s, calls));
-        }
+    let mut more = lesser(depth, s.calls);
+    while 0 < more {
+        more -= 1;
         left -= 1;
         calls -= 1;
         match store_read::object_at(words, object) {

@@ -6,7 +6,7 @@ use Rattle.calls.proofs.entry.enter.Statement.{statement}
 use Rattle.calls.proofs.entry.enter.Tie as tie
 
 returns : tie.Need-returns
-returns c = rw (c .with-calls .ensures) (down-at-once _ _ _ _ _ _ _ (omega (arith, c .before .before .before .before .if2 .taken, c .before .before .if3 .taken)) (λ z. omega (arith, c .before .before .before .before .if2 .taken, z)) (sym (c .before .before .before .before .before .before .if1 .taken) ∙ c .before .before .before .before .before .before .before .is-ordinary-at .ensures))
+returns c = rw (c .with-calls .ensures) (down-at-once _ _ _ _ _ _ _ (omega (arith, c .before .before .before .before .if2 .taken, c .before .before .if3 .taken)) (sym (c .before .before .before .before .before .before .if1 .taken) ∙ c .before .before .before .before .before .before .before .is-ordinary-at .ensures))
 
 pub enter-spec : {M : Type 1} → statement M
 enter-spec =
