@@ -43,13 +43,15 @@ pub fn is_extensible(
     ensures { λ r. ⌜ outBoolean (now (sheet .entry)) r ≡ methods depth (context (now (words .entry)) (now (strings .entry)) allowance) .isExtensible o .run (stateOf (now (sheet .entry)) s) ⌝ }
 {
     match calls::enter(words, o, 2, depth, s) {
-        Entered::Failed(f, t) => BooleanOut::Failed(f, t),
+        Entered::Failed(f, t) => {
+            return BooleanOut::Failed(f, t);
+        }
         Entered::Ordinary(q, _, t) => {
             let object = calls::ordinary_at(words, q);
-            BooleanOut::Done(ordinary_is_extensible(object), t)
+            return BooleanOut::Done(ordinary_is_extensible(object), t);
         }
         Entered::Proxy(p, n, t) => {
-            proxy_exotic_is_extensible(words, strings, allowance, sheet, p, n, t)
+            return proxy_exotic_is_extensible(words, strings, allowance, sheet, p, n, t);
         }
     }
 }

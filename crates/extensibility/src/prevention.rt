@@ -81,13 +81,15 @@ pub fn prevent_extensions(
     ensures { λ r. ⌜ Fitting (now (words .entry)) r ⌝ }
 {
     match calls::enter(words, o, 3, depth, s) {
-        Entered::Failed(f, t) => WriteOut::Failed(f, t),
+        Entered::Failed(f, t) => {
+            return WriteOut::Failed(f, t);
+        }
         Entered::Ordinary(q, _, t) => {
             let object = calls::ordinary_at(words, q);
-            WriteOut::Done(true, ordinary_prevent_extensions(q, object), t) // 10.1.4.1 step 2
+            return WriteOut::Done(true, ordinary_prevent_extensions(q, object), t); // 10.1.4.1 step 2
         }
         Entered::Proxy(p, n, t) => {
-            proxy_exotic_prevent_extensions(words, strings, allowance, sheet, p, n, t)
+            return proxy_exotic_prevent_extensions(words, strings, allowance, sheet, p, n, t);
         }
     }
 }

@@ -43,13 +43,15 @@ pub fn get_prototype_of(
     ensures { λ r. ⌜ outValue (now (sheet .entry)) r ≡ methods depth (context (now (words .entry)) (now (strings .entry)) allowance) .getPrototypeOf o .run (stateOf (now (sheet .entry)) s) ⌝ }
 {
     match calls::enter(words, o, 0, depth, s) {
-        Entered::Failed(f, t) => ValueOut::Failed(f, t),
+        Entered::Failed(f, t) => {
+            return ValueOut::Failed(f, t);
+        }
         Entered::Ordinary(q, _, t) => {
             let object = calls::ordinary_at(words, q);
-            ValueOut::Done(ordinary_get_prototype_of(object), t)
+            return ValueOut::Done(ordinary_get_prototype_of(object), t);
         }
         Entered::Proxy(p, n, t) => {
-            proxy_exotic_get_prototype_of(words, strings, allowance, sheet, p, n, t)
+            return proxy_exotic_get_prototype_of(words, strings, allowance, sheet, p, n, t);
         }
     }
 }

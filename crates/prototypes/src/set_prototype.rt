@@ -73,15 +73,17 @@ pub fn set_prototype_of(
     ensures { λ r. ⌜ Fitting (now (words .entry)) r ⌝ }
 {
     match calls::enter(words, o, 1, depth, s) {
-        Entered::Failed(f, t) => WriteOut::Failed(f, t),
+        Entered::Failed(f, t) => {
+            return WriteOut::Failed(f, t);
+        }
         Entered::Ordinary(q, _, t) => {
             let object = calls::ordinary_at(words, q);
             let written = ordinary_set_prototype_of(words, q, object, v);
             let write = written.write;
-            WriteOut::Done(written.accepted, write, t)
+            return WriteOut::Done(written.accepted, write, t);
         }
         Entered::Proxy(p, n, t) => {
-            proxy_exotic_set_prototype_of(words, strings, allowance, sheet, p, v, n, t)
+            return proxy_exotic_set_prototype_of(words, strings, allowance, sheet, p, v, n, t);
         }
     }
 }

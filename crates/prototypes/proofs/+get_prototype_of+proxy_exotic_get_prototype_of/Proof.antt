@@ -48,13 +48,13 @@ unfolding _>>=_ fails if_then_else_ next proxyGetPrototypeOf pure throwIf
     get-prototype-of.Post
     (λ c κs. (c .before .before .before .pre .1 .store, omega arith))
     (λ c. search needs)
+    (λ c. rw (get-prototype-of-goes-on _ _ _ _ _, sym (c .before .before .before .enter .ensures) ∙ c .before .f .given .1))
     (λ c. search needs)
     (λ c κs. c .before .before .before .before .before .before .before .pre .1 .store)
     (λ c κs. search needs)
+    (λ c. rw (get-prototype-of-goes-on _ _ _ _ _, sym (c .before .before .before .before .before .enter .ensures) ∙ c .before .before .before .q .given .1, c .ordinary-get-prototype-of .ensures, c .before .ordinary-at .ensures))
     (λ c. search needs)
     (λ c κs. (omega (arith, c .before .before .before .before .before .before .before .pre .0, is-below _ _ _ _ _ _ (sym (c .before .before .before .enter .ensures) ∙ c .before .p .given .1) .0), c .before .before .before .before .before .before .before .pre .1))
-    (λ c. rw (get-prototype-of-goes-on _ _ _ _ _, sym (c .before .before .before .enter .ensures) ∙ c .before .f .given .1))
-    (λ c. rw (get-prototype-of-goes-on _ _ _ _ _, sym (c .before .before .before .before .before .enter .ensures) ∙ c .before .before .before .q .given .1, c .ordinary-get-prototype-of .ensures, c .before .ordinary-at .ensures))
     (λ c. rw (get-prototype-of-goes-on _ _ _ _ _, sym (c .before .before .before .before .enter .ensures) ∙ c .before .before .p .given .1) (c .proxy-exotic-get-prototype-of .ensures)))
     λ t. proxy-exotic-get-prototype-of-lts.spec (
       has-trap-reads.Asked,

@@ -51,13 +51,13 @@ unfolding _>>=_ fails if_then_else_ next proxyPreventExtensions pure throwIf
     prevent-extensions.Post
     (λ c κs. (c .before .before .before .pre .1 .store, omega arith))
     (λ c. search needs)
+    (λ c. (rw (prevent-extensions-goes-on _ _ _ _ _, sym (c .before .before .before .enter .ensures) ∙ c .before .f .given .1), tt))
     (λ c. search needs)
     (λ c κs. c .before .before .before .before .before .before .before .pre .1 .store)
     (λ c κs. search needs)
+    (λ c. (rw (prevent-extensions-goes-on _ _ _ _ _, sym (c .before .before .before .before .before .enter .ensures) ∙ c .before .before .before .q .given .1, c .ordinary-prevent-extensions .ensures, c .before .ordinary-at .ensures), rw (c .ordinary-prevent-extensions .ensures) (object-fits _ _ _ (is-below _ _ _ _ _ _ (sym (c .before .before .before .before .before .enter .ensures) ∙ c .before .before .before .q .given .1) .1) _ (c .before .before .before .before .before .before .before .before .before .pre .1 .store))))
     (λ c. search needs)
     (λ c κs. (omega (arith, c .before .before .before .before .before .before .before .pre .0, is-below _ _ _ _ _ _ (sym (c .before .before .before .enter .ensures) ∙ c .before .p .given .1) .0), c .before .before .before .before .before .before .before .pre .1))
-    (λ c. (rw (prevent-extensions-goes-on _ _ _ _ _, sym (c .before .before .before .enter .ensures) ∙ c .before .f .given .1), tt))
-    (λ c. (rw (prevent-extensions-goes-on _ _ _ _ _, sym (c .before .before .before .before .before .enter .ensures) ∙ c .before .before .before .q .given .1, c .ordinary-prevent-extensions .ensures, c .before .ordinary-at .ensures), rw (c .ordinary-prevent-extensions .ensures) (object-fits _ _ _ (is-below _ _ _ _ _ _ (sym (c .before .before .before .before .before .enter .ensures) ∙ c .before .before .before .q .given .1) .1) _ (c .before .before .before .before .before .before .before .before .before .pre .1 .store))))
     (λ c. (rw (prevent-extensions-goes-on _ _ _ _ _, sym (c .before .before .before .before .enter .ensures) ∙ c .before .before .p .given .1) (c .proxy-exotic-prevent-extensions .ensures .0), c .proxy-exotic-prevent-extensions .ensures .1)))
     λ t. proxy-exotic-prevent-extensions-lts.spec (
       has-trap-reads.Asked,

@@ -68,11 +68,11 @@ unfolding _>>=_ fails if_then_else_ next proxySetPrototypeOf pure throwIf
     set-prototype-of.Post
     (λ c κs. (c .before .before .before .pre .1 .store, omega arith))
     (λ c. search needs)
+    (λ c. (rw (set-prototype-of-goes-on _ _ _ _ _ _, sym (c .before .before .before .enter .ensures) ∙ c .before .f .given .1), tt))
     (λ c. search needs)
     (λ c κs. c .before .before .before .before .before .before .before .pre .1 .store)
     (λ c κs. (c .before .before .before .before .before .before .before .before .pre .1 .store, rw (c .ordinary-at .ensures) (is-below _ _ _ _ _ _ (sym (c .before .before .before .before .enter .ensures) ∙ c .before .before .q .given .1) .1)))
+    (λ c. (rw (set-prototype-of-goes-on _ _ _ _ _ _, sym (c .before .before .before .before .before .enter .ensures) ∙ c .before .before .before .q .given .1, sym (c .before .ordinary-at .ensures), sym (c .ordinary-set-prototype-of .ensures .tells)), c .ordinary-set-prototype-of .ensures .fits))
     (λ c. search needs)
     (λ c κs. (omega (arith, c .before .before .before .before .before .before .before .pre .0, is-below _ _ _ _ _ _ (sym (c .before .before .before .enter .ensures) ∙ c .before .p .given .1) .0), c .before .before .before .before .before .before .before .pre .1))
-    (λ c. (rw (set-prototype-of-goes-on _ _ _ _ _ _, sym (c .before .before .before .enter .ensures) ∙ c .before .f .given .1), tt))
-    (λ c. (rw (set-prototype-of-goes-on _ _ _ _ _ _, sym (c .before .before .before .before .before .enter .ensures) ∙ c .before .before .before .q .given .1, sym (c .before .ordinary-at .ensures), sym (c .ordinary-set-prototype-of .ensures .tells)), c .ordinary-set-prototype-of .ensures .fits))
     (λ c. (rw (set-prototype-of-goes-on _ _ _ _ _ _, sym (c .before .before .before .before .enter .ensures) ∙ c .before .before .p .given .1) (c .proxy-exotic-set-prototype-of .ensures .0), c .proxy-exotic-set-prototype-of .ensures .1))
