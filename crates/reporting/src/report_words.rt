@@ -128,7 +128,7 @@ fn report_words(report: Report) -> [u64; 10]
     }
 }
 
-// The words tell the report again. All who write a report share these lines: so the words are made where they are to stand.
+// The words tell the report again. With one place for all entries, the compiler makes them where they are to stand, and copies nothing.
 pub fn write_report(report: Report, words: &mut [u64; 10])
     ensures { λ _. ⌜ (now (words .exit) ≡ reportWords report) × (reportFrom (now (words .exit)) ≡ report) ⌝ }
 {

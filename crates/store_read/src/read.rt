@@ -111,7 +111,7 @@ pub fn object_at(words: &[u64], o: u64) -> ObjectFound
     ObjectFound::Missing
 }
 
-// Whether it is ordinary and live. Its head is read before its mark: in a row of proxies the head tells them apart.
+// Whether it is a live ordinary object. A proxy is told by its head, and its mark is not read.
 pub fn is_ordinary_at(words: &[u64], o: u64) -> bool
     requires { ⌜ isStore (now words) ≡ true ⌝ }
     ensures { λ r. ⌜ r ≡ isOrdinary (store.lookup (storeOf (now (words .entry))) o) ⌝ }
