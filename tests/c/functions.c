@@ -6,44 +6,10 @@
 
 #define RUN_ANSWERED(answer, ...) run_answered((struct demnyaluz_step_parts){__VA_ARGS__}, DEMNYALUZ_ANSWER_VALUE, answer)
 
-static bool is_same(struct demnyaluz_value a, struct demnyaluz_value b)
-{
-    return a.kind == b.kind && a.payload == b.payload;
-}
-
-/* A result that is this value, and how it was come by. */
-static bool is_result(struct demnyaluz_value value, uint64_t answers, uint64_t calls)
-{
-    return is_report(DEMNYALUZ_OUTCOME_RESULT, 0, answers, calls) && report().form == DEMNYALUZ_FORM_VALUE && is_same(report().value, value);
-}
-
-/* A refusal, which leaves every word as it was. */
-static bool is_refused(uint64_t refusal)
-{
-    return is_report(DEMNYALUZ_OUTCOME_REFUSED, refusal, 0, 0) && report().form == DEMNYALUZ_FORM_NOTHING && memcmp(before, words, sizeof words) == 0;
-}
-
-static struct demnyaluz_value object(uint64_t number)
-{
-    return demnyaluz_make_value(DEMNYALUZ_KIND_OBJECT, number);
-}
-
-static struct demnyaluz_value function(uint64_t number)
-{
-    return demnyaluz_make_value(DEMNYALUZ_KIND_FUNCTION, number);
-}
-
 static struct demnyaluz_value boolean(bool yes)
 {
     return demnyaluz_make_value(DEMNYALUZ_KIND_BOOLEAN, yes);
 }
-
-static struct demnyaluz_value symbol(uint64_t number)
-{
-    return demnyaluz_make_value(DEMNYALUZ_KIND_SYMBOL, number);
-}
-
-static const struct demnyaluz_value null = {DEMNYALUZ_KIND_NULL, 0};
 
 static struct demnyaluz_descriptor data(struct demnyaluz_value value)
 {

@@ -257,6 +257,15 @@ static void refuse(size_t words_length, size_t strings_length, size_t state_leng
     check(result[0] == 0 && result[1] == 0 && is_untouched(), what);
 }
 
+/* The store with one word that no store has. */
+static void refuse_word(size_t at, uint64_t word, const char *what)
+{
+    const uint64_t kept = words[at];
+    words[at] = word;
+    refuse(DEMNYALUZ_STORE_WORDS, DEMNYALUZ_STRING_CELLS, DEMNYALUZ_TEXT_STATE, DEMNYALUZ_TEXT_LINE, DEMNYALUZ_TEXT_ROW, what);
+    words[at] = kept;
+}
+
 static void refusals(void)
 {
     const size_t w = DEMNYALUZ_STORE_WORDS, s = DEMNYALUZ_STRING_CELLS, t = DEMNYALUZ_TEXT_STATE, l = DEMNYALUZ_TEXT_LINE, r = DEMNYALUZ_TEXT_ROW;
@@ -281,22 +290,10 @@ static void refusals(void)
 
     start();
     feed((const uint8_t *)sealed_text, 500);
-    uint64_t count = words[0];
-    words[0] = DEMNYALUZ_MAXIMUM_OBJECTS + 1;
-    refuse(w, s, t, l, r, "a store of 33 objects");
-    words[0] = count;
-    count = words[1];
-    words[1] = DEMNYALUZ_MAXIMUM_PROPERTIES + 1;
-    refuse(w, s, t, l, r, "a store of 257 properties");
-    words[1] = count;
-    count = words[3];
-    words[3] |= (uint64_t)1 << DEMNYALUZ_MAXIMUM_OBJECTS;
-    refuse(w, s, t, l, r, "a 33rd live object");
-    words[3] = count;
-    count = words[4];
-    words[4] = DEMNYALUZ_MAXIMUM_OBJECTS + 1;
-    refuse(w, s, t, l, r, "a store of 33 released numbers");
-    words[4] = count;
+    refuse_word(0, DEMNYALUZ_MAXIMUM_OBJECTS + 1, "a store of 33 objects");
+    refuse_word(1, DEMNYALUZ_MAXIMUM_PROPERTIES + 1, "a store of 257 properties");
+    refuse_word(3, words[3] | (uint64_t)1 << DEMNYALUZ_MAXIMUM_OBJECTS, "a 33rd live object");
+    refuse_word(4, DEMNYALUZ_MAXIMUM_OBJECTS + 1, "a store of 33 released numbers");
     uint16_t entered = strings[0];
     strings[0] = DEMNYALUZ_MAXIMUM_STRINGS + 1;
     refuse(w, s, t, l, r, "a table of 257 strings");
