@@ -2,6 +2,8 @@
 // checks of a step: remove takes a property away even where it is not configurable. A key is a word: string s is 2 s, and
 // symbol s is 2 s + 1. Each function tests what it is lent; where it refuses, it changes nothing and answers 257.
 // conditions: those tests.
+#![tactic(auto)]
+
 ghost use Rattle.std.specs.Prelude.{◌≡◌};
 ghost use Rattle.benchmark_store.specs.Export.{place_number, row_property, find_answer, listed, list_answer, added, add_answer, removed, remove_answer};
 

@@ -1,5 +1,7 @@
 // A call of an internal method: how it begins, and how it ends.
 // entry: it is counted, and goes to the methods of its object's kind. answers: what it takes of the sheet.
+#![tactic(auto)]
+
 use internal_methods::Failure;
 use property::{DescriptorObject, OwnProperty};
 use store::ProxyObject;
@@ -12,7 +14,7 @@ mod entry;
 pub use entry::{enter, has_trap, ordinary_at};
 
 // How far a step is: the place of the next answer, how many are to come, and how many calls may still begin.
-#[derive(Drop)]
+#[derive(Clone, Copy)]
 pub struct Progress {
     pub at: usize,
     pub left: usize,
@@ -20,7 +22,7 @@ pub struct Progress {
 }
 
 // Where a call arrives: the ordinary object, or the proxy with the trap, and how many calls deep methods may still go from there.
-#[derive(Drop)]
+#[derive(Clone, Copy)]
 pub enum Entered {
     Failed(Failure, Progress),
     Ordinary(u64, usize, Progress),
@@ -28,26 +30,26 @@ pub enum Entered {
 }
 
 // How a method ends, for each type of result.
-#[derive(Drop)]
+#[derive(Clone, Copy)]
 pub enum BooleanOut {
     Failed(Failure, Progress),
     Done(bool, Progress),
 }
 
-#[derive(Drop)]
+#[derive(Clone, Copy)]
 pub enum ValueOut {
     Failed(Failure, Progress),
     Done(Value, Progress),
 }
 
-#[derive(Drop)]
+#[derive(Clone, Copy)]
 pub enum OwnPropertyOut {
     Failed(Failure, Progress),
     Done(OwnProperty, Progress),
 }
 
 // A descriptor that a trap answered, or its undefined.
-#[derive(Drop)]
+#[derive(Clone, Copy)]
 pub enum DescriptorOut {
     Failed(Failure, Progress),
     Undefined(Progress),
@@ -55,14 +57,14 @@ pub enum DescriptorOut {
 }
 
 // The Boolean of a method that writes, and its write.
-#[derive(Drop)]
+#[derive(Clone, Copy)]
 pub enum WriteOut {
     Failed(Failure, Progress),
     Done(bool, Write, Progress),
 }
 
 // What an ordinary object's method that writes answers.
-#[derive(Drop)]
+#[derive(Clone, Copy)]
 pub struct Written {
     pub accepted: bool,
     pub write: Write,

@@ -1,5 +1,7 @@
 // 10.1.6 and 10.5.6 [[DefineOwnProperty]].
 // trap: 10.5.6 from step 7 on, by way of checks. writing: the write of 10.1.6.3.
+#![tactic(auto)]
+
 ghost use Rattle.std.specs.Prelude.{◌≡◌, true};
 ghost use Rattle.store.specs.Store.{lookup};
 ghost use Rattle.store.specs.Words.{store_of};

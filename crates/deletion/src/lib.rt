@@ -1,5 +1,7 @@
 // 10.1.10 and 10.5.10 [[Delete]].
 // trap: 10.5.10 from step 7 on.
+#![tactic(auto)]
+
 ghost use Rattle.std.specs.Prelude.{◌≡◌, true, ◌<◌, ◌^◌};
 ghost use Rattle.value.specs.PropertyKey.{key_number};
 ghost use Rattle.store.specs.Words.{store_of};

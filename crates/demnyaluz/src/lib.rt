@@ -1,5 +1,7 @@
 // The interface for C and Rust to link. A report is ten words (reporting: report_words). No function has a condition on what
 // it is lent.
+#![tactic(auto)]
+
 ghost use Rattle.std.specs.Prelude.{◌≡◌, true, [], eqb, length};
 ghost use Rattle.text.specs.Table.{table_size, strings_of, is_table};
 ghost use Rattle.store.specs.Store.{Store, empty};

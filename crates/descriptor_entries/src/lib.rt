@@ -1,5 +1,7 @@
 // Completing, validating and merging descriptors over lent memory, which says how many objects and strings there are, and which objects are callable.
 // operations: the three over byte records. records: reading those, and refusals 1 to 4.
+#![tactic(auto)]
+
 ghost use Rattle.std.specs.Prelude.{◌≡◌};
 ghost use Rattle.descriptor_entries.specs.Entries.{counts_in, answer_report, after_report, verdict_report, is_accepted, failed_test, complete_over, validate_over, merge_over};
 
@@ -12,7 +14,7 @@ pub mod operations;
 mod records;
 
 // How many objects and strings the memory holds, and which objects are callable, if it is a store and a table.
-#[derive(Drop)]
+#[derive(Clone, Copy)]
 pub enum Held {
     Counts(Counts),
     Malformed,

@@ -14,14 +14,14 @@ use record::{Counts, Refusal};
 use validation::{merging, outcome};
 
 // A refusal by its number, or the property that the descriptors make.
-#[derive(Drop)]
+#[derive(Clone, Copy)]
 pub enum DescriptorAnswer {
     Refused(u64),
     Property(Property),
 }
 
 // A refusal by its number, or yes or no, the first test that fails and the property after it.
-#[derive(Drop)]
+#[derive(Clone, Copy)]
 pub enum Verdict {
     Refused(u64),
     Verdict(bool, u64, OwnProperty),

@@ -9,7 +9,7 @@ use record::{Counts, Refusal, Test};
 use step_records::value_tests;
 
 // What a record reads as.
-#[derive(Drop)]
+#[derive(Clone, Copy)]
 pub enum Reading {
     Malformed,
     Record(DescriptorObject),

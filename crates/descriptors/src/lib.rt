@@ -1,6 +1,8 @@
 // 6.2.6.4 and 6.2.6.5: a descriptor to and from an object.
 // kinds: 6.2.6.1 to 6.2.6.3. errors: what 6.2.6.5 throws for. completion: 6.2.6.6.
 // flags, fields, kind_fields: the fields of a descriptor. attributes: those of a property.
+#![tactic(auto)]
+
 ghost use Rattle.std.specs.Prelude.{◌≡◌};
 ghost use Rattle.property.specs.Descriptor.{from_property_descriptor, kind_of, to_property_descriptor};
 

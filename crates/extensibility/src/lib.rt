@@ -1,5 +1,7 @@
 // 10.1.3 and 10.5.3 [[IsExtensible]].
 // prevention: 10.1.4 and 10.5.4 [[PreventExtensions]].
+#![tactic(auto)]
+
 ghost use Rattle.std.specs.Prelude.{◌≡◌};
 ghost use Rattle.std.specs.Bool.{beq};
 ghost use Rattle.internal_methods.specs.Ordinary.{ordinary_is_extensible};

@@ -1,5 +1,7 @@
 // 10.1.8 and 10.5.8 [[Get]]: one cycle of both kinds of object.
 // trap: 10.5.8 from step 7 on.
+#![tactic(auto)]
+
 ghost use Rattle.std.specs.Prelude.{◌≡◌};
 ghost use Rattle.internal_methods.specs.Ordinary.{ordinary_get};
 ghost use Rattle.internal_methods.specs.Proxy.{proxy_get};

@@ -1,5 +1,7 @@
 // 10.1.7 and 10.5.7 [[HasProperty]]: one cycle of both kinds of object.
 // trap: 10.5.7 from step 7 on.
+#![tactic(auto)]
+
 ghost use Rattle.std.specs.Prelude.{◌≡◌, true};
 ghost use Rattle.internal_methods.specs.Ordinary.{ordinary_has_property};
 ghost use Rattle.internal_methods.specs.Proxy.{proxy_has_property};

@@ -12,7 +12,7 @@ use own_keys::loading;
 use own_keys::loading::KeysOut;
 
 // How many keys there are.
-#[derive(Drop)]
+#[derive(Clone, Copy)]
 pub enum ListedOut {
     Failed(Failure, Progress),
     Done(usize, Progress),

@@ -16,7 +16,7 @@ use internal_methods::Failure;
 use property::{DescriptorKind, Field, Flag, OwnProperty, Property, PropertyDescriptor};
 use value::PropertyKey;
 
-#[derive(Drop)]
+#[derive(Clone, Copy)]
 pub enum TurnOut {
     Failed(Failure, Progress),
     Done(Progress),

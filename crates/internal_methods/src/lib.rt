@@ -1,7 +1,9 @@
 // How a call of an internal method can end other than in a result.
+#![tactic(auto)]
+
 use value::Value;
 
-#[derive(Drop)]
+#[derive(Clone, Copy)]
 pub enum Failure {
     Refused(u64),
     TypeError(u64),

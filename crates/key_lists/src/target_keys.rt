@@ -8,7 +8,7 @@ ghost use Rattle.key_lists.specs.Records.{sorted_keys, records_of};
 use crate::checking;
 
 // A key of the target, in one word, and whether it counts as configurable.
-#[derive(Drop)]
+#[derive(Clone, Copy)]
 pub struct TargetKey {
     pub key: u64,
     pub configurable: bool,

@@ -1,5 +1,7 @@
 // The texts of the TypeErrors: constant rows of 90 bytes, padded with zeros, and their lengths. Row 0 stands for no message.
 // writing: a text into lent bytes.
+#![tactic(auto)]
+
 ghost use Rattle.std.specs.Prelude.{◌≡◌, length, get_or};
 ghost use Rattle.internal_methods.specs.Messages.{message_text};
 

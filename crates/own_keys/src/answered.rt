@@ -13,7 +13,7 @@ use sheet::NextAnswer;
 use value::Value;
 
 // The list that a trap answered, by the place of its first value and its count.
-#[derive(Drop)]
+#[derive(Clone, Copy)]
 pub enum AnsweredOut {
     Failed(Failure, Progress),
     Done(usize, usize, Progress),

@@ -1,6 +1,8 @@
 // 10.1.11 and 10.5.11 [[OwnPropertyKeys]].
 // trap: 10.5.11 steps 7 to 10, by way of answered. check: steps 14 to 23, by way of marks.
 // loading: a list's keys into words, where they are looked at.
+#![tactic(auto)]
+
 ghost use Rattle.std.specs.Prelude.{◌≡◌, true, ◌≤◌, length};
 ghost use Rattle.text.specs.Table.{strings_of};
 ghost use Rattle.store.specs.Words.{store_of};

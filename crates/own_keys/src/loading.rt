@@ -12,13 +12,13 @@ use key_lists::key_bytes;
 use store_read::own_key_order;
 
 // Keys of the sheet, by the place of the first and their count, or those of an ordinary object.
-#[derive(Drop)]
+#[derive(Clone, Copy)]
 pub enum KeyList {
     Answered(usize, usize),
     Own(u64),
 }
 
-#[derive(Drop)]
+#[derive(Clone, Copy)]
 pub enum KeysOut {
     Failed(Failure, Progress),
     Done(KeyList, Progress),

@@ -11,7 +11,7 @@ use internal_methods::Failure;
 use own_property::target_checks;
 use property::OwnProperty;
 
-#[derive(Drop)]
+#[derive(Clone, Copy)]
 pub enum MarksOut {
     Failed(Failure, Progress),
     Done(Progress),

@@ -15,7 +15,7 @@ use internal_methods::Failure;
 use key_lists::{duplicates, key_bytes};
 
 // The list that a trap answered, by the place of its first value and its count, and whether the target is extensible.
-#[derive(Drop)]
+#[derive(Clone, Copy)]
 pub enum TrapOut {
     Failed(Failure, Progress),
     Done(usize, usize, bool, Progress),

@@ -1,5 +1,7 @@
 // 10.1.5 and 10.5.5 [[GetOwnProperty]].
 // results: 10.5.5 steps 10 to 17. target_checks: what all of 10.5 asks of the target's property.
+#![tactic(auto)]
+
 ghost use Rattle.std.specs.Prelude.{◌≡◌, true};
 ghost use Rattle.store.specs.Words.{is_store, store_of};
 ghost use Rattle.internal_methods.specs.Ordinary.{ordinary_get_own_property};

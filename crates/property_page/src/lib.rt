@@ -1,5 +1,7 @@
 // The property page of an ordinary object: a line of names, and a line for each own property in the order of the own keys.
 // lines: a line in lent bytes.
+#![tactic(auto)]
+
 ghost use Rattle.std.specs.Prelude.{◌≡◌, map, ◌+◌, ◌*◌, ◌≤◌, length, take};
 ghost use Rattle.std.proofs.lemmas.List.Edits.{sets};
 ghost use Rattle.store.specs.Store.{own};

@@ -10,7 +10,7 @@ use store_read::ObjectFound;
 use value::{ObjectResult, Value};
 
 // What follows on a chain of prototypes.
-#[derive(Drop)]
+#[derive(Clone, Copy)]
 pub enum Link {
     Reached,
     Ended,

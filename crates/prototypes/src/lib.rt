@@ -1,5 +1,7 @@
 // 10.1.1 and 10.5.1 [[GetPrototypeOf]].
 // set_prototype, set_prototype_trap: 10.1.2 and 10.5.2 [[SetPrototypeOf]]. chain: the walk of 10.1.2.1 step 7.
+#![tactic(auto)]
+
 ghost use Rattle.std.specs.Prelude.{◌≡◌};
 ghost use Rattle.internal_methods.specs.Ordinary.{ordinary_get_prototype_of};
 ghost use Rattle.internal_methods.specs.Proxy.{proxy_get_prototype_of};

@@ -1,8 +1,10 @@
 // Byte records: values, descriptors, steps and answer sheets.
+#![tactic(auto)]
+
 use property::DescriptorObject;
 use value::Value;
 
-#[derive(Drop)]
+#[derive(Clone, Copy)]
 pub struct Step {
     pub code: u64,
     pub object: u64,
@@ -13,7 +15,7 @@ pub struct Step {
 }
 
 // Which objects are live and which are callable, bit o for object o, and how many strings there are.
-#[derive(Drop)]
+#[derive(Clone, Copy)]
 pub struct Counts {
     pub live: u64,
     pub strings: u64,
@@ -21,14 +23,14 @@ pub struct Counts {
 }
 
 // The number of the first test that does not pass, if there is one.
-#[derive(Drop)]
+#[derive(Clone, Copy)]
 pub enum Refusal {
     Passed,
     Failed(u64),
 }
 
 // Refusals 2 and 3: what is asked of each value.
-#[derive(Drop)]
+#[derive(Clone, Copy)]
 pub enum Test {
     Made,
     Known,

@@ -6,7 +6,7 @@ use value_operations::bits;
 
 // Outcome (0 refused, 1 result, 2 TypeError, 3 throw), the refusal's or message's number, answers used, and how many bytes of the
 // completion were written.
-#[derive(Drop)]
+#[derive(Clone, Copy)]
 pub struct Ending {
     pub outcome: u64,
     pub number: u64,

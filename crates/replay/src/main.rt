@@ -2,6 +2,8 @@
 // tests/engines/1-records.js has the layout of a line.
 // line_input: a line's bytes. entry_calls: the call. endings, readout: what it ends in, and the whole store, as bytes.
 // comparison: what differs from the line. tally: counts of all, printed.
+#![tactic(auto)]
+
 ghost use Rattle.std.specs.Prelude.{◌+◌, ◌*◌, ◌<◌, ◌≤◌, length};
 
 use crate::comparison::Ending;

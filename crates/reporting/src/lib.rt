@@ -1,5 +1,7 @@
 // What a step reports once its run has ended, and the commit of its write; whether lent memory is a store and a table.
 // report_words: a report as ten words, for C.
+#![tactic(auto)]
+
 ghost use Rattle.std.specs.Prelude.{◌≡◌, true, ◌<◌, ◌-◌, length};
 ghost use Rattle.store.specs.Words.{is_store};
 ghost use Rattle.record.specs.Sheet.{sheet_of, is_sheet};
@@ -19,7 +21,7 @@ use value_operations::bits;
 pub mod report_words;
 
 // How an operation ends, with its one write.
-#[derive(Drop)]
+#[derive(Clone, Copy)]
 pub enum Performed {
     Failed(Failure, Progress),
     Done(Completion, Write, Progress),

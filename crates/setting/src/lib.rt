@@ -1,5 +1,7 @@
 // 10.1.9 and 10.5.9 [[Set]]: one cycle of both kinds of object.
 // trap: 10.5.9 from step 7 on. receiver: 10.1.9.2 steps 2.c to 2.e.
+#![tactic(auto)]
+
 ghost use Rattle.std.specs.Prelude.{◌≡◌, true, List, ℕ};
 ghost use Rattle.store.specs.Store.{Store};
 ghost use Rattle.store.specs.Words.{is_store, store_of};

@@ -1,4 +1,6 @@
 // The interface: a step over lent memory, and the entering of a string.
+#![tactic(auto)]
+
 ghost use Rattle.std.specs.Prelude.{◌≡◌};
 ghost use Rattle.std.proofs.Math.Option.{none};
 ghost use Rattle.store.specs.Words.{world_of};

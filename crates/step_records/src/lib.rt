@@ -1,6 +1,8 @@
 // The refusals over a call's records, in their order: 1 to 3, 14 and 4 over the step, then 1 to 3 over the sheet.
 // step_refusals: 1 to 3 over the step, by its code. sheet_refusals: 1 to 3 over the sheet.
 // value_refusals: 1 to 3 over a value and a descriptor in bytes. value_tests: 2 to 4 over a decoded descriptor.
+#![tactic(auto)]
+
 ghost use Rattle.std.specs.Prelude.{◌≡◌, true, ◌&&◌, eqb};
 ghost use Rattle.text.specs.Table.{is_table};
 ghost use Rattle.store.specs.Store.{lookup};

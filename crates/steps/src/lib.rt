@@ -1,9 +1,11 @@
 // What a step, the entering of a string and a page report.
+#![tactic(auto)]
+
 use property::Property;
 use value::Value;
 
 // The keys of a key list and the text of a page stand in the output; here is how many keys there are, and how many bytes.
-#[derive(Drop)]
+#[derive(Clone, Copy)]
 pub enum Completion {
     Value(Value),
     Descriptor(Property),
@@ -12,7 +14,7 @@ pub enum Completion {
     Page(u64),
 }
 
-#[derive(Drop)]
+#[derive(Clone, Copy)]
 pub enum Outcome {
     Refused(u64),
     Result(Completion),
@@ -20,7 +22,7 @@ pub enum Outcome {
     Thrown(Value),
 }
 
-#[derive(Drop)]
+#[derive(Clone, Copy)]
 pub struct Report {
     pub outcome: Outcome,
     pub answers: u64,

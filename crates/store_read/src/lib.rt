@@ -1,6 +1,8 @@
 // Reading the store's words.
 // read: counts, marks and objects. finding: where a property stands, and what it is. naming: whether an object is named.
 // own_key_order: 10.1.11.1, by way of sorted_words.
+#![tactic(auto)]
+
 use store::Object;
 
 pub mod finding;
@@ -15,21 +17,21 @@ pub use read::{
 };
 
 // The object of a number, if it is live.
-#[derive(Drop)]
+#[derive(Clone, Copy)]
 pub enum ObjectFound {
     Missing,
     Made(Object),
 }
 
 // Which of the properties it is.
-#[derive(Drop)]
+#[derive(Clone, Copy)]
 pub enum Place {
     Nothing,
     At(usize),
 }
 
 // An array index and its key in one word, while they are sorted.
-#[derive(Drop)]
+#[derive(Clone, Copy)]
 pub enum IndexWord {
     Other,
     Joined(u64),

@@ -1,6 +1,8 @@
 // Writing the store's words, one write at a time.
 // write: what a write is, and objects. numbers: those that are taken and released. properties: set and add one.
 // removal: of a property, and of an object with its properties. copying: all the words.
+#![tactic(auto)]
+
 ghost use Rattle.store.specs.Words.{store_of};
 ghost use Rattle.store_write.specs.Write.{Becomes, applied, written_to, FitsIn};
 

@@ -15,7 +15,7 @@ use value_operations::{bits, encoding};
 const OBJECTS: usize = 38;
 
 // One change of the store. An object and an entry are given by their numbers; a new object is callable or not.
-#[derive(Drop)]
+#[derive(Clone, Copy)]
 pub enum Write {
     Nothing,
     Object(u64, Object),
@@ -27,7 +27,7 @@ pub enum Write {
 }
 
 // The words of an object.
-#[derive(Drop)]
+#[derive(Clone, Copy)]
 struct ObjectWords {
     head: u64,
     first: u64,
@@ -35,7 +35,7 @@ struct ObjectWords {
 }
 
 // The words of a property.
-#[derive(Drop)]
+#[derive(Clone, Copy)]
 pub struct PropertyWords {
     pub flags: u64,
     pub kind: u64,

@@ -1,5 +1,7 @@
 // The strings that were entered, by number, in lent cells: a count, then for each string its length and 32 code units.
 // entry: entering one. indices: which strings are array indices.
+#![tactic(auto)]
+
 ghost use Rattle.std.specs.Prelude.{◌≡◌, true, [], ◌+◌, ◌<◌, eqb, length};
 ghost use Rattle.property.specs.ArrayIndex.{array_index};
 ghost use Rattle.property.specs.Answers.{index_answer};
@@ -13,21 +15,21 @@ pub mod entry;
 pub mod indices;
 
 // How many strings the cells hold, if they are a table.
-#[derive(Drop)]
+#[derive(Clone, Copy)]
 pub enum StringCount {
     Count(u64),
     Malformed,
 }
 
 // The number of a string, if it was entered.
-#[derive(Drop)]
+#[derive(Clone, Copy)]
 pub enum Found {
     Number(u64),
     Nothing,
 }
 
 // What entering a string answers: the number of the refusal, or of the string.
-#[derive(Drop)]
+#[derive(Clone, Copy)]
 pub enum EntryAnswer {
     Refused(u64),
     Entered(u64),

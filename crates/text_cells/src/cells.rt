@@ -5,7 +5,7 @@ ghost use Rattle.text_form.specs.Cells.{until, cells_of};
 ghost use Rattle.text_cells.specs.Answers.{Located};
 
 // Where each cell starts, and the one behind the last would.
-#[derive(Drop)]
+#[derive(Clone, Copy)]
 pub struct Cells {
     pub seven: bool,
     pub starts: [usize; 8],

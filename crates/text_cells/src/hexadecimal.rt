@@ -8,7 +8,7 @@ ghost use Rattle.text_cells.specs.Answers.{digit_told, told, decoded, Within};
 use value_operations::bits::wide;
 
 // How many bytes a cell is, if it is any.
-#[derive(Drop)]
+#[derive(Clone, Copy)]
 pub enum Decoded {
     Broken,
     Bytes(usize),

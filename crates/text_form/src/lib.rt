@@ -1,1 +1,2 @@
 // Steps from a text: definitions and theorems alone.
+#![tactic(auto)]

@@ -1,4 +1,6 @@
 // One line of a text: its call is performed, and its row is written.
+#![tactic(auto)]
+
 ghost use Rattle.std.specs.Prelude.{◌≡◌, true, false, [], ◌*◌, ◌≤◌, eqb, length};
 ghost use Rattle.std.proofs.Math.Option.{none, some};
 ghost use Rattle.record.specs.Bytes.{byte_at};

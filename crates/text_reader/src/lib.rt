@@ -1,4 +1,6 @@
 // Steps from a text, in pieces of any size: rows come out as lines are complete.
+#![tactic(auto)]
+
 ghost use Rattle.std.specs.Prelude.{◌≡◌, true, false, ◌+◌, ◌≤◌, length, get_or, set, replicate};
 ghost use Rattle.std.proofs.Math.Seq.{paste};
 ghost use Rattle.reporting.specs.Memory.{is_memory};
@@ -10,7 +12,7 @@ ghost use Rattle.text_reader.specs.Memory.{state_size, phase_in, line_of, are_be
 use text_cells::{cells, names};
 
 // Bytes taken of a piece and bytes of rows written; none where the call is refused.
-#[derive(Drop)]
+#[derive(Clone, Copy)]
 pub struct Progress {
     pub accepted: bool,
     pub taken: usize,

@@ -1,5 +1,7 @@
 // Rows of a text: a line's number and its report.
 // digits: decimal and hexadecimal digits into lent bytes.
+#![tactic(auto)]
+
 ghost use Rattle.std.specs.Prelude.{◌≡◌, [], ◌∷◌, ◌++◌, ◌+◌, ◌*◌, ◌<◌, ◌≤◌, length};
 ghost use Rattle.std.proofs.lemmas.List.Edits.{sets};
 ghost use Rattle.property.specs.Descriptor.{descriptor_of, from_property_descriptor};

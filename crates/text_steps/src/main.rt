@@ -1,4 +1,6 @@
 // Reads a text of steps from the standard input and writes a row for each line to the standard output, as lines are complete.
+#![tactic(auto)]
+
 ghost use Rattle.std.specs.Prelude.{◌+◌, ◌≤◌, length};
 
 use text_reader::Progress;

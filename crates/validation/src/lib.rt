@@ -1,5 +1,7 @@
 // 10.1.6.3 ValidateAndApplyPropertyDescriptor, and 10.1.6.2.
 // applying: step 6. outcome: yes or no, the test that fails, and the property after it. merging: two descriptors into one.
+#![tactic(auto)]
+
 ghost use Rattle.std.specs.Prelude.{◌≡◌, cond};
 ghost use Rattle.property.specs.Fields.{configurable};
 ghost use Rattle.property.specs.Validate.{has_no_fields, is_other_kind, validate_kind, validate_fixed, validate, is_compatible};
@@ -38,7 +40,7 @@ fn is_other_kind(d: PropertyDescriptor, current: Property) -> bool
 }
 
 // What step 5 comes to: the first test that fails, true where 5.e.iii returns it, or all tests passed.
-#[derive(Drop)]
+#[derive(Clone, Copy)]
 pub enum Tested {
     Fails(ValidationTest),
     Returns,

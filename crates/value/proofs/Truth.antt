@@ -13,11 +13,11 @@ use lib.Ieee.Fits.{up_pos}
 use lib.Ieee.Back.{positive_back, negative_back}
 use mir.Syntax.{w32}
 use mir.Val.{SFits, of_z}
-use Rattle.value.specs.Value.{is_zero, is_notANumber}
+use Rattle.value.specs.Value.{is_zero, is_not_a_number}
 use Rattle.value.proofs.Bools.{refuted}
 use Rattle.value.proofs.Numbers.{is-nan}
 
-pub nan-untrue : (x : Float) → ne x x ≡ true → false ≡ (not (is_zero x) && not (is_notANumber x))
+pub nan-untrue : (x : Float) → ne x x ≡ true → false ≡ (not (is_zero x) && not (is_not_a_number x))
 nan-untrue x e = rw (is-nan x e)
 
 absorbs : (a b : Bool) → (a && (b || a)) ≡ a
@@ -46,7 +46,7 @@ finite-zero : (s : Bool) (m : ℕ) (e : ℤ) → eq (fin s m e) (fin false 0 (po
 unfolding eq
 finite-zero s m e = let z : 0 * down e ≡ 0 = omega arith in rw (z, scaled m (up e) (up_pos e)) (absorbs (eqb m 0) (beq s false))
 
-pub number-true : (x : Float) → ne x x ≡ false → ne x (of_bits binary64 0) ≡ (not (is_zero x) && not (is_notANumber x))
+pub number-true : (x : Float) → ne x x ≡ false → ne x (of_bits binary64 0) ≡ (not (is_zero x) && not (is_not_a_number x))
 unfolding ne
 number-true nan h = absurd (true≢false (sym nan_differs ∙ h))
 number-true (inf s) h = rw plus-zero

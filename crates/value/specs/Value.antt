@@ -74,10 +74,10 @@ is_zero nan = false
 is_zero (inf s) = false
 is_zero (fin s m e) = eqb m 0
 
-abbrev pub is_notANumber : Float → Bool
-is_notANumber nan = true
-is_notANumber (inf s) = false
-is_notANumber (fin s m e) = false
+abbrev pub is_not_a_number : Float → Bool
+is_not_a_number nan = true
+is_not_a_number (inf s) = false
+is_not_a_number (fin s m e) = false
 
 -- 7.1.2 ToBoolean ( argument ), where `length_of` gives a string's length
 unfoldable pub to_boolean : (ℕ → ℕ) → Value → Bool
@@ -85,7 +85,7 @@ to_boolean length_of Undefined = false
 to_boolean length_of Null = false
 to_boolean length_of (Boolean b) = b
 to_boolean length_of (Integer32 n) = not (is_zero (of_int binary64 n))
-to_boolean length_of (Float64 x) = not (is_zero x) && not (is_notANumber x)
+to_boolean length_of (Float64 x) = not (is_zero x) && not (is_not_a_number x)
 to_boolean length_of (String s) = not (eqb (length_of s) 0)
 to_boolean length_of (Symbol s) = true
 to_boolean length_of (Object o) = true

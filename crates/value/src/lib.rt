@@ -1,6 +1,7 @@
 // ECMAScript language values and property keys. Strings, symbols, objects and functions are numbers.
+#![tactic(auto)]
 
-#[derive(Drop)]
+#[derive(Clone, Copy)]
 pub enum Value {
     Undefined,
     Null,
@@ -13,28 +14,28 @@ pub enum Value {
     Function(u64),
 }
 
-#[derive(Drop)]
+#[derive(Clone, Copy)]
 pub enum PropertyKey {
     String(u64),
     Symbol(u64),
 }
 
 // The key that a value is, if it is one.
-#[derive(Drop)]
+#[derive(Clone, Copy)]
 pub enum KeyResult {
     Key(PropertyKey),
     NotKey,
 }
 
 // The object of the store that a value names, if it names one.
-#[derive(Drop)]
+#[derive(Clone, Copy)]
 pub enum ObjectResult {
     Object(u64),
     NotObject,
 }
 
 // A value as two numbers.
-#[derive(Drop)]
+#[derive(Clone, Copy)]
 pub struct Words {
     pub kind: u64,
     pub payload: u64,

@@ -1,8 +1,10 @@
 // What a value is: its language type, ToBoolean, IsCallable, and the object that it may be.
 // equality: SameValue. keys: values as property keys, and back. encoding: values as kind and payload, and back.
 // bits: the weight of a bit, and a byte as a word.
+#![tactic(auto)]
+
 ghost use Rattle.std.specs.Prelude.{◌≡◌, not, ◌&&◌, ℕ};
-ghost use Rattle.value.specs.Value.{type_of, to_boolean, is_undefined, is_callable, object_of, is_zero, is_notANumber};
+ghost use Rattle.value.specs.Value.{type_of, to_boolean, is_undefined, is_callable, object_of, is_zero, is_not_a_number};
 ghost use Rattle.value.specs.Answers.{object_result};
 
 use value::{ObjectResult, Value};
@@ -29,7 +31,7 @@ pub fn type_of(v: Value) -> u64
 }
 
 fn number_to_boolean(x: f64) -> bool
-    ensures { result ≡ (not (is_zero x) && not (is_notANumber x)) }
+    ensures { result ≡ (not (is_zero x) && not (is_not_a_number x)) }
 {
     if x != x {
         return false;

@@ -1,6 +1,8 @@
 // Runs the outside vectors of the leaves, and counts those whose answer is another than the expected one.
 // A record of the input is 192 bytes: an operation, its inputs and the expected answer; tests/vectors.mjs makes them. An engine
 // answered some, and that script itself the others: each line of the output says which.
+#![tactic(auto)]
+
 ghost use Rattle.std.specs.Prelude.{◌≡◌, ◌+◌, ◌<◌, ◌≤◌, length};
 
 use byte_records::{descriptor_record, numbers, value_record};
