@@ -1,0 +1,6 @@
+use mathlib.Core.Path.{sym}
+use borrow.Author.Rules.{rules}
+use Rattle.calls.proofs.entry.ordinary_at.Goals as goal
+
+pub returns : goal.returns
+returns c = rw (sym c.object_at.ensures) c.ordinary_in.ensures

@@ -1,0 +1,7 @@
+use mathlib.Core.Path.{ap, ◌∙◌}
+use Rattle.reporting.specs.ReportWords.{report_words}
+use borrow.Author.Rules.{rules}
+use Rattle.demnyaluz.proofs.demnyaluz_complete.Goals as goal
+
+pub returns : goal.returns
+returns c = c.write_report.ensures.0 ∙ ap report_words c.complete.ensures

@@ -1,0 +1,5 @@
+use borrow.Author.Rules.{rules}
+use Rattle.descriptors.proofs.completion.data_with.Goals as goal
+
+pub returns : goal.returns
+returns c = cc

@@ -1,0 +1,10 @@
+use Prim.Native.Nat.{◌-◌}
+use native.Mathlib.Omega.{arith}
+use Rattle.key_lists.proofs.KeyLaws.{Loading, loading-start, loading-key, loading-known, loading-more, loading-end}
+use Rattle.key_lists.proofs.key_bytes.load_keys.Given as goal
+
+abbrev pub invariant-loop-i : goal.invariant-loop-i
+invariant-loop-i l = Loading l.sheet l.initial.out l.first l.n l.out l.at l.i
+
+abbrev pub decreases-loop-i : goal.decreases-loop-i
+decreases-loop-i l = l.n - l.i

@@ -1,0 +1,5 @@
+use borrow.Author.Rules.{rules}
+use Rattle.own_property.proofs.target_checks.fixes_other.Goals as goal
+
+pub returns-in-Data : goal.returns-in-Data
+returns-in-Data c = rw (c.in-Present.is, c.in-Data.is) c.is_other.ensures

@@ -1,0 +1,5 @@
+use borrow.Author.Rules.{rules}
+use Rattle.reporting.proofs.completed.Goals as goal
+
+pub returns : goal.returns
+returns c = c.ended.ensures

@@ -1,0 +1,6 @@
+use Rattle.step.proofs.StepLaws.{entry-shown}
+use borrow.Author.Rules.{rules}
+use Rattle.step.proofs.enter_string.Goals as goal
+
+pub returns : goal.returns
+returns c = record { shows = (λ σ. entry-shown σ c.args.strings.now c.args.units.now _ c.enter.result _ c.enter.ensures.0 c.enter.ensures.1.0 c.entered.ensures); cells_are = c.enter.ensures.1.0; table = c.enter.ensures.1.1 }

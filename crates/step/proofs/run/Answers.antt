@@ -1,0 +1,62 @@
+use native.Mathlib.Omega.{arith}
+use mathlib.Core.Path.{refl, sym, ◌∙◌}
+use Rattle.store.specs.Words.{world_of}
+use Rattle.step_records.proofs.PassedLaws.{step-length, sheet-there, sheet-formed, other-code}
+use Rattle.reporting.proofs.EndLaws.{finished-words, kept-words}
+use Rattle.step.proofs.StepLaws.{performable, lists-fit, turns, run-shown, run-listed, run-set, run-tested, run-performed}
+use borrow.Author.Rules.{rules}
+use Rattle.step.proofs.run.Goals as goal
+
+pub bounds-bytes-0 : goal.bounds-bytes-0
+bounds-bytes-0 c = omega (arith, step-length (world_of c.args.words.now c.args.strings.now) c.args.bytes.now c.args.sheet.now c.requires.1)
+
+pub bounds-bytes-1 : goal.bounds-bytes-1
+bounds-bytes-1 c = omega (arith, step-length (world_of c.args.words.now c.args.strings.now) c.args.bytes.now c.args.sheet.now c.requires.1)
+
+pub list-requires : goal.list-requires
+list-requires c = (c.requires.0, lists-fit c.args.words.now c.args.strings.now c.args.bytes.now c.args.sheet.now c.requires.0 c.requires.1)
+
+pub returns-then-code-eq14 : goal.returns-then-code-eq14
+returns-then-code-eq14 c = record { output_after = run-listed c.args.words.now c.args.strings.now c.args.bytes.now c.args.sheet.now c.args.output.now (sheet-formed (world_of c.args.words.now c.args.strings.now) c.args.bytes.now c.args.sheet.now c.requires.1) _ _ c.wide.ensures.0 (sym c.wide-code.ensures.0 ∙ c.if-code-eq14.true) c.list.ensures; words_after = kept-words c.args.words.now _ c.requires.0.store refl _ c.list.result.outcome }
+
+pub is_frozen-frozen-requires : goal.is_frozen-frozen-requires
+is_frozen-frozen-requires c = omega (arith, step-length (world_of c.args.words.now c.args.strings.now) c.args.bytes.now c.args.sheet.now c.requires.1)
+
+pub bounds-bytes-1-then-code-eq18 : goal.bounds-bytes-1-then-code-eq18
+bounds-bytes-1-then-code-eq18 c = omega (arith, step-length (world_of c.args.words.now c.args.strings.now) c.args.bytes.now c.args.sheet.now c.requires.1)
+
+pub set_level-requires : goal.set_level-requires
+set_level-requires c = (c.requires.0, lists-fit c.args.words.now c.args.strings.now c.args.bytes.now c.args.sheet.now c.requires.0 c.requires.1)
+
+pub returns-then-code-eq18 : goal.returns-then-code-eq18
+returns-then-code-eq18 c = record { output_after = run-set c.args.words.now c.args.strings.now c.args.bytes.now c.args.sheet.now c.args.output.now (sheet-formed (world_of c.args.words.now c.args.strings.now) c.args.bytes.now c.args.sheet.now c.requires.1) _ _ _ c.wide-then-code-eq18.ensures.0 c.is_frozen-frozen.ensures (sym c.wide-code.ensures.0 ∙ c.if-code-eq18.true) (c.set_level.ensures.0 c.args.output.now); words_after = rw (turns c.args.words.now c.args.strings.now c.args.bytes.now c.args.sheet.now c.args.output.now (sym c.wide-code.ensures.0 ∙ c.if-code-eq18.true)) c.set_level.ensures.1 }
+
+pub is_frozen-frozen-requires-then-code-eq19 : goal.is_frozen-frozen-requires-then-code-eq19
+is_frozen-frozen-requires-then-code-eq19 c = omega (arith, step-length (world_of c.args.words.now c.args.strings.now) c.args.bytes.now c.args.sheet.now c.requires.1)
+
+pub bounds-bytes-1-then-code-eq19 : goal.bounds-bytes-1-then-code-eq19
+bounds-bytes-1-then-code-eq19 c = omega (arith, step-length (world_of c.args.words.now c.args.strings.now) c.args.bytes.now c.args.sheet.now c.requires.1)
+
+pub test_level-requires : goal.test_level-requires
+test_level-requires c = (c.requires.0, lists-fit c.args.words.now c.args.strings.now c.args.bytes.now c.args.sheet.now c.requires.0 c.requires.1)
+
+pub returns-then-code-eq19 : goal.returns-then-code-eq19
+returns-then-code-eq19 c = record { output_after = run-tested c.args.words.now c.args.strings.now c.args.bytes.now c.args.sheet.now c.args.output.now (sheet-formed (world_of c.args.words.now c.args.strings.now) c.args.bytes.now c.args.sheet.now c.requires.1) _ _ _ c.wide-then-code-eq19.ensures.0 c.is_frozen-frozen-then-code-eq19.ensures (sym c.wide-code.ensures.0 ∙ c.if-code-eq19.true) (c.test_level.ensures c.args.output.now); words_after = kept-words c.args.words.now _ c.requires.0.store refl _ c.test_level.result.outcome }
+
+pub start-s-requires : goal.start-s-requires
+start-s-requires c = sheet-there (world_of c.args.words.now c.args.strings.now) c.args.bytes.now c.args.sheet.now c.requires.1
+
+pub perform_reading-requires : goal.perform_reading-requires
+perform_reading-requires c = (performable c.args.words.now c.args.strings.now c.args.bytes.now c.args.sheet.now c.requires.0 c.requires.1, (sheet-formed (world_of c.args.words.now c.args.strings.now) c.args.bytes.now c.args.sheet.now c.requires.1, rw (sym c.wide-code.ensures.0) (sym c.is_reading.ensures ∙ c.if-is_reading.true)))
+
+pub returns-then-is_reading : goal.returns-then-is_reading
+returns-then-is_reading c = record { output_after = run-shown c.args.words.now c.args.strings.now c.args.bytes.now c.args.sheet.now c.args.output.now (sheet-formed (world_of c.args.words.now c.args.strings.now) c.args.bytes.now c.args.sheet.now c.requires.1) _ _ c.start-s.ensures (c.perform_reading.ensures c.args.output.now); words_after = kept-words c.args.words.now _ c.requires.0.store refl _ c.perform_reading.result.outcome }
+
+pub perform-performed-requires : goal.perform-performed-requires
+perform-performed-requires c = (performable c.args.words.now c.args.strings.now c.args.bytes.now c.args.sheet.now c.requires.0 c.requires.1, (rw (sym c.wide-code.ensures.0) (sym c.is_reading.ensures ∙ c.if-is_reading.false), other-code (world_of c.args.words.now c.args.strings.now) c.args.bytes.now c.args.sheet.now c.requires.1 (rw (sym c.wide-code.ensures.0) c.if-code-eq14.false) (rw (sym c.wide-code.ensures.0) c.if-code-eq18.false) (rw (sym c.wide-code.ensures.0) c.if-code-eq19.false)))
+
+pub finish-requires : goal.finish-requires
+finish-requires c = (sheet-formed (world_of c.args.words.now c.args.strings.now) c.args.bytes.now c.args.sheet.now c.requires.1, (c.requires.0.store, c.perform-performed.ensures.1))
+
+pub returns : goal.returns
+returns c = record { output_after = run-performed c.args.words.now c.args.strings.now c.args.bytes.now c.args.sheet.now c.args.output.now (sheet-formed (world_of c.args.words.now c.args.strings.now) c.args.bytes.now c.args.sheet.now c.requires.1) _ _ c.perform-performed.result _ c.start-s.ensures c.perform-performed.ensures.0 c.perform-performed.ensures.1 c.finish.ensures.1 c.finish.ensures.0; words_after = rw c.finish.ensures.0 (finished-words c.args.words.now c.args.sheet.now c.requires.0.store _ _ c.perform-performed.result c.finish.ensures.1) }

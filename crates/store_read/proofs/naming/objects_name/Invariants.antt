@@ -1,0 +1,14 @@
+use Prim.Native.Nat.{◌-◌, ◌≤◌}
+use native.Mathlib.Omega.{arith}
+use mathlib.Core.Path.{◌≡◌, refl, sym, ◌∙◌}
+use Rattle.text.specs.Table.{tabulate}
+use Rattle.store.specs.Release.{objects_name}
+use Rattle.store.specs.Words.{slot_in, store_of}
+use Rattle.store_read.proofs.NameLaws.{object-hit, object-step, objects-end}
+use Rattle.store_read.proofs.naming.objects_name.Given as goal
+
+abbrev pub invariant-loop-i : goal.invariant-loop-i
+invariant-loop-i l = (l.i ≤ 32) × (objects_name (store_of l.words).objects l.o ≡ objects_name (tabulate (slot_in l.words) l.i (32 - l.i)) l.o)
+
+abbrev pub decreases-loop-i : goal.decreases-loop-i
+decreases-loop-i l = 32 - l.i

@@ -1,0 +1,25 @@
+use Rattle.store.proofs.WordLaws.{is-store}
+use Rattle.store_write.proofs.WriteLaws.{store-empty, sized-empty}
+use borrow.Author.Tests.{eq-eqb, ne_eqb}
+use mathlib.Core.Bool.{false≢true}
+use mathlib.Core.Path.{sym}
+use lib.ListN.{length-set}
+use native.Mathlib.Omega.{arith}
+use borrow.Author.Rules.{rules}
+use Rattle.store_write.proofs.write.make_empty.Goals as goal
+
+pub bounds-words-4 : goal.bounds-words-4
+bounds-words-4 c = simp length-set (omega arith)
+
+pub bounds-words-5 : goal.bounds-words-5
+bounds-words-5 c = simp length-set (omega arith)
+
+pub returns-then-words-eq1670 : goal.returns-then-words-eq1670
+returns-then-words-eq1670 c = let h = let w = c.args.words.now in
+    let h = c.if-words-eq1670.true in
+    let e = eq-eqb _ _ h in
+    (sym e, (rw e, λ t. (store-empty w h, is-store _ (sized-empty w h)))) in record { value = h.0; words_after = h.1.0; words_after_2 = h.1.1 }
+
+pub returns-else-words-eq1670 : goal.returns-else-words-eq1670
+returns-else-words-eq1670 c = let h = let e = ne_eqb _ _ c.if-words-eq1670.false in
+    (sym e, (rw e, λ t. absurd (false≢true t))) in record { value = h.0; words_after = h.1.0; words_after_2 = h.1.1 }

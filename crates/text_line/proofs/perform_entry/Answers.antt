@@ -1,0 +1,23 @@
+-- src/lib.rt:78:8
+use native.Mathlib.Omega.{arith}
+use Rattle.text_line.proofs.LineLaws.{as_call, zeros-entered, others-stepped, entry-held, entry_done}
+use borrow.Author.Rules.{rules}
+use Rattle.text_line.proofs.perform_entry.Reads as reads
+use Rattle.text_line.proofs.perform_entry.Lts as lts
+use Rattle.step.proofs.enter_string.Reads as enter-string-reads
+use Rattle.step_records.proofs.step_refusals.are_zero_from.Reads as are-zero-from-reads
+use Rattle.text_line.proofs.perform_step.Reads as perform-step-reads
+use Rattle.text_rows.proofs.put_row.Reads as put-row-reads
+use Rattle.text_line.proofs.perform_entry.Goals as goal
+
+-- src/lib.rt:80:9
+pub put_row-requires : goal.put_row-requires
+put_row-requires c = (search rules, entry-held _ _ c.requires.0 _ _ _ c.enter_string-report.ensures)
+
+-- src/lib.rt:80:9
+pub returns-then-are_zero_from : goal.returns-then-are_zero_from
+returns-then-are_zero_from c = as_call (zeros-entered _ _ _ c.are_zero_from.ensures c.if-are_zero_from.true) (entry_done _ _ c.requires.0 _ _ _ c.enter_string-report.ensures _ _ _ _ c.put_row.ensures.0 (omega (arith, c.put_row.ensures.1, c.requires.1.0)))
+
+-- src/lib.rt:67:1
+pub returns : goal.returns
+returns c = as_call (others-stepped _ _ _ c.are_zero_from.ensures c.if-are_zero_from.false) c.perform_step.ensures

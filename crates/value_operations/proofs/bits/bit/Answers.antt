@@ -1,0 +1,7 @@
+use borrow.Author.Rules.{rules}
+use Rattle.value.proofs.BitLaws.{bit-beyond}
+use mathlib.Core.Path.{sym}
+use Rattle.value_operations.proofs.bits.bit.Goals as goal
+
+pub returns : goal.returns
+returns c = sym (bit-beyond c.args.word c.args.i c.well-formed.0.1 c.if-i-lt64.false)

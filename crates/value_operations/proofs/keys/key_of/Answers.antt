@@ -1,0 +1,12 @@
+use borrow.Author.Rules.{rules}
+use Rattle.value.proofs.Missing.{no_key}
+use Rattle.value_operations.proofs.keys.key_of.Goals as goal
+
+pub returns-in-String : goal.returns-in-String
+returns-in-String c = rw c.in-String.is
+
+pub returns-in-Symbol : goal.returns-in-Symbol
+returns-in-Symbol c = rw c.in-Symbol.is
+
+pub returns-in_default : goal.returns-in_default
+returns-in_default c = no_key c.args.v c.in_default.in_default-own.keys3

@@ -1,0 +1,12 @@
+use borrow.Author.Rules.{rules}
+use Rattle.value.proofs.Missing.{no-object}
+use Rattle.value_operations.proofs.object_of.Goals as goal
+
+pub returns-in-Object : goal.returns-in-Object
+returns-in-Object c = rw c.in-Object.is
+
+pub returns-in-Function : goal.returns-in-Function
+returns-in-Function c = rw c.in-Function.is
+
+pub returns-in_default : goal.returns-in_default
+returns-in_default c = no-object c.args.v c.in_default.in_default-own.keys3
