@@ -29,6 +29,7 @@ at-owner e o k h = let (a, b) = and-true _ _ h in (eqb-true _ _ a, key-eq _ _ b)
 -- replacing the first entry is inserting
 pub first-replaced : (o : ℕ) (k : PropertyKey) (es : List Entry) (i : ℕ) (p : Property) → First o k es i → replace_at es i p ≡ insert es o k p
 unfolding replace_at insert
+first-replaced o k [] i p x' = elim x' [ ]
 first-replaced o k (e ∷ es) _ p (here h) = let (a, b) = at-owner e o k h in rw (h, a, b)
 first-replaced o k (e ∷ es) _ p (later h f) = rw (h, first-replaced o k es _ p f)
 

@@ -7,6 +7,3 @@ returns-in-Object c = rw c.in-Object.is
 
 pub returns-in-Function : goal.returns-in-Function
 returns-in-Function c = rw c.in-Function.is
-
-pub returns-in_default : goal.returns-in_default
-returns-in_default c = no-object c.args.v c.in_default.in_default-own.keys3

@@ -36,10 +36,10 @@ overflow_add-result c = let n = c.args.i in
 
 pub overflow_add-result-2 : goal.overflow_add-result-2
 overflow_add-result-2 c = let a = c.args in
-    rw (placed a.i c.requires, c.weight.ensures.0, placed a.i c.requires, upper a.word a.i c.requires c.well-formed.0.1)
-    (record { fits = below a.word a.i a.b c.requires c.well-formed.0.1 })
+    rw (placed a.i c.requires, c.weight.ensures.0, placed a.i c.requires, upper a.word a.i c.requires c.well_formed.0.1)
+    (record { fits = below a.word a.i a.b c.requires c.well_formed.0.1 })
 
 pub returns : goal.returns
 unfolding with_bit
 returns c = let a = c.args in
-    rw (c.weight.ensures.0, placed a.i c.requires, upper a.word a.i c.requires c.well-formed.0.1)
+    rw (c.weight.ensures.0, placed a.i c.requires, upper a.word a.i c.requires c.well_formed.0.1)

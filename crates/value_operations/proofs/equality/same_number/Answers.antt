@@ -15,4 +15,4 @@ pub float_to_bits-result-2 : goal.float_to_bits-result-2
 float_to_bits-result-2 c = not-nan _ c.if-y.false
 
 pub returns : goal.returns
-returns c = same_bits _ _ (passes _ c.well-formed.0.1) (passes _ c.well-formed.1.0.1)
+returns c = same_bits _ _ (passes _ c.well_formed.0.1) (passes _ c.well_formed.1.0.1)

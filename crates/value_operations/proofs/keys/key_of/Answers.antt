@@ -7,6 +7,3 @@ returns-in-String c = rw c.in-String.is
 
 pub returns-in-Symbol : goal.returns-in-Symbol
 returns-in-Symbol c = rw c.in-Symbol.is
-
-pub returns-in_default : goal.returns-in_default
-returns-in_default c = no_key c.args.v c.in_default.in_default-own.keys3

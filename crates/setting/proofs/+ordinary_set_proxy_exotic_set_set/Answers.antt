@@ -1,0 +1,89 @@
+-- [[Set]] of both kinds is what the definitions say, and its write is one that the words can take. Assumes nothing.
+use borrow.Author.Rules.{rules}
+use mathlib.Core.Path.{sym, ◌∙◌}
+use native.Mathlib.Omega.{arith}
+use Prim.Native.Nat.{◌+◌, ◌*◌}
+use Rattle.value.specs.Value.{object_of}
+use Rattle.internal_methods.specs.Monad.{pure, fails, next, ◌>>=◌, throw_if, if◌then◌else◌}
+use Rattle.internal_methods.specs.Ordinary.{ordinary_set}
+use Rattle.internal_methods.specs.Proxy.{proxy_set}
+use Rattle.calls.proofs.EnterLaws.{set-goes-on, is_below}
+use Rattle.value.proofs.Objects.{is-object, is-no-object}
+use Rattle.setting.specs.Set.{set_accessor}
+use Rattle.setting.specs.SetByTrap.{set_by_trap}
+use Prim.Native.Nat.{ℕ}
+use Rattle.setting.proofs.+ordinary_set_proxy_exotic_set_set.Goals as goal
+
+pub ordinary_set-get_own_property-requires : goal.ordinary_set-get_own_property-requires
+ordinary_set-get_own_property-requires t c = c.requires.1.readable
+
+pub ordinary_set-get_prototype_of-requires : goal.ordinary_set-get_prototype_of-requires
+ordinary_set-get_prototype_of-requires t c = c.requires.1.readable
+
+pub ordinary_set-set-requires : goal.ordinary_set-set-requires
+ordinary_set-set-requires t c = (omega (arith, c.requires.0), c.requires.1)
+
+pub ordinary_set-set_data-requires : goal.ordinary_set-set_data-requires
+ordinary_set-set_data-requires t c = c.requires.1
+
+pub ordinary_set-set_data-requires-in-Data : goal.ordinary_set-set_data-requires-in-Data
+ordinary_set-set_data-requires-in-Data t c = c.requires.1
+
+pub ordinary_set-returns-in-Failed : goal.ordinary_set-returns-in-Failed
+unfolding ◌>>=◌ fails if◌then◌else◌ next ordinary_set proxy_set pure set_accessor set_by_trap throw_if
+ordinary_set-returns-in-Failed t c = record { result_value = rw (sym c.get_own_property.ensures, c.in-Failed.is); fitting = tt }
+
+pub ordinary_set-returns-in-Failed-get_prototype_of : goal.ordinary_set-returns-in-Failed-get_prototype_of
+unfolding ◌>>=◌ fails if◌then◌else◌ next ordinary_set proxy_set pure set_accessor set_by_trap throw_if
+ordinary_set-returns-in-Failed-get_prototype_of t c = record { result_value = rw (sym c.get_own_property.ensures, c.in-Done.is, c.in-Absent.is, sym c.get_prototype_of.ensures, c.in-Failed-get_prototype_of.is); fitting = tt }
+
+pub ordinary_set-returns-in-Object : goal.ordinary_set-returns-in-Object
+unfolding ◌>>=◌ fails if◌then◌else◌ next ordinary_set proxy_set pure set_accessor set_by_trap throw_if
+ordinary_set-returns-in-Object t c = record { result_value = rw (sym c.get_own_property.ensures, c.in-Done.is, c.in-Absent.is, sym c.get_prototype_of.ensures, c.in-Done-get_prototype_of.is, is-object (object_of c.in-Done-get_prototype_of.parent) _ (sym c.object_of.ensures ∙ c.in-Object.is), next) c.set.ensures.0; fitting = c.set.ensures.1 }
+
+pub ordinary_set-returns-in-NotObject : goal.ordinary_set-returns-in-NotObject
+unfolding ◌>>=◌ fails if◌then◌else◌ next ordinary_set proxy_set pure set_accessor set_by_trap throw_if
+ordinary_set-returns-in-NotObject t c = record { result_value = rw (sym c.get_own_property.ensures, c.in-Done.is, c.in-Absent.is, sym c.get_prototype_of.ensures, c.in-Done-get_prototype_of.is, is-no-object (object_of c.in-Done-get_prototype_of.parent) (sym c.object_of.ensures ∙ c.in-NotObject.is), next) c.set_data.ensures.0; fitting = c.set_data.ensures.1 }
+
+pub ordinary_set-returns-in-Data : goal.ordinary_set-returns-in-Data
+unfolding ◌>>=◌ fails if◌then◌else◌ next ordinary_set proxy_set pure set_accessor set_by_trap throw_if
+ordinary_set-returns-in-Data t c = record { result_value = rw (sym c.get_own_property.ensures, c.in-Done.is, c.in-Present.is, c.in-Data.is) c.set_data-in-Data.ensures.0; fitting = c.set_data-in-Data.ensures.1 }
+
+pub ordinary_set-returns-in-Accessor : goal.ordinary_set-returns-in-Accessor
+unfolding ◌>>=◌ fails if◌then◌else◌ next ordinary_set proxy_set pure set_accessor set_by_trap throw_if
+ordinary_set-returns-in-Accessor t c = record { result_value = rw (sym c.get_own_property.ensures, c.in-Done.is, c.in-Present.is, c.in-Accessor.is) (c.set_accessor.ensures.0 _); fitting = c.set_accessor.ensures.1 _ c.requires.1.readable.store }
+
+pub proxy_exotic_set-set_trap-requires : goal.proxy_exotic_set-set_trap-requires
+proxy_exotic_set-set_trap-requires t c = c.requires.1
+
+pub proxy_exotic_set-set-requires : goal.proxy_exotic_set-set-requires
+proxy_exotic_set-set-requires t c = (omega (arith, c.requires.0), c.requires.1)
+
+pub proxy_exotic_set-returns-then-has_trap : goal.proxy_exotic_set-returns-then-has_trap
+unfolding ◌>>=◌ fails if◌then◌else◌ next ordinary_set proxy_set pure set_accessor set_by_trap throw_if
+proxy_exotic_set-returns-then-has_trap t c = record { result_value = rw (sym c.has_trap.ensures ∙ c.if-has_trap.true) c.set_trap.ensures.0; fitting = c.set_trap.ensures.1 }
+
+pub proxy_exotic_set-returns-else-has_trap : goal.proxy_exotic_set-returns-else-has_trap
+unfolding ◌>>=◌ fails if◌then◌else◌ next ordinary_set proxy_set pure set_accessor set_by_trap throw_if
+proxy_exotic_set-returns-else-has_trap t c = record { result_value = rw (sym c.has_trap.ensures ∙ c.if-has_trap.false) c.set.ensures.0; fitting = c.set.ensures.1 }
+
+pub set-enter-requires : goal.set-enter-requires
+set-enter-requires t c = (c.requires.1.readable.store, omega arith)
+
+pub set-ordinary_set-requires : goal.set-ordinary_set-requires
+set-ordinary_set-requires t c = (omega (arith, c.requires.0, (is_below _ _ _ _ _ _ (sym c.enter.ensures ∙ c.in-Ordinary.is)).0), c.requires.1)
+
+pub set-proxy_exotic_set-requires : goal.set-proxy_exotic_set-requires
+set-proxy_exotic_set-requires t c = (omega (arith, c.requires.0, (is_below _ _ _ _ _ _ (sym c.enter.ensures ∙ c.in-Proxy.is)).0), c.requires.1)
+
+pub set-returns-in-Failed : goal.set-returns-in-Failed
+unfolding ◌>>=◌ fails if◌then◌else◌ next ordinary_set proxy_set pure set_accessor set_by_trap throw_if
+set-returns-in-Failed t c = record { result_value = rw (set-goes-on _ _ _ _ _ _ _ _, sym c.enter.ensures ∙ c.in-Failed.is); fitting = tt }
+
+pub set-returns-in-Ordinary : goal.set-returns-in-Ordinary
+unfolding ◌>>=◌ fails if◌then◌else◌ next ordinary_set proxy_set pure set_accessor set_by_trap throw_if
+set-returns-in-Ordinary t c = record { result_value = rw (set-goes-on _ _ _ _ _ _ _ _, sym c.enter.ensures ∙ c.in-Ordinary.is) c.ordinary_set.ensures.0; fitting = c.ordinary_set.ensures.1 }
+
+pub set-returns-in-Proxy : goal.set-returns-in-Proxy
+unfolding ◌>>=◌ fails if◌then◌else◌ next ordinary_set proxy_set pure set_accessor set_by_trap throw_if
+set-returns-in-Proxy t c = record { result_value = rw (set-goes-on _ _ _ _ _ _ _ _, sym c.enter.ensures ∙ c.in-Proxy.is) c.proxy_exotic_set.ensures.0; fitting = c.proxy_exotic_set.ensures.1 }
