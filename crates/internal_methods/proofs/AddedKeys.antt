@@ -135,10 +135,10 @@ module _ {P : PropertyKey → Type 0} (c : Context) (h : OwnKeys P c.store) wher
       (λ _. define_own_property-keys n p.target k d (record { holds = λ b r base. m.holds b r (over e base) }))
       (λ _. ensures-then _ λ answer. ensures-if _
       (λ _. ensures-pure _ h)
-      (λ _. ensures-then _ λ target. ensures-then _ λ extensible. elim target [
-        | Absent ↦ ensures-throw_if _ _ λ _. ensures-throw_if _ _ λ _. ensures-pure _ h
-        | Present t ↦ ensures-throw_if _ _ λ _. ensures-throw_if _ _ λ _. ensures-throw_if _ _ λ _. ensures-pure _ h
-      ])))
+      (λ _. ensures-then _ (elim [
+        | Absent ↦ ensures-then _ λ extensible. ensures-throw_if _ _ λ _. ensures-throw_if _ _ λ _. ensures-pure _ h
+        | Present t ↦ ensures-then _ λ extensible. ensures-throw_if _ _ λ _. ensures-throw_if _ _ λ _. ensures-throw_if _ _ λ _. ensures-pure _ h
+      ]))))
 
   -- [[Set]] defines its own key, on whatever object
   module _ (k : PropertyKey) (m : P k) where

@@ -223,10 +223,12 @@ chain-kept h (value e) = value e
 chain-kept {σ} {τ} h (proxy {v = v} {q = q} {p = p} e f) = let (y, g, a) = h.keeps q (Proxy p) f in go y g a
   where
     go : (y : Object) → lookup τ q ≡ some y → Alike (Proxy p) y → Chain τ 0 v
+    go (Ordinary _) g x5 = elim x5 [ ]
     go (Proxy s) g proxies-alike = proxy e g
 chain-kept {σ} {τ} h (ordinary {n = n} {v = v} {q = q} {r = r} e f c) = let (y, g, a) = h.keeps q (Ordinary r) f in go y g a (chain-kept h c)
   where
     go : (y : Object) → lookup τ q ≡ some y → Alike (Ordinary r) y → Chain τ n r.prototype → Chain τ (suc n) v
+    go (Proxy _) g x6 d = elim x6 [ ]
     go (Ordinary s) g (ordinaries-alike b) d = ordinary {n = n} e g (rw b d)
 
 made-before : {σ τ : Store} {v : Value} → ((o : ℕ) → Made τ o → Made σ o) → MadeValue τ v → MadeValue σ v
@@ -372,10 +374,10 @@ module _ (c : Context) (h : Ends c.store) where
       (λ _. define_own_property-ends n p.target k d)
       (λ _. ensures-then _ λ answer. ensures-if _
       (λ _. ensures-pure _ h)
-      (λ _. ensures-then _ λ target. ensures-then _ λ extensible. elim target [
-        | Absent ↦ ensures-throw_if _ _ λ _. ensures-throw_if _ _ λ _. ensures-pure _ h
-        | Present t ↦ ensures-throw_if _ _ λ _. ensures-throw_if _ _ λ _. ensures-throw_if _ _ λ _. ensures-pure _ h
-      ])))
+      (λ _. ensures-then _ (elim [
+        | Absent ↦ ensures-then _ λ extensible. ensures-throw_if _ _ λ _. ensures-throw_if _ _ λ _. ensures-pure _ h
+        | Present t ↦ ensures-then _ λ extensible. ensures-throw_if _ _ λ _. ensures-throw_if _ _ λ _. ensures-throw_if _ _ λ _. ensures-pure _ h
+      ]))))
 
   set_on_receiver-ends : (n : ℕ) (k : PropertyKey) (v : Value) (o : ℕ) → Ensures (set_on_receiver c (methods n c) k v o) EndsIn
   unfolding set_on_receiver

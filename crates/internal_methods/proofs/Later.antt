@@ -208,6 +208,7 @@ pub through-later : {σ τ : Store} {o : ℕ} {p : ProxyObject} {P : ℕ → Ord
 through-later {σ} {τ} {o} {p} {P} g e u = let (y, f, l) = g.lasts o (Proxy p) e.found in go y f l
   where
     go : (y : Object) → lookup τ o ≡ some y → Lasts σ τ o (Proxy p) y → OnBase τ o P
+    go (Ordinary _) f x3 = elim x3 [ ]
     go (Proxy q) f (proxies l k) = on-proxy f (rw l u)
 
 -- Facts about the base ------------------------------------------------------------------
@@ -254,9 +255,11 @@ module _ {σ τ : Store} (g : Grows σ τ) where
       subst (λ (w : Object). Lasts σ τ o x w) p l
 
   was-ordinary : {o : ℕ} {s : OrdinaryObject} (x : Object) → lookup σ o ≡ some x → Lasts σ τ o x (Ordinary s) → (r : OrdinaryObject) × Base σ o o r × Later σ τ o r s
+  was-ordinary {o = o} {s = s} (Proxy _) e x4 = elim x4 [ ]
   was-ordinary (Ordinary r) e (ordinaries l) = (r, here e, l)
 
   was-active : {o : ℕ} {q : ProxyObject} (x : Object) → lookup σ o ≡ some x → q.revoked ≡ false → Lasts σ τ o x (Proxy q) → WasActive σ o q
+  was-active {o = o} {q = q} (Ordinary _) e h x5 = elim x5 [ ]
   was-active (Proxy p) e h (proxies l k) = record { before = p; active = record { found = e; unrevoked = k h }; target = l }
 
   -- where objects last, and name objects that are live

@@ -89,8 +89,11 @@ define_own_property-fits (suc n) c o k d shut = same-dispatch c.store o
     (define_own_property-fits n c p.target k d (at_target (record { found = e; unrevoked = u }) shut))
     (same-bind (ask_boolean-by same-asking c.strings) λ answer _. fits-if _
     (same-pure _ (le_refl _))
-    (same-bind (fits-itself ((methods-roomy n c).get_own_property p.target k tt)) λ target_desc _.
-    same-bind (fits-itself ((methods-roomy n c).is_extensible p.target tt)) λ extensible _. elim target_desc [
-      | Absent ↦ fits-throw_if _ _ (fits-throw_if _ _ (same-pure _ (le_refl _)))
-      | Present t ↦ fits-throw_if _ _ (fits-throw_if _ _ (fits-throw_if _ _ (same-pure _ (le_refl _))))
-    ])))
+    (same-bind (fits-itself ((methods-roomy n c).get_own_property p.target k tt)) (elim [
+      | Absent ↦ λ _.
+          same-bind (fits-itself ((methods-roomy n c).is_extensible p.target tt)) λ extensible _.
+          fits-throw_if _ _ (fits-throw_if _ _ (same-pure _ (le_refl _)))
+      | Present t ↦ λ _.
+          same-bind (fits-itself ((methods-roomy n c).is_extensible p.target tt)) λ extensible _.
+          fits-throw_if _ _ (fits-throw_if _ _ (fits-throw_if _ _ (same-pure _ (le_refl _))))
+    ]))))

@@ -482,18 +482,18 @@ module _ {c : Context} {allowance : ℕ} {Obj : ℕ → Type 0} {Val : Value →
       unfolding proxy_get_own_property
       get_own_property-proxy k =
           trap R.asks-descriptor (own_of p.target k m)
-          (λ trap_result_obj _.
-          R.binds (own_of p.target k m) λ target_desc.
-          elim trap_result_obj [
-            | none ↦ elim target_desc [
-              | Absent ↦ R.gives _ tt
-              | Present target ↦
-                  R.binds (throws-if _ _ tt) λ _.
-                  R.binds (h.is_extensible p.target m) λ extensible_target.
-                  R.binds (throws-if _ _ tt) λ _.
-                  R.gives _ tt
-            ]
-            | some object ↦
+          (elim [
+            | none ↦ λ _.
+                R.binds (own_of p.target k m) (elim [
+                  | Absent ↦ R.gives _ tt
+                  | Present target ↦
+                      R.binds (throws-if _ _ tt) λ _.
+                      R.binds (h.is_extensible p.target m) λ extensible_target.
+                      R.binds (throws-if _ _ tt) λ _.
+                      R.gives _ tt
+                ])
+            | some object ↦ λ _.
+                R.binds (own_of p.target k m) λ target_desc.
                 R.binds (h.is_extensible p.target m) λ extensible_target.
                 R.binds (throws-if _ _ tt) λ _.
                 R.binds (throws-if _ _ tt) λ _.
@@ -510,19 +510,19 @@ module _ {c : Context} {allowance : ℕ} {Obj : ℕ → Type 0} {Val : Value →
           trap-write R.asks-boolean (h.define_own_property p.target k d m md)
           (λ boolean_trap_result _.
           writes-if _ (R.idle _)
-          (R.writes-binds (own_of p.target k m) λ target_desc.
-          R.writes-binds (h.is_extensible p.target m) λ extensible_target.
-          elim target_desc [
+          (R.writes-binds (own_of p.target k m) (elim [
             | Absent ↦
+                R.writes-binds (h.is_extensible p.target m) λ extensible_target.
                 R.writes-binds (throws-if _ _ tt) λ _.
                 R.writes-binds (throws-if _ _ tt) λ _.
                 R.idle _
             | Present target ↦
+                R.writes-binds (h.is_extensible p.target m) λ extensible_target.
                 R.writes-binds (throws-if _ _ tt) λ _.
                 R.writes-binds (throws-if _ _ tt) λ _.
                 R.writes-binds (throws-if _ _ tt) λ _.
                 R.idle _
-          ]))
+          ])))
 
       pub has_property-proxy : (k : PropertyKey) → Trapped (not (has_trap p 6)) Any Any (ask_boolean c.strings) (proxy_has_property c call p k) (proxy_has_property c' call' p k)
       unfolding proxy_has_property
