@@ -97,12 +97,14 @@ left-unjoined others σ τ (done r s) (done l t) e =
     rw (ap (λ (x : Result × Store). x.0) p, q)
 
 not-spent : (σ : Store) (x : Out Result) (t : State) → Accepted (ending_of x) → joined σ x ≡ failed (Refused 8) t → ⊥
+not-spent σ (failed (Refused _) s) t a e = elim a [ ]
 not-spent σ (failed (TypeError n) s) t a e = false≢true cc
 not-spent σ (failed (Thrown v) s) t a e = false≢true cc
 not-spent σ (done r s) t a e = false≢true cc
 
 -- where a run ended, the answers left are unread
 unread-left : (x : Out Result) → Accepted (ending_of x) → unread x ≡ left_in x
+unread-left (failed (Refused _) s) a = elim a [ ]
 unread-left (failed (TypeError n) s) a = refl
 unread-left (failed (Thrown v) s) a = refl
 unread-left (done r s) a = refl

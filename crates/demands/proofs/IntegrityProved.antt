@@ -378,7 +378,7 @@ module _ (c : Context) (o : ℕ) (level : Level) (a : List Answer) (n : ℕ) whe
     turn-run : (l : Level) (m : ℕ) → (turn calls o l k).run σ (state a (cost l + m)) ≡ (Out.done tt (state a m), with_property σ o k (applied (descriptor_for l q) q))
     unfolding turn freeze_property sequence.◌>>=◌ sequence.next sequence.reads
     turn-run sealed m = rw (let z : 3 + m ≡ suc (suc (suc m)) = omega arith in z) (or-throw-run sealed_descriptor (sealed-becomes q) m)
-    turn-run frozen m = rw (let z : 4 + m ≡ suc (suc (suc (suc m))) = omega arith in z) (ap (λ (x : Out OwnProperty). sequence.next (λ d. elim d [ Absent ↦ sequence.pure tt | Present p ↦ define_property_or_throw calls o k (frozen_descriptor p) ]) x σ) (own-run (over c σ) o r found a (suc n) (suc (suc (suc m))) k _ there)
+    turn-run frozen m = rw (let z : 4 + m ≡ suc (suc (suc (suc m))) = omega arith in z) (ap (λ (x : Out OwnProperty). sequence.next (λ d. elim d [ Absent ↦ sequence.pure (tt {0}) | Present p ↦ define_property_or_throw calls o k (frozen_descriptor p) ]) x σ) (own-run (over c σ) o r found a (suc n) (suc (suc (suc m))) k _ there)
         ∙ or-throw-run (frozen_descriptor q) (frozen-becomes q) m)
 
   -- each key of the list has a property

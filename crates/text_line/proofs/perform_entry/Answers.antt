@@ -2,12 +2,6 @@
 use native.Mathlib.Omega.{arith}
 use Rattle.text_line.proofs.LineLaws.{as_call, zeros-entered, others-stepped, entry-held, entry_done}
 use borrow.Author.Rules.{rules}
-use Rattle.text_line.proofs.perform_entry.Reads as reads
-use Rattle.text_line.proofs.perform_entry.Lts as lts
-use Rattle.step.proofs.enter_string.Reads as enter-string-reads
-use Rattle.step_records.proofs.step_refusals.are_zero_from.Reads as are-zero-from-reads
-use Rattle.text_line.proofs.perform_step.Reads as perform-step-reads
-use Rattle.text_rows.proofs.put_row.Reads as put-row-reads
 use Rattle.text_line.proofs.perform_entry.Goals as goal
 
 -- src/lib.rt:80:9

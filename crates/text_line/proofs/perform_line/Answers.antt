@@ -3,14 +3,6 @@ use native.Mathlib.Omega.{arith}
 use mathlib.Core.Path.{refl}
 use Rattle.text_line.proofs.LineLaws.{as_call, cell-short, no_cells, no_record, entry-call, step_call}
 use borrow.Author.Rules.{rules}
-use Rattle.text_line.proofs.perform_line.Reads as reads
-use Rattle.text_line.proofs.perform_line.Lts as lts
-use Rattle.text_cells.proofs.cells.cell_in.Reads as cell-in-reads
-use Rattle.text_cells.proofs.cells.cells_of.Reads as cells-of-reads
-use Rattle.text_cells.proofs.parts.put_record.Reads as put-record-reads
-use Rattle.text_line.proofs.entry_line.Reads as entry-line-reads
-use Rattle.text_line.proofs.refuse.Reads as refuse-reads
-use Rattle.text_line.proofs.step_line.Reads as step-line-reads
 use Rattle.text_line.proofs.perform_line.Goals as goal
 
 -- src/lib.rt:144:12

@@ -3,10 +3,6 @@ use native.Mathlib.Omega.{arith}
 use Rattle.text_form.specs.Lines.{key_room}
 use Rattle.text_line.proofs.LineLaws.{key-room, step-held, step-done}
 use borrow.Author.Rules.{rules}
-use Rattle.text_line.proofs.perform_step.Reads as reads
-use Rattle.text_line.proofs.perform_step.Lts as lts
-use Rattle.step.proofs.step.Reads as step-reads
-use Rattle.text_rows.proofs.put_row.Reads as put-row-reads
 use Rattle.text_line.proofs.perform_step.Goals as goal
 
 -- src/lib.rt:44:5

@@ -5,11 +5,6 @@ use lib.ListN.{length}
 use Rattle.text_form.specs.Lines.{entry_of}
 use Rattle.text_line.proofs.LineLaws.{as_call, odd-text, half_length, even-halved, front_length, front-units, written-half}
 use borrow.Author.Rules.{rules}
-use Rattle.text_line.proofs.perform_units.Reads as reads
-use Rattle.text_line.proofs.perform_units.Lts as lts
-use Rattle.text_cells.proofs.hexadecimal.put_units.Reads as put-units-reads
-use Rattle.text_line.proofs.perform_entry.Reads as perform-entry-reads
-use Rattle.text_line.proofs.refuse.Reads as refuse-reads
 use Rattle.text_line.proofs.perform_units.Goals as goal
 
 -- src/lib.rt:99:9

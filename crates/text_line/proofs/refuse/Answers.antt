@@ -2,10 +2,6 @@
 use native.Mathlib.Omega.{arith}
 use Rattle.text_line.proofs.LineLaws.{refused-held, refused-done}
 use borrow.Author.Rules.{rules}
-use Rattle.text_line.proofs.refuse.Reads as reads
-use Rattle.text_line.proofs.refuse.Lts as lts
-use Rattle.reporting.proofs.refused.Reads as refused-reads
-use Rattle.text_rows.proofs.put_row.Reads as put-row-reads
 use Rattle.text_line.proofs.refuse.Goals as goal
 
 -- src/lib.rt:27:5

@@ -5,12 +5,6 @@ use lib.Seq.{length-take-le}
 use Rattle.text_form.specs.Lines.{step_with}
 use Rattle.text_line.proofs.LineLaws.{as_call, bytes-within, bytes-decoded, none-decoded, dash-sheet, some-sheet}
 use borrow.Author.Rules.{rules}
-use Rattle.text_line.proofs.step_line.Reads as reads
-use Rattle.text_line.proofs.step_line.Lts as lts
-use Rattle.text_cells.proofs.hexadecimal.is_dash.Reads as is-dash-reads
-use Rattle.text_cells.proofs.hexadecimal.put_some.Reads as put-some-reads
-use Rattle.text_line.proofs.perform_step.Reads as perform-step-reads
-use Rattle.text_line.proofs.refuse.Reads as refuse-reads
 use Rattle.text_line.proofs.step_line.Goals as goal
 
 -- src/lib.rt:61:9
@@ -19,16 +13,16 @@ returns-then-is_dash c = as_call (ap (step_with _) (dash-sheet _ (sym c.is_dash.
 
 -- src/lib.rt:66:66
 pub slice_bounds-sheet-end : goal.slice_bounds-sheet-end
-slice_bounds-sheet-end c = omega (arith, bytes-within _ c.in-Bytes.is c.put_some_lem.ensures.1)
+slice_bounds-sheet-end c = omega (arith, bytes-within _ c.in-Bytes.is c.put_some.ensures.1)
 
 -- src/lib.rt:66:66
 pub slice_bounds-perform_step-end-in-Bytes : goal.slice_bounds-perform_step-end-in-Bytes
-slice_bounds-perform_step-end-in-Bytes c = sym (length-take-le _ _ (omega (arith, bytes-within _ c.in-Bytes.is c.put_some_lem.ensures.1)))
+slice_bounds-perform_step-end-in-Bytes c = sym (length-take-le _ _ (omega (arith, bytes-within _ c.in-Bytes.is c.put_some.ensures.1)))
 
 -- src/lib.rt:48:1
 pub returns-in-Broken : goal.returns-in-Broken
-returns-in-Broken c = as_call (ap (step_with _) (some-sheet _ (sym c.is_dash.ensures ∙ c.if-is_dash.false) (none-decoded _ _ c.in-Broken.is c.put_some_lem.ensures.0))) c.refuse.ensures
+returns-in-Broken c = as_call (ap (step_with _) (some-sheet _ (sym c.is_dash.ensures ∙ c.if-is_dash.false) (none-decoded _ _ c.in-Broken.is c.put_some.ensures.0))) c.refuse.ensures
 
 -- src/lib.rt:48:1
 pub returns-in-Bytes : goal.returns-in-Bytes
-returns-in-Bytes c = as_call (ap (step_with _) (some-sheet _ (sym c.is_dash.ensures ∙ c.if-is_dash.false) (bytes-decoded _ _ c.in-Bytes.is c.put_some_lem.ensures.0))) c.perform_step-in-Bytes.ensures
+returns-in-Bytes c = as_call (ap (step_with _) (some-sheet _ (sym c.is_dash.ensures ∙ c.if-is_dash.false) (bytes-decoded _ _ c.in-Bytes.is c.put_some.ensures.0))) c.perform_step-in-Bytes.ensures

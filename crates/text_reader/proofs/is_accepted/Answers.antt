@@ -3,10 +3,6 @@ use mathlib.Core.Path.{sym, ◌∙◌}
 use borrow.Author.Tests.{eq-eqb, ne_eqb}
 use Rattle.text_reader.specs.Memory.{is_reader}
 use borrow.Author.Rules.{rules}
-use Rattle.text_reader.proofs.is_accepted.Reads as reads
-use Rattle.text_reader.proofs.is_accepted.Lts as lts
-use Rattle.reporting.proofs.is_memory.Reads as is-memory-reads
-use Rattle.text_reader.proofs.is_state.Reads as is-state-reads
 use Rattle.text_reader.proofs.is_accepted.Goals as goal
 
 -- src/lib.rt:87:17

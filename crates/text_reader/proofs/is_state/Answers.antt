@@ -5,9 +5,6 @@ use borrow.Author.Tests.{ne_eqb}
 use Rattle.text_reader.specs.Memory.{is_state}
 use Rattle.text_reader.proofs.StateLaws.{is_state_lem}
 use borrow.Author.Rules.{rules}
-use Rattle.text_reader.proofs.is_state.Reads as reads
-use Rattle.text_reader.proofs.is_state.Lts as lts
-use Rattle.text_reader.proofs.are_columns.Reads as are-columns-reads
 use Rattle.text_reader.proofs.is_state.Goals as goal
 
 -- src/lib.rt:75:13

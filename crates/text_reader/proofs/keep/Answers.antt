@@ -2,9 +2,6 @@
 use native.Mathlib.Omega.{arith}
 use Rattle.text_reader.proofs.StateLaws.{added-fits, added-long, added-past}
 use borrow.Author.Rules.{rules}
-use Rattle.text_reader.proofs.keep.Reads as reads
-use Rattle.text_reader.proofs.keep.Lts as lts
-use Rattle.text_reader.proofs.copy.Reads as copy-reads
 use Rattle.text_reader.proofs.keep.Goals as goal
 
 -- src/lib.rt:130:13

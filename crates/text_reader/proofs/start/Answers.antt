@@ -4,11 +4,6 @@ use mathlib.Core.Bool.{false≢true}
 use borrow.Author.Tests.{eq-eqb, ne_eqb}
 use Rattle.text_reader.proofs.StateLaws.{begun, right-lengths}
 use borrow.Author.Rules.{rules}
-use Rattle.text_reader.proofs.start.Reads as reads
-use Rattle.text_reader.proofs.start.Lts as lts
-use Rattle.store_write.proofs.make_empty.Reads as write-make-empty-reads
-use Rattle.text.proofs.make_empty.Reads as make-empty-reads
-use Rattle.text_reader.proofs.clear.Reads as clear_reads
 use Rattle.text_reader.proofs.start.Goals as goal
 
 -- src/lib.rt:49:17

@@ -5,4 +5,4 @@ use Rattle.byte_records.proofs.value_record.value_at.Goals as goal
 
 pub returns : goal.returns
 unfolding value_at
-returns c = rw (c.value_of_lem.ensures, c.word_at.ensures, c.wide.ensures.0, add-one)
+returns c = rw (c.value_of.ensures, c.word_at.ensures, c.wide.ensures.0, add-one)

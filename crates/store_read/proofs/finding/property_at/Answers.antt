@@ -22,8 +22,8 @@ bounds-words-at-then-flags-eq1-2 c = let f = sized _ c.requires.0 in omega arith
 
 pub returns-then-flags-eq1 : goal.returns-then-flags-eq1
 unfolding property_in property_of
-returns-then-flags-eq1 c = rw (odd-flag _ c.if-flags-eq1.true, c.value_of_lem.ensures, c.value_of-b.ensures)
+returns-then-flags-eq1 c = rw (odd-flag _ c.if-flags-eq1.true, c.value_of-a.ensures, c.value_of-b.ensures)
 
 pub returns : goal.returns
 unfolding property_in property_of
-returns c = rw (even-flag _ c.if-flags-eq1.false, c.value_of_lem.ensures)
+returns c = rw (even-flag _ c.if-flags-eq1.false, c.value_of-a.ensures)
