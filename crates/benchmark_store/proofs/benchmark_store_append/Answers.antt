@@ -13,10 +13,8 @@ pub bounds-words-1 : goal.bounds-words-1
 bounds-words-1 c = let s = sized _ c.add_property.ensures.kept in omega arith
 
 pub returns-then-is_addable : goal.returns-then-is_addable
-returns-then-is_addable c = let h = let t = sym c.is_addable.ensures ∙ c.if-is_addable.true in
-    let w = c.add_property.ensures.words in
-    (add-count _ _ _ _ _ _ _ t c.key_from_word.ensures c.property_of.ensures w, add_words _ _ _ _ _ _ _ t c.key_from_word.ensures c.property_of.ensures w) in record { value = h.0; words_after = h.1 }
+returns-then-is_addable c = let t = sym c.is_addable.ensures ∙ c.if-is_addable.true in let w = c.add_property.ensures.words in record { value = add-count _ _ _ _ _ _ _ t c.key_from_word.ensures c.property_of.ensures w; words_after = add_words _ _ _ _ _ _ _ t c.key_from_word.ensures c.property_of.ensures w }
 
 pub returns-else-is_addable : goal.returns-else-is_addable
 unfolding added add_answer
-returns-else-is_addable c = let h = let t = sym c.is_addable.ensures ∙ c.if-is_addable.false in (rw t, rw t) in record { value = h.0; words_after = h.1 }
+returns-else-is_addable c = let t = sym c.is_addable.ensures ∙ c.if-is_addable.false in record { value = rw t; words_after = rw t }

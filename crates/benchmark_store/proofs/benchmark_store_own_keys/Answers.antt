@@ -8,10 +8,8 @@ pub list_own_keys-requires : goal.list_own_keys-requires
 list_own_keys-requires c = let a = listable _ _ _ (sym c.is_listable.ensures ∙ c.if-is_listable.true) in (a.store, a.table, a.room)
 
 pub returns-then-is_listable : goal.returns-then-is_listable
-returns-then-is_listable c = let h = let t = sym c.is_listable.ensures ∙ c.if-is_listable.true in
-    let h = c.list_own_keys.ensures in
-    (list_count _ _ _ _ _ _ h t, list-words _ _ _ _ _ _ h t) in record { value = h.0; out_after = h.1 }
+returns-then-is_listable c = let t = sym c.is_listable.ensures ∙ c.if-is_listable.true in let h = c.list_own_keys.ensures in record { value = list_count _ _ _ _ _ _ h t; out_after = list-words _ _ _ _ _ _ h t }
 
 pub returns-else-is_listable : goal.returns-else-is_listable
 unfolding listed list_answer
-returns-else-is_listable c = let h = let t = sym c.is_listable.ensures ∙ c.if-is_listable.false in (rw t, rw t) in record { value = h.0; out_after = h.1 }
+returns-else-is_listable c = let t = sym c.is_listable.ensures ∙ c.if-is_listable.false in record { value = rw t; out_after = rw t }

@@ -13,10 +13,8 @@ pub bounds-words-1 : goal.bounds-words-1
 bounds-words-1 c = let s = sized _ c.remove_property.ensures.kept in omega arith
 
 pub returns-then-is_removable : goal.returns-then-is_removable
-returns-then-is_removable c = let h = let t = sym c.is_removable.ensures ∙ c.if-is_removable.true in
-    let w = c.remove_property.ensures.words in
-    (remove-count _ _ _ _ _ t c.key_from_word.ensures w, remove-words _ _ _ _ _ t c.key_from_word.ensures w) in record { value = h.0; words_after = h.1 }
+returns-then-is_removable c = let t = sym c.is_removable.ensures ∙ c.if-is_removable.true in let w = c.remove_property.ensures.words in record { value = remove-count _ _ _ _ _ t c.key_from_word.ensures w; words_after = remove-words _ _ _ _ _ t c.key_from_word.ensures w }
 
 pub returns-else-is_removable : goal.returns-else-is_removable
 unfolding removed remove_answer
-returns-else-is_removable c = let h = let t = sym c.is_removable.ensures ∙ c.if-is_removable.false in (rw t, rw t) in record { value = h.0; words_after = h.1 }
+returns-else-is_removable c = let t = sym c.is_removable.ensures ∙ c.if-is_removable.false in record { value = rw t; words_after = rw t }

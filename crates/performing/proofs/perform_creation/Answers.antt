@@ -27,12 +27,8 @@ returns-in-3 c = record { result_value = rw (c.revoke.ensures.0, sym c.wide-code
 
 pub returns-in-17 : goal.returns-in-17
 unfolding step_of operation_of
-returns-in-17 c = let h = let a = c.args in
-    (rw (c.release.ensures.0, sym c.wide-code.ensures.0 ∙ c.in-17.is, sym c.wide-o.ensures.0) (object-released a.sheet.now a.s maximum_calls (context a.words.now a.strings.now a.allowance) _), c.release.ensures.1) in record { result_value = h.0; taken = h.1 }
+returns-in-17 c = let a = c.args in record { result_value = rw (c.release.ensures.0, sym c.wide-code.ensures.0 ∙ c.in-17.is, sym c.wide-o.ensures.0) (object-released a.sheet.now a.s maximum_calls (context a.words.now a.strings.now a.allowance) _); taken = c.release.ensures.1 }
 
 pub returns-in_default : goal.returns-in_default
 unfolding step_of operation_of
-returns-in_default c = let h = let a = c.args in
-    let code = c.wide-code.ensures.0 in
-    let last = last-creation _ (rw code c.requires.1.1) (rw code c.requires.1.0) c.in_default.in_default-own.rest.0.0.0.1 c.in_default.in_default-own.rest.0.0.1 c.in_default.in_default-own.rest.0.1 c.in_default.in_default-own.rest.1 in
-    (rw (c.make_object-in_default.ensures.0, sym c.wide-code.ensures.0 ∙ last, sym c.value_at-v.ensures) (function-made a.sheet.now a.s maximum_calls (context a.words.now a.strings.now a.allowance) _), c.make_object-in_default.ensures.1) in record { result_value = h.0; taken = h.1 }
+returns-in_default c = let a = c.args in let code = c.wide-code.ensures.0 in let last = last-creation _ (rw code c.requires.1.1) (rw code c.requires.1.0) c.in_default.in_default-own.rest.0.0.0.1 c.in_default.in_default-own.rest.0.0.1 c.in_default.in_default-own.rest.0.1 c.in_default.in_default-own.rest.1 in record { result_value = rw (c.make_object-in_default.ensures.0, sym c.wide-code.ensures.0 ∙ last, sym c.value_at-v.ensures) (function-made a.sheet.now a.s maximum_calls (context a.words.now a.strings.now a.allowance) _); taken = c.make_object-in_default.ensures.1 }

@@ -21,7 +21,7 @@ slice_bounds-perform_units-end-in-Bytes-2 c = sym (length-take-le _ _ (omega (ar
 
 -- src/lib.rt:126:13
 pub perform_units-requires-in-Bytes : goal.perform_units-requires-in-Bytes
-perform_units-requires-in-Bytes c = (search rules, (search rules, (search rules, omega (arith, take_short c.in-Bytes.n c.put_some.new.1.0))))
+perform_units-requires-in-Bytes c = (search rules, (search rules, (search rules, omega (arith, take_short c.in-Bytes.n c.put_some.new.bytes))))
 
 -- src/lib.rt:107:1
 pub returns-in-Broken : goal.returns-in-Broken

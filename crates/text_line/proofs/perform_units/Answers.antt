@@ -21,8 +21,8 @@ put_units-requires c = even-halved c.args.text.now c.args.units.now c.requires.1
 
 -- src/lib.rt:103:42
 pub slice_bounds-perform_entry-end-2 : goal.slice_bounds-perform_entry-end-2
-slice_bounds-perform_entry-end-2 c = front_length (length c.args.text.now / 2) c.put_units.new.1.0 _ (written-half _ _ c.put_units.ensures)
+slice_bounds-perform_entry-end-2 c = front_length (length c.args.text.now / 2) c.put_units.new.units _ (written-half _ _ c.put_units.ensures)
 
 -- src/lib.rt:86:1
 pub returns : goal.returns
-returns c = as_call (ap (entry_of _) (front-units (length c.args.text.now / 2) c.put_units.new.1.0 _ (written-half _ _ c.put_units.ensures) c.put_units.ensures)) c.perform_entry.ensures
+returns c = as_call (ap (entry_of _) (front-units (length c.args.text.now / 2) c.put_units.new.units _ (written-half _ _ c.put_units.ensures) c.put_units.ensures)) c.perform_entry.ensures

@@ -26,10 +26,10 @@ returns-then-state-lt2 c = let p = reader-parts c.args.words.now c.args.strings.
       refused = λ e. absurd (false≢true (sym e));
       takes = refl;
       does = λ e. record {
-        reads = rw c.close.ensures (ends-input c.args.words.now c.args.strings.now c.args.state.now c.args.line.now _ _ c.read_last-written.new.1.1.0 _ k t.reads);
+        reads = rw c.close.ensures (ends-input c.args.words.now c.args.strings.now c.args.state.now c.args.line.now _ _ c.read_last-written.new.state _ k t.reads);
         rest = t.rest;
         fits = t.fits;
-        still = λ h. reader-joined _ _ _ _ t.memory (closed-still c.read_last-written.new.1.1.0 _ c.close.ensures k t.columns h) p.1.1.0;
+        still = λ h. reader-joined _ _ _ _ t.memory (closed-still c.read_last-written.new.state _ c.close.ensures k t.columns h) p.1.1.0;
       };
       within = t.fits;
     }

@@ -15,10 +15,10 @@ pub bounds-state-0 : goal.bounds-state-0
 bounds-state-0 c = omega (arith, (c.state-1.given ∙ length-set c.args.state.now 2 0 ∙ (state-parts c.args.state.now c.requires.1.0).0))
 
 pub shape_of-state-then-put_names : goal.shape_of-state-then-put_names
-shape_of-state-then-put_names c = length-set c.put_names.new.0 0 1 ∙ c.state-1.given ∙ length-set c.args.state.now 2 0
+shape_of-state-then-put_names c = length-set c.put_names.new.state 0 1 ∙ c.state-1.given ∙ length-set c.args.state.now 2 0
 
 pub returns-then-put_names : goal.returns-then-put_names
-returns-then-put_names c = first_ended c.args.words.now c.args.strings.now c.args.line.now c.args.rows.now c.requires.0 c.requires.1.1.1.1 c.args.state.now c.put_names.new.0 _ c.args.size c.requires.1.0 (c.state-1.given ∙ length-set c.args.state.now 2 0 ∙ (state-parts c.args.state.now c.requires.1.0).0) c.requires.1.1.0 (rw c.if-put_names.true at c.put_names.ensures) c.put_heading.ensures
+returns-then-put_names c = first_ended c.args.words.now c.args.strings.now c.args.line.now c.args.rows.now c.requires.0 c.requires.1.1.1.1 c.args.state.now c.put_names.new.state _ c.args.size c.requires.1.0 (c.state-1.given ∙ length-set c.args.state.now 2 0 ∙ (state-parts c.args.state.now c.requires.1.0).0) c.requires.1.1.0 (rw c.if-put_names.true at c.put_names.ensures) c.put_heading.ensures
 
 pub bounds-state-0-2 : goal.bounds-state-0-2
 bounds-state-0-2 c = omega (arith, (c.state-1.given ∙ length-set c.args.state.now 2 0 ∙ (state-parts c.args.state.now c.requires.1.0).0))
@@ -27,7 +27,7 @@ pub put_row-requires : goal.put_row-requires
 put_row-requires c = (omega (arith, c.rows-1.given, c.requires.1.1.1.1), rw c.refused.ensures tt)
 
 pub shape_of-state : goal.shape_of-state
-shape_of-state c = length-set c.put_names.new.0 0 2 ∙ c.state-1.given ∙ length-set c.args.state.now 2 0
+shape_of-state c = length-set c.put_names.new.state 0 2 ∙ c.state-1.given ∙ length-set c.args.state.now 2 0
 
 pub returns : goal.returns
-returns c = broken-written c.args.words.now c.args.strings.now c.args.line.now c.args.rows.now c.requires.0 c.requires.1.1.1.1 c.args.state.now c.put_names.new.0 _ _ _ c.args.size _ _ c.requires.1.0 (c.state-1.given ∙ length-set c.args.state.now 2 0 ∙ (state-parts c.args.state.now c.requires.1.0).0) c.requires.1.1.0 (rw c.if-put_names.false at c.put_names.ensures) c.put_heading.ensures c.refused.ensures c.put_row.ensures.0 c.put_row.ensures.1
+returns c = broken-written c.args.words.now c.args.strings.now c.args.line.now c.args.rows.now c.requires.0 c.requires.1.1.1.1 c.args.state.now c.put_names.new.state _ _ _ c.args.size _ _ c.requires.1.0 (c.state-1.given ∙ length-set c.args.state.now 2 0 ∙ (state-parts c.args.state.now c.requires.1.0).0) c.requires.1.1.0 (rw c.if-put_names.false at c.put_names.ensures) c.put_heading.ensures c.refused.ensures c.put_row.ensures.0 c.put_row.ensures.1

@@ -41,9 +41,9 @@ returns c = let e : c.next_separator-end.result ≡ until line_feed c.args.piece
       accepted = refl;
       takes = taken-line c.args.piece.now _ e k;
       does = record {
-        reads = reads-line c.args.words.now c.args.strings.now c.args.state.now c.args.line.now c.args.piece.now c.next_separator-end.result c.keep-size.result c.requires.1.1.1.0 c.requires.1.0 c.requires.1.1.0 e c.keep-size.new.0 k c.keep-size.ensures c.end_line-written.ensures.reads;
+        reads = reads-line c.args.words.now c.args.strings.now c.args.state.now c.args.line.now c.args.piece.now c.next_separator-end.result c.keep-size.result c.requires.1.1.1.0 c.requires.1.0 c.requires.1.1.0 e c.keep-size.new.line k c.keep-size.ensures c.end_line-written.ensures.reads;
         rest = c.end_line-written.ensures.rest;
         fits = c.end_line-written.ensures.fits;
-        still = λ h. reader-joined _ _ _ _ c.end_line-written.ensures.memory (state-joined c.end_line-written.new.1.1.0 (c.state-1.given ∙ (state-parts c.args.state.now c.requires.1.0).0) c.end_line-written.ensures.columns h) (c.line-1.given ∙ c.requires.1.1.1.0);
+        still = λ h. reader-joined _ _ _ _ c.end_line-written.ensures.memory (state-joined c.end_line-written.new.state (c.state-1.given ∙ (state-parts c.args.state.now c.requires.1.0).0) c.end_line-written.ensures.columns h) (c.line-1.given ∙ c.requires.1.1.1.0);
       };
     }

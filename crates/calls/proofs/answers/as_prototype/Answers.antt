@@ -3,6 +3,7 @@ use Rattle.internal_methods.specs.Monad.{pure, fails}
 use Rattle.internal_methods.specs.Answers.{as_prototype}
 use Rattle.calls.proofs.AnswerLaws.{no-prototype}
 use borrow.Author.Rules.{rules}
+use borrow.Enum.Refused.{opened}
 use Rattle.calls.proofs.answers.as_prototype.Goals as goal
 
 pub returns-in-Null : goal.returns-in-Null
@@ -19,4 +20,4 @@ returns-in-Function c = λ bytes. rw c.in-Function.is
 
 pub returns-in_default : goal.returns-in_default
 unfolding pure fails as_prototype
-returns-in_default c = λ bytes. no-prototype (state_of bytes c.args.s) c.args.v c.in_default.in_default-own.keys4
+returns-in_default c = λ bytes. no-prototype (state_of bytes c.args.s) c.args.v (opened c.in_default.in_default-own.keys4)

@@ -10,4 +10,4 @@ pub returns-in-Missing : goal.returns-in-Missing
 returns-in-Missing c = record { value = rw (objectless (lookup (store_of c.args.words.now) c.args.o) (sym c.object_at.ensures ∙ c.in-Missing.is)); taken = (record { store = c.requires; bounds = tt }, refl) }
 
 pub returns-in-Made : goal.returns-in-Made
-returns-in-Made c = let h = let found = objectful (lookup (store_of c.args.words.now) c.args.o) _ (sym c.object_at.ensures ∙ c.in-Made.is) in (rw (found, c.revocation.ensures), (rw c.revocation.ensures (revocation-fits c.args.words.now c.args.o _ c.requires found), refl)) in record { value = h.0; taken = h.1 }
+returns-in-Made c = let found = objectful (lookup (store_of c.args.words.now) c.args.o) _ (sym c.object_at.ensures ∙ c.in-Made.is) in record { value = rw (found, c.revocation.ensures); taken = (rw c.revocation.ensures (revocation-fits c.args.words.now c.args.o _ c.requires found), refl) }

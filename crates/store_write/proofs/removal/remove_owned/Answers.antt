@@ -54,7 +54,7 @@ loop-i-preserved c = let g = c.loop-i.invariant in
         (
           omega arith,
           (
-            ap length m ∙ length_moved c.loop-i.words c.loop-i.i c.loop-i.auto ∙ g.1.1.1.0,
+            ap length m ∙ length_moved c.loop-i.words c.loop-i.i c.loop-i.kept ∙ g.1.1.1.0,
             rw m (g.1.1.1.1 ∙ turn-miss _ _ _ _ _ c.loop-i-test.true (owner-miss _ _ _ c.if-words-i.false)),
           ),
         ),

@@ -15,11 +15,7 @@ pub bounds-words-5 : goal.bounds-words-5
 bounds-words-5 c = simp length-set (omega arith)
 
 pub returns-then-words-eq1670 : goal.returns-then-words-eq1670
-returns-then-words-eq1670 c = let h = let w = c.args.words.now in
-    let h = c.if-words-eq1670.true in
-    let e = eq-eqb _ _ h in
-    (sym e, (rw e, λ t. (store-empty w h, is-store _ (sized-empty w h)))) in record { value = h.0; words_after = h.1.0; words_after_2 = h.1.1 }
+returns-then-words-eq1670 c = let w = c.args.words.now in let h = c.if-words-eq1670.true in let e = eq-eqb _ _ h in record { value = sym e; words_after = rw e; words_after_2 = λ t. (store-empty w h, is-store _ (sized-empty w h)) }
 
 pub returns-else-words-eq1670 : goal.returns-else-words-eq1670
-returns-else-words-eq1670 c = let h = let e = ne_eqb _ _ c.if-words-eq1670.false in
-    (sym e, (rw e, λ t. absurd (false≢true t))) in record { value = h.0; words_after = h.1.0; words_after_2 = h.1.1 }
+returns-else-words-eq1670 c = let e = ne_eqb _ _ c.if-words-eq1670.false in record { value = sym e; words_after = rw e; words_after_2 = λ t. absurd (false≢true t) }

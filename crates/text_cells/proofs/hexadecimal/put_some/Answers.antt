@@ -32,7 +32,7 @@ pub returns-then-put_bytes : goal.returns-then-put_bytes
 unfolding some_bytes_in
 returns-then-put_bytes c = (
   rw (ne_eqb _ 0 c.if-cell-eq0.false)
-      (front c.put_bytes.new.1.0 _ (length c.args.cell.now / 2) (c.bytes-1.given.0 ∙ length-take-le (length c.args.cell.now / 2) c.args.bytes.now (omega arith))
+      (front c.put_bytes.new.bytes _ (length c.args.cell.now / 2) (c.bytes-1.given.0 ∙ length-take-le (length c.args.cell.now / 2) c.args.bytes.now (omega arith))
       (rw c.if-put_bytes.true at c.put_bytes.ensures)),
   omega arith,
 )

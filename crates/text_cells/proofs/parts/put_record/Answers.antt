@@ -54,7 +54,7 @@ loop-name-preserved c = (
     (
       size_fits _ _ c.loop-name-test.true c.loop-name.invariant.1.1.0,
       c.loop-name.invariant.1.1.1
-          ∙ next-part _ _ _ c.loop-name-test.true _ (c.put_part-arg-1.given.2 ∙ omega arith) _ c.cell_in.ensures c.loop-name.bytes c.put_part.new.1.0 _ _ (omega arith) c.bytes-1.given.0 (rw c.if-put_part.true at c.put_part.ensures),
+          ∙ next-part _ _ _ c.loop-name-test.true _ (c.put_part-arg-1.given.2 ∙ omega arith) _ c.cell_in.ensures c.loop-name.bytes c.put_part.new.bytes _ _ (omega arith) c.bytes-1.given.0 (rw c.if-put_part.true at c.put_part.ensures),
     ),
   ),
 )

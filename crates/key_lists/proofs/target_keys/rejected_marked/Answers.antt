@@ -1,0 +1,6 @@
+use Rattle.std.proofs.Common.{◌∙◌}
+use Rattle.key_lists.proofs.TurnLaws.{sorted-records}
+use Rattle.key_lists.proofs.target_keys.rejected_marked.Goals as goal
+
+pub returns : goal.returns
+returns c = rw (c.target_keys-target.ensures, sorted-records _ _) at c.rejected_message.ensures
