@@ -9,22 +9,7 @@ use Rattle.calls.proofs.EnterLaws.{define-own-property-goes-on, is_below}
 use Rattle.definition.specs.Define.{defined_by_trap}
 use Rattle.definition.proofs.DefineLaws.{ordinary-known}
 use Prim.Native.Nat.{ℕ}
-use Rattle.definition.proofs.+define_own_property_proxy_exotic_define_own_property.{
-use Rattle.definition.proofs.+define_own_property_proxy_exotic_define_own_property.Tie.{
-use Rattle.definition.proofs.+define_own_property_proxy_exotic_define_own_property.Goals as goal
 
-pub define_own_property-enter-requires : goal.define_own_property-enter-requires
-define_own_property-enter-requires t c = (c.requires.1.readable.store, omega arith)
-
-pub define_own_property-ordinary_define_own_property-requires : goal.define_own_property-ordinary_define_own_property-requires
-define_own_property-ordinary_define_own_property-requires t c = (c.requires.1, ordinary-known _ _ (is_below _ _ _ _ _ _ (sym c.enter.ensures ∙ c.in-Ordinary.is)).1)
-
-pub define_own_property-proxy_exotic_define_own_property-requires : goal.define_own_property-proxy_exotic_define_own_property-requires
-define_own_property-proxy_exotic_define_own_property-requires t c = (omega (arith, c.requires.0, (is_below _ _ _ _ _ _ (sym c.enter.ensures ∙ c.in-Proxy.is)).0), c.requires.1)
-
-pub define_own_property-returns-in-Failed : goal.define_own_property-returns-in-Failed
-unfolding ◌>>=◌ defined_by_trap fails if◌then◌else◌ next proxy_define_own_property pure throw_if
-define_own_property-returns-in-Failed t c = record { result_value = rw (define-own-property-goes-on _ _ _ _ _ _ _, sym c.enter.ensures ∙ c.in-Failed.is); fitting = tt }
 
 pub define_own_property-returns-in-Ordinary : goal.define_own_property-returns-in-Ordinary
 unfolding ◌>>=◌ defined_by_trap fails if◌then◌else◌ next proxy_define_own_property pure throw_if
@@ -35,10 +20,10 @@ unfolding ◌>>=◌ defined_by_trap fails if◌then◌else◌ next proxy_define_
 define_own_property-returns-in-Proxy t c = record { result_value = rw (define-own-property-goes-on _ _ _ _ _ _ _, sym c.enter.ensures ∙ c.in-Proxy.is) c.proxy_exotic_define_own_property.ensures.0; fitting = c.proxy_exotic_define_own_property.ensures.1 }
 
 pub proxy_exotic_define_own_property-define_own_property_trap-requires : goal.proxy_exotic_define_own_property-define_own_property_trap-requires
-proxy_exotic_define_own_property-define_own_property_trap-requires t c = c.requires.1
+proxy_exotic_define_own_property-define_own_property_trap-requires t c = c.requires
 
 pub proxy_exotic_define_own_property-define_own_property-requires : goal.proxy_exotic_define_own_property-define_own_property-requires
-proxy_exotic_define_own_property-define_own_property-requires t c = (omega (arith, c.requires.0), c.requires.1)
+proxy_exotic_define_own_property-define_own_property-requires t c = (omega arith, c.requires)
 
 pub proxy_exotic_define_own_property-returns-then-has_trap : goal.proxy_exotic_define_own_property-returns-then-has_trap
 unfolding ◌>>=◌ defined_by_trap fails if◌then◌else◌ next proxy_define_own_property pure throw_if

@@ -11,13 +11,13 @@ use Prim.Native.Nat.{ℕ}
 use Rattle.deletion.proofs.+delete_proxy_exotic_delete.Goals as goal
 
 pub delete-enter-requires : goal.delete-enter-requires
-delete-enter-requires t c = (c.requires.1.0.store, omega arith)
+delete-enter-requires t c = (c.requires.0.store, omega arith)
 
 pub delete-ordinary_delete-requires : goal.delete-ordinary_delete-requires
-delete-ordinary_delete-requires t c = (c.requires.1.0, found-joins _ _ _ (is_below _ _ _ _ _ _ (sym c.enter.ensures ∙ c.in-Ordinary.is)).1 _ c.requires.1.0.store c.requires.1.1)
+delete-ordinary_delete-requires t c = (c.requires.0, found-joins _ _ _ (is_below _ _ _ _ _ _ (sym c.enter.ensures ∙ c.in-Ordinary.is)).1 _ c.requires.0.store c.requires.1)
 
 pub delete-proxy_exotic_delete-requires : goal.delete-proxy_exotic_delete-requires
-delete-proxy_exotic_delete-requires t c = (omega (arith, c.requires.0, (is_below _ _ _ _ _ _ (sym c.enter.ensures ∙ c.in-Proxy.is)).0), c.requires.1)
+delete-proxy_exotic_delete-requires t c = (omega (arith, (is_below _ _ _ _ _ _ (sym c.enter.ensures ∙ c.in-Proxy.is)).0), c.requires)
 
 pub delete-returns-in-Failed : goal.delete-returns-in-Failed
 unfolding ◌>>=◌ fails if◌then◌else◌ next proxy_delete pure throw_if
@@ -32,10 +32,10 @@ unfolding ◌>>=◌ fails if◌then◌else◌ next proxy_delete pure throw_if
 delete-returns-in-Proxy t c = record { result_value = rw (delete-goes-on _ _ _ _ _ _, sym c.enter.ensures ∙ c.in-Proxy.is) c.proxy_exotic_delete.ensures.0; fitting = c.proxy_exotic_delete.ensures.1 }
 
 pub proxy_exotic_delete-delete_trap-requires : goal.proxy_exotic_delete-delete_trap-requires
-proxy_exotic_delete-delete_trap-requires t c = (c.requires.1.0, sym c.has_trap.ensures ∙ c.if-has_trap.true)
+proxy_exotic_delete-delete_trap-requires t c = (c.requires.0, sym c.has_trap.ensures ∙ c.if-has_trap.true)
 
 pub proxy_exotic_delete-delete-requires : goal.proxy_exotic_delete-delete-requires
-proxy_exotic_delete-delete-requires t c = (omega (arith, c.requires.0), c.requires.1)
+proxy_exotic_delete-delete-requires t c = (omega arith, c.requires)
 
 pub proxy_exotic_delete-returns-then-has_trap : goal.proxy_exotic_delete-returns-then-has_trap
 unfolding ◌>>=◌ fails if◌then◌else◌ next proxy_delete pure throw_if

@@ -9,34 +9,34 @@ use Prim.Native.Nat.{ℕ}
 use Rattle.extensibility.proofs.+is_extensible_proxy_exotic_is_extensible.Goals as goal
 
 pub is_extensible-enter-requires : goal.is_extensible-enter-requires
-is_extensible-enter-requires t c = (c.requires.1.store, omega arith)
+is_extensible-enter-requires t c = (c.requires.store, omega arith)
 
 pub is_extensible-returns-in-Failed : goal.is_extensible-returns-in-Failed
 unfolding ◌>>=◌ fails if◌then◌else◌ next proxy_is_extensible pure throw_if
 is_extensible-returns-in-Failed t c = rw (is-extensible-goes-on _ _ _ _ _, sym c.enter.ensures ∙ c.in-Failed.is)
 
 pub is_extensible-ordinary_at-object-requires : goal.is_extensible-ordinary_at-object-requires
-is_extensible-ordinary_at-object-requires t c = c.requires.1.store
+is_extensible-ordinary_at-object-requires t c = c.requires.store
 
 pub is_extensible-returns-in-Ordinary : goal.is_extensible-returns-in-Ordinary
 unfolding ◌>>=◌ fails if◌then◌else◌ next proxy_is_extensible pure throw_if
 is_extensible-returns-in-Ordinary t c = rw (is-extensible-goes-on _ _ _ _ _, sym c.enter.ensures ∙ c.in-Ordinary.is, c.ordinary_is_extensible.ensures, c.ordinary_at-object.ensures)
 
 pub is_extensible-proxy_exotic_is_extensible-requires : goal.is_extensible-proxy_exotic_is_extensible-requires
-is_extensible-proxy_exotic_is_extensible-requires t c = (omega (arith, c.requires.0, (is_below _ _ _ _ _ _ (sym c.enter.ensures ∙ c.in-Proxy.is)).0), c.requires.1)
+is_extensible-proxy_exotic_is_extensible-requires t c = (omega (arith, (is_below _ _ _ _ _ _ (sym c.enter.ensures ∙ c.in-Proxy.is)).0), c.requires)
 
 pub is_extensible-returns-in-Proxy : goal.is_extensible-returns-in-Proxy
 unfolding ◌>>=◌ fails if◌then◌else◌ next proxy_is_extensible pure throw_if
 is_extensible-returns-in-Proxy t c = rw (is-extensible-goes-on _ _ _ _ _, sym c.enter.ensures ∙ c.in-Proxy.is) c.proxy_exotic_is_extensible.ensures
 
 pub proxy_exotic_is_extensible-next_boolean-requires : goal.proxy_exotic_is_extensible-next_boolean-requires
-proxy_exotic_is_extensible-next_boolean-requires t c = c.requires.1.table
+proxy_exotic_is_extensible-next_boolean-requires t c = c.requires.table
 
 pub proxy_exotic_is_extensible-is_extensible-requires : goal.proxy_exotic_is_extensible-is_extensible-requires
-proxy_exotic_is_extensible-is_extensible-requires t c = (omega (arith, c.requires.0), c.requires.1)
+proxy_exotic_is_extensible-is_extensible-requires t c = (omega arith, c.requires)
 
 pub proxy_exotic_is_extensible-is_extensible-requires-else-has_trap : goal.proxy_exotic_is_extensible-is_extensible-requires-else-has_trap
-proxy_exotic_is_extensible-is_extensible-requires-else-has_trap t c = (omega (arith, c.requires.0), c.requires.1)
+proxy_exotic_is_extensible-is_extensible-requires-else-has_trap t c = (omega arith, c.requires)
 
 pub proxy_exotic_is_extensible-returns-in-Failed : goal.proxy_exotic_is_extensible-returns-in-Failed
 unfolding ◌>>=◌ fails if◌then◌else◌ next proxy_is_extensible pure throw_if

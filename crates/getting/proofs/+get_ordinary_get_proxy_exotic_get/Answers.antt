@@ -13,13 +13,13 @@ use Prim.Native.Nat.{ℕ}
 use Rattle.getting.proofs.+get_ordinary_get_proxy_exotic_get.Goals as goal
 
 pub get-enter-requires : goal.get-enter-requires
-get-enter-requires t c = (c.requires.1.store, omega arith)
+get-enter-requires t c = (c.requires.store, omega arith)
 
 pub get-ordinary_get-requires : goal.get-ordinary_get-requires
-get-ordinary_get-requires t c = (omega (arith, c.requires.0, (is_below _ _ _ _ _ _ (sym c.enter.ensures ∙ c.in-Ordinary.is)).0), c.requires.1)
+get-ordinary_get-requires t c = (omega (arith, (is_below _ _ _ _ _ _ (sym c.enter.ensures ∙ c.in-Ordinary.is)).0), c.requires)
 
 pub get-proxy_exotic_get-requires : goal.get-proxy_exotic_get-requires
-get-proxy_exotic_get-requires t c = (omega (arith, c.requires.0, (is_below _ _ _ _ _ _ (sym c.enter.ensures ∙ c.in-Proxy.is)).0), c.requires.1)
+get-proxy_exotic_get-requires t c = (omega (arith, (is_below _ _ _ _ _ _ (sym c.enter.ensures ∙ c.in-Proxy.is)).0), c.requires)
 
 pub get-returns-in-Failed : goal.get-returns-in-Failed
 unfolding ◌>>=◌ fails if◌then◌else◌ next ordinary_get proxy_get pure throw_if
@@ -34,13 +34,13 @@ unfolding ◌>>=◌ fails if◌then◌else◌ next ordinary_get proxy_get pure t
 get-returns-in-Proxy t c = rw (get-goes-on _ _ _ _ _ _ _, sym c.enter.ensures ∙ c.in-Proxy.is) c.proxy_exotic_get.ensures
 
 pub ordinary_get-get_own_property-requires : goal.ordinary_get-get_own_property-requires
-ordinary_get-get_own_property-requires t c = c.requires.1
+ordinary_get-get_own_property-requires t c = c.requires
 
 pub ordinary_get-get_prototype_of-requires : goal.ordinary_get-get_prototype_of-requires
-ordinary_get-get_prototype_of-requires t c = c.requires.1
+ordinary_get-get_prototype_of-requires t c = c.requires
 
 pub ordinary_get-get-requires : goal.ordinary_get-get-requires
-ordinary_get-get-requires t c = (omega (arith, c.requires.0), c.requires.1)
+ordinary_get-get-requires t c = (omega arith, c.requires)
 
 pub ordinary_get-returns-in-Failed : goal.ordinary_get-returns-in-Failed
 unfolding ◌>>=◌ fails if◌then◌else◌ next ordinary_get proxy_get pure throw_if
@@ -71,10 +71,10 @@ unfolding ◌>>=◌ fails if◌then◌else◌ next ordinary_get proxy_get pure t
 ordinary_get-returns-else-is_undefined t c = rw (sym c.get_own_property.ensures, c.in-Done.is, c.in-Present.is, c.in-Accessor.is, sym c.is_undefined.ensures ∙ c.if-is_undefined.false) c.next_value.ensures
 
 pub proxy_exotic_get-get_trap-requires : goal.proxy_exotic_get-get_trap-requires
-proxy_exotic_get-get_trap-requires t c = record { readable = c.requires.1; p_value = sym c.has_trap.ensures ∙ c.if-has_trap.true }
+proxy_exotic_get-get_trap-requires t c = record { readable = c.requires; p_value = sym c.has_trap.ensures ∙ c.if-has_trap.true }
 
 pub proxy_exotic_get-get-requires : goal.proxy_exotic_get-get-requires
-proxy_exotic_get-get-requires t c = (omega (arith, c.requires.0), c.requires.1)
+proxy_exotic_get-get-requires t c = (omega arith, c.requires)
 
 pub proxy_exotic_get-returns-then-has_trap : goal.proxy_exotic_get-returns-then-has_trap
 unfolding ◌>>=◌ fails if◌then◌else◌ next ordinary_get proxy_get pure throw_if

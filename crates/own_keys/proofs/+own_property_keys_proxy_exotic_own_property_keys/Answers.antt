@@ -9,10 +9,10 @@ use Prim.Native.Nat.{ℕ}
 use Rattle.own_keys.proofs.+own_property_keys_proxy_exotic_own_property_keys.Goals as goal
 
 pub own_property_keys-enter-requires : goal.own_property_keys-enter-requires
-own_property_keys-enter-requires t c = (c.requires.1.0.store, omega arith)
+own_property_keys-enter-requires t c = (c.requires.0.store, omega arith)
 
 pub own_property_keys-proxy_exotic_own_property_keys-requires : goal.own_property_keys-proxy_exotic_own_property_keys-requires
-own_property_keys-proxy_exotic_own_property_keys-requires t c = (omega (arith, c.requires.0, (is_below _ _ _ _ _ _ (sym c.enter.ensures ∙ c.in-Proxy.is)).0), (c.requires.1.0, (begun-fit c.args.sheet.now _ _ _ _ (is_below _ _ _ _ _ _ (sym c.enter.ensures ∙ c.in-Proxy.is)).1 c.requires.1.1.0, c.requires.1.1.1)))
+own_property_keys-proxy_exotic_own_property_keys-requires t c = (omega (arith, (is_below _ _ _ _ _ _ (sym c.enter.ensures ∙ c.in-Proxy.is)).0), (c.requires.0, (begun-fit c.args.sheet.now _ _ _ _ (is_below _ _ _ _ _ _ (sym c.enter.ensures ∙ c.in-Proxy.is)).1 c.requires.1.0, c.requires.1.1)))
 
 pub own_property_keys-returns-in-Failed : goal.own_property_keys-returns-in-Failed
 unfolding ◌>>=◌ fails next pure
@@ -27,16 +27,16 @@ unfolding ◌>>=◌ fails next pure
 own_property_keys-returns-in-Proxy t c = record { result_value = rw (own-property-keys-goes-on _ _ _ _ _, sym c.enter.ensures ∙ c.in-Proxy.is) c.proxy_exotic_own_property_keys.ensures.0; loadable_keys = c.proxy_exotic_own_property_keys.ensures.1 }
 
 pub proxy_exotic_own_property_keys-own_keys_trap-requires : goal.proxy_exotic_own_property_keys-own_keys_trap-requires
-proxy_exotic_own_property_keys-own_keys_trap-requires t c = (c.requires.1.0, (c.requires.1.1.0, c.requires.1.1.1.1.1))
+proxy_exotic_own_property_keys-own_keys_trap-requires t c = (c.requires.0, (c.requires.1.0, c.requires.1.1.1.1))
 
 pub proxy_exotic_own_property_keys-own_property_keys-requires : goal.proxy_exotic_own_property_keys-own_property_keys-requires
-proxy_exotic_own_property_keys-own_property_keys-requires t c = (omega (arith, c.requires.0), (c.requires.1.0, (stays_fit _ _ _ _ _ _ (rw c.in-Done.is at c.own_keys_trap.ensures.0) c.requires.1.1.0, (c.requires.1.1.1.0, (c.requires.1.1.1.1.0, omega (arith, c.list-1.given, c.requires.1.1.1.1.1))))))
+proxy_exotic_own_property_keys-own_property_keys-requires t c = (omega arith, (c.requires.0, (stays_fit _ _ _ _ _ _ (rw c.in-Done.is at c.own_keys_trap.ensures.0) c.requires.1.0, (c.requires.1.1.0, (c.requires.1.1.1.0, omega (arith, c.list-1.given, c.requires.1.1.1.1))))))
 
 pub proxy_exotic_own_property_keys-checked_keys-requires : goal.proxy_exotic_own_property_keys-checked_keys-requires
-proxy_exotic_own_property_keys-checked_keys-requires t c = (c.requires.1.0, (rw c.in-Done.is at c.own_keys_trap.ensures.1, (rw c.in-Done-own_property_keys.is at c.own_property_keys.ensures.1, (omega (arith, c.keys-1.given, c.requires.1.1.1.0), (omega (arith, c.marks-1.given, c.requires.1.1.1.1.0), omega (arith, c.list-in-Done-1.given, c.list-1.given, c.requires.1.1.1.1.1))))))
+proxy_exotic_own_property_keys-checked_keys-requires t c = (c.requires.0, (rw c.in-Done.is at c.own_keys_trap.ensures.1, (rw c.in-Done-own_property_keys.is at c.own_property_keys.ensures.1, (omega (arith, c.keys-1.given, c.requires.1.1.0), (omega (arith, c.marks-1.given, c.requires.1.1.1.0), omega (arith, c.list-in-Done-1.given, c.list-1.given, c.requires.1.1.1.1))))))
 
 pub proxy_exotic_own_property_keys-own_property_keys-requires-else-has_trap : goal.proxy_exotic_own_property_keys-own_property_keys-requires-else-has_trap
-proxy_exotic_own_property_keys-own_property_keys-requires-else-has_trap t c = (omega (arith, c.requires.0), (c.requires.1.0, (c.requires.1.1.0, c.requires.1.1.1)))
+proxy_exotic_own_property_keys-own_property_keys-requires-else-has_trap t c = (omega arith, (c.requires.0, (c.requires.1.0, c.requires.1.1)))
 
 pub proxy_exotic_own_property_keys-returns-in-Failed : goal.proxy_exotic_own_property_keys-returns-in-Failed
 unfolding ◌>>=◌ fails next pure

@@ -10,38 +10,38 @@ use Prim.Native.Nat.{ℕ}
 use Rattle.prototypes.proofs.+get_prototype_of_proxy_exotic_get_prototype_of.Goals as goal
 
 pub get_prototype_of-enter-requires : goal.get_prototype_of-enter-requires
-get_prototype_of-enter-requires t c = (c.requires.1.store, omega arith)
+get_prototype_of-enter-requires t c = (c.requires.store, omega arith)
 
 pub get_prototype_of-returns-in-Failed : goal.get_prototype_of-returns-in-Failed
 unfolding ◌>>=◌ fails if◌then◌else◌ next proxy_get_prototype_of pure throw_if
 get_prototype_of-returns-in-Failed t c = rw (get-prototype-of-goes-on _ _ _ _ _, sym c.enter.ensures ∙ c.in-Failed.is)
 
 pub get_prototype_of-ordinary_at-object-requires : goal.get_prototype_of-ordinary_at-object-requires
-get_prototype_of-ordinary_at-object-requires t c = c.requires.1.store
+get_prototype_of-ordinary_at-object-requires t c = c.requires.store
 
 pub get_prototype_of-returns-in-Ordinary : goal.get_prototype_of-returns-in-Ordinary
 unfolding ◌>>=◌ fails if◌then◌else◌ next proxy_get_prototype_of pure throw_if
 get_prototype_of-returns-in-Ordinary t c = rw (get-prototype-of-goes-on _ _ _ _ _, sym c.enter.ensures ∙ c.in-Ordinary.is, c.ordinary_get_prototype_of.ensures, c.ordinary_at-object.ensures)
 
 pub get_prototype_of-proxy_exotic_get_prototype_of-requires : goal.get_prototype_of-proxy_exotic_get_prototype_of-requires
-get_prototype_of-proxy_exotic_get_prototype_of-requires t c = (omega (arith, c.requires.0, (is_below _ _ _ _ _ _ (sym c.enter.ensures ∙ c.in-Proxy.is)).0), c.requires.1)
+get_prototype_of-proxy_exotic_get_prototype_of-requires t c = (omega (arith, (is_below _ _ _ _ _ _ (sym c.enter.ensures ∙ c.in-Proxy.is)).0), c.requires)
 
 pub get_prototype_of-returns-in-Proxy : goal.get_prototype_of-returns-in-Proxy
 unfolding ◌>>=◌ fails if◌then◌else◌ next proxy_get_prototype_of pure throw_if
 get_prototype_of-returns-in-Proxy t c = rw (get-prototype-of-goes-on _ _ _ _ _, sym c.enter.ensures ∙ c.in-Proxy.is) c.proxy_exotic_get_prototype_of.ensures
 
 pub proxy_exotic_get_prototype_of-is_extensible-requires : goal.proxy_exotic_get_prototype_of-is_extensible-requires
-proxy_exotic_get_prototype_of-is_extensible-requires t c = c.requires.1
+proxy_exotic_get_prototype_of-is_extensible-requires t c = c.requires
 
 pub proxy_exotic_get_prototype_of-returns-then-extensible : goal.proxy_exotic_get_prototype_of-returns-then-extensible
 unfolding ◌>>=◌ fails if◌then◌else◌ next proxy_get_prototype_of pure throw_if
 proxy_exotic_get_prototype_of-returns-then-extensible t c = rw (sym c.has_trap.ensures ∙ c.if-has_trap.true, sym c.next_prototype.ensures, c.in-Done.is, sym c.is_extensible.ensures, c.in-Done-is_extensible.is, c.if-extensible.true)
 
 pub proxy_exotic_get_prototype_of-get_prototype_of-requires : goal.proxy_exotic_get_prototype_of-get_prototype_of-requires
-proxy_exotic_get_prototype_of-get_prototype_of-requires t c = (omega (arith, c.requires.0), c.requires.1)
+proxy_exotic_get_prototype_of-get_prototype_of-requires t c = (omega arith, c.requires)
 
 pub proxy_exotic_get_prototype_of-get_prototype_of-requires-else-has_trap : goal.proxy_exotic_get_prototype_of-get_prototype_of-requires-else-has_trap
-proxy_exotic_get_prototype_of-get_prototype_of-requires-else-has_trap t c = (omega (arith, c.requires.0), c.requires.1)
+proxy_exotic_get_prototype_of-get_prototype_of-requires-else-has_trap t c = (omega arith, c.requires)
 
 pub proxy_exotic_get_prototype_of-returns-in-Failed : goal.proxy_exotic_get_prototype_of-returns-in-Failed
 unfolding ◌>>=◌ fails if◌then◌else◌ next proxy_get_prototype_of pure throw_if

@@ -15,19 +15,19 @@ use Prim.Native.Nat.{ℕ}
 use Rattle.setting.proofs.+ordinary_set_proxy_exotic_set_set.Goals as goal
 
 pub ordinary_set-get_own_property-requires : goal.ordinary_set-get_own_property-requires
-ordinary_set-get_own_property-requires t c = c.requires.1.readable
+ordinary_set-get_own_property-requires t c = c.requires.readable
 
 pub ordinary_set-get_prototype_of-requires : goal.ordinary_set-get_prototype_of-requires
-ordinary_set-get_prototype_of-requires t c = c.requires.1.readable
+ordinary_set-get_prototype_of-requires t c = c.requires.readable
 
 pub ordinary_set-set-requires : goal.ordinary_set-set-requires
-ordinary_set-set-requires t c = (omega (arith, c.requires.0), c.requires.1)
+ordinary_set-set-requires t c = (omega arith, c.requires)
 
 pub ordinary_set-set_data-requires : goal.ordinary_set-set_data-requires
-ordinary_set-set_data-requires t c = c.requires.1
+ordinary_set-set_data-requires t c = c.requires
 
 pub ordinary_set-set_data-requires-in-Data : goal.ordinary_set-set_data-requires-in-Data
-ordinary_set-set_data-requires-in-Data t c = c.requires.1
+ordinary_set-set_data-requires-in-Data t c = c.requires
 
 pub ordinary_set-returns-in-Failed : goal.ordinary_set-returns-in-Failed
 unfolding ◌>>=◌ fails if◌then◌else◌ next ordinary_set proxy_set pure set_accessor set_by_trap throw_if
@@ -51,13 +51,13 @@ ordinary_set-returns-in-Data t c = record { result_value = rw (sym c.get_own_pro
 
 pub ordinary_set-returns-in-Accessor : goal.ordinary_set-returns-in-Accessor
 unfolding ◌>>=◌ fails if◌then◌else◌ next ordinary_set proxy_set pure set_accessor set_by_trap throw_if
-ordinary_set-returns-in-Accessor t c = record { result_value = rw (sym c.get_own_property.ensures, c.in-Done.is, c.in-Present.is, c.in-Accessor.is) (c.set_accessor.ensures.0 _); fitting = c.set_accessor.ensures.1 _ c.requires.1.readable.store }
+ordinary_set-returns-in-Accessor t c = record { result_value = rw (sym c.get_own_property.ensures, c.in-Done.is, c.in-Present.is, c.in-Accessor.is) (c.set_accessor.ensures.0 _); fitting = c.set_accessor.ensures.1 _ c.requires.readable.store }
 
 pub proxy_exotic_set-set_trap-requires : goal.proxy_exotic_set-set_trap-requires
-proxy_exotic_set-set_trap-requires t c = c.requires.1
+proxy_exotic_set-set_trap-requires t c = c.requires
 
 pub proxy_exotic_set-set-requires : goal.proxy_exotic_set-set-requires
-proxy_exotic_set-set-requires t c = (omega (arith, c.requires.0), c.requires.1)
+proxy_exotic_set-set-requires t c = (omega arith, c.requires)
 
 pub proxy_exotic_set-returns-then-has_trap : goal.proxy_exotic_set-returns-then-has_trap
 unfolding ◌>>=◌ fails if◌then◌else◌ next ordinary_set proxy_set pure set_accessor set_by_trap throw_if
@@ -68,13 +68,13 @@ unfolding ◌>>=◌ fails if◌then◌else◌ next ordinary_set proxy_set pure s
 proxy_exotic_set-returns-else-has_trap t c = record { result_value = rw (sym c.has_trap.ensures ∙ c.if-has_trap.false) c.set.ensures.0; fitting = c.set.ensures.1 }
 
 pub set-enter-requires : goal.set-enter-requires
-set-enter-requires t c = (c.requires.1.readable.store, omega arith)
+set-enter-requires t c = (c.requires.readable.store, omega arith)
 
 pub set-ordinary_set-requires : goal.set-ordinary_set-requires
-set-ordinary_set-requires t c = (omega (arith, c.requires.0, (is_below _ _ _ _ _ _ (sym c.enter.ensures ∙ c.in-Ordinary.is)).0), c.requires.1)
+set-ordinary_set-requires t c = (omega (arith, (is_below _ _ _ _ _ _ (sym c.enter.ensures ∙ c.in-Ordinary.is)).0), c.requires)
 
 pub set-proxy_exotic_set-requires : goal.set-proxy_exotic_set-requires
-set-proxy_exotic_set-requires t c = (omega (arith, c.requires.0, (is_below _ _ _ _ _ _ (sym c.enter.ensures ∙ c.in-Proxy.is)).0), c.requires.1)
+set-proxy_exotic_set-requires t c = (omega (arith, (is_below _ _ _ _ _ _ (sym c.enter.ensures ∙ c.in-Proxy.is)).0), c.requires)
 
 pub set-returns-in-Failed : goal.set-returns-in-Failed
 unfolding ◌>>=◌ fails if◌then◌else◌ next ordinary_set proxy_set pure set_accessor set_by_trap throw_if

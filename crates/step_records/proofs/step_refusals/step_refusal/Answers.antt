@@ -3,6 +3,7 @@ use mathlib.Core.Logic.{⊎_elim}
 use Rattle.step_records.proofs.StepRefusalLaws.{code-low, code-middle, code-high, no_length, no_code, object-code, object-range-code, revoking-code, creation-code, proxy-code, level-code, prototype-code, key-code, definition-code, get-code, set_code}
 use borrow.Author.Rules.{rules}
 use Rattle.step_records.proofs.step_refusals.step_refusal.Goals as goal
+use Rattle.step_records.proofs.step_refusals.step_refusal.Goals.{in-4-1, in_default+else-code-lt1+then-code-lt8}
 
 pub returns-then-bytes-ne58 : goal.returns-then-bytes-ne58
 returns-then-bytes-ne58 c = no_length _ _ _ c.if-bytes-ne58.true
@@ -44,4 +45,8 @@ pub returns-in_default-3 : goal.returns-in_default-3
 returns-in_default-3 c = no_code _ _ _ c.if-bytes-ne58.false _ c.wide-code.ensures.0 (code-high _ c.in_default.if-code-lt20-own.false)
 
 pub returns-in-4 : goal.returns-in-4
-returns-in-4 c = c.object_step.ensures ∙ rw c.wide-object.ensures.0 (⊎_elim (λ w. object-code _ _ _ c.if-bytes-ne58.false _ c.wide-code.ensures.0 w.keys5) (λ w. object-range-code _ _ _ c.if-bytes-ne58.false _ c.wide-code.ensures.0 w.0.rest.0.0.0.0.0.0.0.0.1 w.0.rest.0.0.0.0.0.0.0.1 w.0.rest.0.0.0.0.0.0.1 w.0.rest.0.0.0.0.0.1 w.0.rest.0.0.0.0.1 w.1.left w.2.taken) c.in-4-1.branch)
+returns-in-4 c =
+    c.object_step.ensures ∙ rw c.wide-object.ensures.0 (elim c.in-4-1.branch [
+      | in-4-1 w ↦ object-code _ _ _ c.if-bytes-ne58.false _ c.wide-code.ensures.0 w.in-4-1.keys5
+      | in_default+else-code-lt1+then-code-lt8 w ↦ object-range-code _ _ _ c.if-bytes-ne58.false _ c.wide-code.ensures.0 w.in_default-1.rest.0.0.0.0.0.0.0.0.1 w.in_default-1.rest.0.0.0.0.0.0.0.1 w.in_default-1.rest.0.0.0.0.0.0.1 w.in_default-1.rest.0.0.0.0.0.1 w.in_default-1.rest.0.0.0.0.1 w.if-code-lt1-1.false w.if-code-lt8-1.true
+    ])

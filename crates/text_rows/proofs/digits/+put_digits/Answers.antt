@@ -37,7 +37,7 @@ pub returns-then-n-lt100 : goal.returns-then-n-lt100
 returns-then-n-lt100 t c = rw (two-decimal _ c.if-n-lt10.false c.if-n-lt100.true, add-one c.args.at) (refl, refl)
 
 pub put_digits-next-requires : goal.put_digits-next-requires
-put_digits-next-requires t c = (omega (arith, c.requires.0), omega (arith, length-hundred _ c.if-n-lt100.false))
+put_digits-next-requires t c = (omega arith, omega (arith, length-hundred _ c.if-n-lt100.false))
 
 pub bounds-out-next : goal.bounds-out-next
 bounds-out-next t c = omega (arith, length-hundred _ c.if-n-lt100.false)
