@@ -10,7 +10,7 @@ ghost use Rattle.own_keys.specs.Lists.{are_lists_fit};
 ghost use Rattle.own_keys.specs.Loading.{listed_keys, Loadable};
 ghost use Rattle.steps.specs.Operation.{own_property_keys};
 ghost use Rattle.steps.specs.Perform.{perform, maximum_calls};
-ghost use Rattle.steps.specs.Perform as result;
+ghost use Rattle.steps.specs.Perform as performed;
 ghost use Rattle.steps.specs.Step.{ended};
 ghost use Rattle.reporting.specs.Reports.{start};
 ghost use Rattle.reporting.specs.Memory.{shown, shown_by};
@@ -34,7 +34,7 @@ fn write_out(
     output: &mut [u8],
 ) -> Report
     requires { Readable words.now strings.now × ((is_sheet sheet.now ≡ true) × (Loadable sheet.now found × (256 ≤ length keys.old))) }
-    ensures* { λ r. ⌜ shown r words.now strings.now output.new ≡ shown_by (ended (world_of words.now strings.now) (sheet_of sheet.now) output.old (done (result.keys (listed_keys sheet.now (strings_of strings.now) (store_of words.now) found)) (state_of sheet.now s), store_of words.now)) ⌝ }
+    ensures { shown result words.now strings.now output.new ≡ shown_by (ended (world_of words.now strings.now) (sheet_of sheet.now) output.old (done (performed.keys (listed_keys sheet.now (strings_of strings.now) (store_of words.now) found)) (state_of sheet.now s), store_of words.now)) }
 {
     if 0 < s.left {
         return reporting::refused(13);
@@ -50,7 +50,7 @@ fn write_out(
 // Code 14
 pub fn list(words: &[u64], strings: &[u16], sheet: &[u8], o: u64, output: &mut [u8]) -> Report
     requires { Readable words.now strings.now × ((is_sheet sheet.now ≡ true) × (are_lists_fit (sheet_of sheet.now) ≡ true)) }
-    ensures* { λ r. ⌜ shown r words.now strings.now output.new ≡ shown_by (ended (world_of words.now strings.now) (sheet_of sheet.now) output.old ((perform maximum_calls (context words.now strings.now maximum_properties) (own_property_keys o)).run (state_of sheet.now (start sheet.now)))) ⌝ }
+    ensures { shown result words.now strings.now output.new ≡ shown_by (ended (world_of words.now strings.now) (sheet_of sheet.now) output.old ((perform maximum_calls (context words.now strings.now maximum_properties) (own_property_keys o)).run (state_of sheet.now (start sheet.now)))) }
 {
     let mut keys = [0u64; 256];
     let mut marks = [0u64; 256];

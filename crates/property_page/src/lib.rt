@@ -8,7 +8,7 @@ ghost use Rattle.store.specs.Store.{own};
 ghost use Rattle.store.specs.Words.{store_of, world_of};
 ghost use Rattle.store_read.specs.Answers.{key_from_word};
 ghost use Rattle.steps.specs.Page.{own_of, lines, page, writing};
-ghost use Rattle.steps.specs.Perform as result;
+ghost use Rattle.steps.specs.Perform as performed;
 ghost use Rattle.steps.specs.Step.{output_holds};
 ghost use Rattle.reporting.specs.Memory.{shown, shown_by, Paged};
 ghost use Rattle.property_page.specs.Reading.{OrdinaryIn};
@@ -26,7 +26,7 @@ mod lines;
 // would not join it with them.)
 fn read_property(words: &[u64], strings: &[u16], o: u64, key: PropertyKey) -> OwnProperty
     requires { OrdinaryIn words.now strings.now o }
-    ensures* { λ r. ⌜ r ≡ own (store_of words.now) o key ⌝ }
+    ensures { result ≡ own (store_of words.now) o key }
 {
     let sheet = [0u8; 1];
     let s = Progress {
@@ -43,7 +43,7 @@ fn read_property(words: &[u64], strings: &[u16], o: u64, key: PropertyKey) -> Ow
 // The lines of the first n keys, after the names; all other bytes stay.
 fn put_lines(words: &[u64], strings: &[u16], o: u64, keys: &[u64], n: usize, out: &mut [u8])
     requires { OrdinaryIn words.now strings.now o × ((n ≤ length keys.now) × (47 + 47 * n ≤ length out.old)) }
-    ensures* { λ _. ⌜ out.new ≡ sets out.old 47 (lines (own_of (store_of words.now) o (map key_from_word (take n keys.now)))) ⌝ }
+    ensures { out.new ≡ sets out.old 47 (lines (own_of (store_of words.now) o (map key_from_word (take n keys.now)))) }
 {
     let mut at: usize = lines::LINE_SIZE;
     let mut i: usize = 0;
@@ -65,7 +65,7 @@ fn put_lines(words: &[u64], strings: &[u16], o: u64, keys: &[u64], n: usize, out
 // Refusal 11, or the page in the output.
 fn put_page(words: &[u64], strings: &[u16], o: u64, output: &mut [u8]) -> Report
     requires { OrdinaryIn words.now strings.now o }
-    ensures* { λ r. ⌜ shown r words.now strings.now output.new ≡ shown_by (writing (world_of words.now strings.now) (page (world_of words.now strings.now) o) output.old (output_holds (result.page (page (world_of words.now strings.now) o)) output.old)) ⌝ }
+    ensures { shown result words.now strings.now output.new ≡ shown_by (writing (world_of words.now strings.now) (page (world_of words.now strings.now) o) output.old (output_holds (performed.page (page (world_of words.now strings.now) o)) output.old)) }
 {
     let mut keys = [0u64; 256];
     let n = own_key_order::list_own_keys(words, strings, o, &mut keys);
@@ -84,7 +84,7 @@ fn put_page(words: &[u64], strings: &[u16], o: u64, output: &mut [u8]) -> Report
 
 // The page of object o at the output's start. Memory that is no store and table is refused as 1, a number never made as 2, a proxy as 3.
 pub fn page(words: &[u64], strings: &[u16], o: u64, output: &mut [u8]) -> Report
-    ensures* { λ r. ⌜ Paged words.now strings.now o output.old r output.new ⌝ }
+    ensures { Paged words.now strings.now o output.old result output.new }
 {
     if reporting::is_memory(words, strings) {
         match store_read::object_at(words, o) {

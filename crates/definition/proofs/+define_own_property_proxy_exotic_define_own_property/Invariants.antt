@@ -9,8 +9,6 @@ use Rattle.calls.proofs.EnterLaws.{define-own-property-goes-on, is_below}
 use Rattle.definition.specs.Define.{defined_by_trap}
 use Rattle.definition.proofs.DefineLaws.{ordinary-known}
 use Prim.Native.Nat.{ℕ}
-
-
 use Rattle.definition.proofs.+define_own_property_proxy_exotic_define_own_property.Given as goal
 
 abbrev pub decreases-define_own_property : goal.decreases-define_own_property

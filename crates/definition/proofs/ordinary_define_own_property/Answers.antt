@@ -20,4 +20,4 @@ returns-in-Failed-is_extensible c = record { result_value = rw (sym c.get_own_pr
 
 pub returns-in-Done-is_extensible : goal.returns-in-Done-is_extensible
 unfolding pure fails next ◌>>=◌ ordinary_define_own_property
-returns-in-Done-is_extensible c = record { result_value = rw (sym c.get_own_property.ensures, c.in-Done.is, sym c.is_extensible.ensures, c.in-Done-is_extensible.is) (c.apply_validation.ensures.0 _ _ ∙ same_write _ _ _ _ _ _ _ _ (ordinary-own (context c.args.words.now c.args.strings.now c.args.allowance) c.args.sheet.now c.args.o c.args.key _ _ c.args.s c.args.depth c.requires.1 (sym c.get_own_property.ensures ∙ ap (out_own_property c.args.sheet.now) c.in-Done.is)) c.validate-v.ensures); fitting = c.apply_validation.ensures.1 }
+returns-in-Done-is_extensible c = record { result_value = rw (sym c.get_own_property.ensures, c.in-Done.is, sym c.is_extensible.ensures, c.in-Done-is_extensible.is) (c.apply_validation.ensures.by_index _ _ ∙ same_write _ _ _ _ _ _ _ _ (ordinary-own (context c.args.words.now c.args.strings.now c.args.allowance) c.args.sheet.now c.args.o c.args.key _ _ c.args.s c.args.depth c.requires.1 (sym c.get_own_property.ensures ∙ ap (out_own_property c.args.sheet.now) c.in-Done.is)) c.validate-v.ensures); fitting = c.apply_validation.ensures.fitting }

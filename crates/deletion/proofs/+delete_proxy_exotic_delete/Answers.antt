@@ -25,11 +25,11 @@ delete-returns-in-Failed t c = record { result_value = rw (delete-goes-on _ _ _ 
 
 pub delete-returns-in-Ordinary : goal.delete-returns-in-Ordinary
 unfolding ◌>>=◌ fails if◌then◌else◌ next proxy_delete pure throw_if
-delete-returns-in-Ordinary t c = record { result_value = rw (delete-goes-on _ _ _ _ _ _, sym c.enter.ensures ∙ c.in-Ordinary.is) c.ordinary_delete.ensures.0; fitting = c.ordinary_delete.ensures.1 }
+delete-returns-in-Ordinary t c = record { result_value = rw (delete-goes-on _ _ _ _ _ _, sym c.enter.ensures ∙ c.in-Ordinary.is) c.ordinary_delete.ensures.result_value; fitting = c.ordinary_delete.ensures.fitting }
 
 pub delete-returns-in-Proxy : goal.delete-returns-in-Proxy
 unfolding ◌>>=◌ fails if◌then◌else◌ next proxy_delete pure throw_if
-delete-returns-in-Proxy t c = record { result_value = rw (delete-goes-on _ _ _ _ _ _, sym c.enter.ensures ∙ c.in-Proxy.is) c.proxy_exotic_delete.ensures.0; fitting = c.proxy_exotic_delete.ensures.1 }
+delete-returns-in-Proxy t c = record { result_value = rw (delete-goes-on _ _ _ _ _ _, sym c.enter.ensures ∙ c.in-Proxy.is) c.proxy_exotic_delete.ensures.result_value; fitting = c.proxy_exotic_delete.ensures.fitting }
 
 pub proxy_exotic_delete-delete_trap-requires : goal.proxy_exotic_delete-delete_trap-requires
 proxy_exotic_delete-delete_trap-requires t c = (c.requires.0, sym c.has_trap.ensures ∙ c.if-has_trap.true)
@@ -39,8 +39,8 @@ proxy_exotic_delete-delete-requires t c = (omega arith, c.requires)
 
 pub proxy_exotic_delete-returns-then-has_trap : goal.proxy_exotic_delete-returns-then-has_trap
 unfolding ◌>>=◌ fails if◌then◌else◌ next proxy_delete pure throw_if
-proxy_exotic_delete-returns-then-has_trap t c = let h = c.delete_trap.ensures in record { result_value = h.0; fitting = h.1 }
+proxy_exotic_delete-returns-then-has_trap t c = record { result_value = c.delete_trap.ensures.result_value; fitting = c.delete_trap.ensures.fitting }
 
 pub proxy_exotic_delete-returns-else-has_trap : goal.proxy_exotic_delete-returns-else-has_trap
 unfolding ◌>>=◌ fails if◌then◌else◌ next proxy_delete pure throw_if
-proxy_exotic_delete-returns-else-has_trap t c = record { result_value = rw (sym c.has_trap.ensures ∙ c.if-has_trap.false) c.delete.ensures.0; fitting = c.delete.ensures.1 }
+proxy_exotic_delete-returns-else-has_trap t c = record { result_value = rw (sym c.has_trap.ensures ∙ c.if-has_trap.false) c.delete.ensures.result_value; fitting = c.delete.ensures.fitting }

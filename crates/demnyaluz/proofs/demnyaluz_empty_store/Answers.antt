@@ -2,4 +2,4 @@ use borrow.Author.Rules.{rules}
 use Rattle.demnyaluz.proofs.demnyaluz_empty_store.Goals as goal
 
 pub returns : goal.returns
-returns c = record { answer = c.make_empty.ensures.0; after = c.make_empty.ensures.1.0; empty = c.make_empty.ensures.1.1 }
+returns c = record { answer = c.make_empty.ensures.value; after = c.make_empty.ensures.words_after; empty = c.make_empty.ensures.words_after_2 }

@@ -10,8 +10,6 @@ use Rattle.internal_methods.specs.Proxy.{proxy_has_property}
 use Rattle.calls.proofs.EnterLaws.{has-property-goes-on, is_below}
 use Rattle.value.proofs.Objects.{is-object, is-no-object}
 use Prim.Native.Nat.{ℕ}
-
-
 use Rattle.has_property.proofs.+has_property_ordinary_has_property_proxy_exotic_has_property.Given as goal
 
 abbrev pub decreases-has_property : goal.decreases-has_property

@@ -9,7 +9,7 @@ use Rattle.setting.proofs.set_data.Goals as goal
 
 pub returns-in-Object : goal.returns-in-Object
 unfolding pure if◌then◌else◌ set_data
-returns-in-Object c = record { result_value = rw (c.if-writable.true, is-object (object_of c.args.receiver) _ (sym c.object_of.ensures ∙ c.in-Object.is)) c.set_on_receiver.ensures.0; fitting = c.set_on_receiver.ensures.1 }
+returns-in-Object c = record { result_value = rw (c.if-writable.true, is-object (object_of c.args.receiver) _ (sym c.object_of.ensures ∙ c.in-Object.is)) c.set_on_receiver.ensures.result_value; fitting = c.set_on_receiver.ensures.fitting }
 
 pub returns-in-NotObject : goal.returns-in-NotObject
 unfolding pure if◌then◌else◌ set_data

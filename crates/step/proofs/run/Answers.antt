@@ -29,7 +29,7 @@ pub set_level-requires : goal.set_level-requires
 set_level-requires c = (c.requires.0, lists-fit c.args.words.now c.args.strings.now c.args.bytes.now c.args.sheet.now c.requires.0 c.requires.1)
 
 pub returns-then-code-eq18 : goal.returns-then-code-eq18
-returns-then-code-eq18 c = record { output_after = run-set c.args.words.now c.args.strings.now c.args.bytes.now c.args.sheet.now c.args.output.now (sheet-formed (world_of c.args.words.now c.args.strings.now) c.args.bytes.now c.args.sheet.now c.requires.1) _ _ _ c.wide-then-code-eq18.ensures.0 c.is_frozen-frozen.ensures (sym c.wide-code.ensures.0 ∙ c.if-code-eq18.true) (c.set_level.ensures.0 c.args.output.now); words_after = rw (turns c.args.words.now c.args.strings.now c.args.bytes.now c.args.sheet.now c.args.output.now (sym c.wide-code.ensures.0 ∙ c.if-code-eq18.true)) c.set_level.ensures.1 }
+returns-then-code-eq18 c = record { output_after = run-set c.args.words.now c.args.strings.now c.args.bytes.now c.args.sheet.now c.args.output.now (sheet-formed (world_of c.args.words.now c.args.strings.now) c.args.bytes.now c.args.sheet.now c.requires.1) _ _ _ c.wide-then-code-eq18.ensures.0 c.is_frozen-frozen.ensures (sym c.wide-code.ensures.0 ∙ c.if-code-eq18.true) (c.set_level.ensures.by_index c.args.output.now); words_after = rw (turns c.args.words.now c.args.strings.now c.args.bytes.now c.args.sheet.now c.args.output.now (sym c.wide-code.ensures.0 ∙ c.if-code-eq18.true)) c.set_level.ensures.words_after }
 
 pub is_frozen-frozen-requires-then-code-eq19 : goal.is_frozen-frozen-requires-then-code-eq19
 is_frozen-frozen-requires-then-code-eq19 c = omega (arith, step-length (world_of c.args.words.now c.args.strings.now) c.args.bytes.now c.args.sheet.now c.requires.1)
@@ -56,7 +56,7 @@ pub perform-performed-requires : goal.perform-performed-requires
 perform-performed-requires c = (performable c.args.words.now c.args.strings.now c.args.bytes.now c.args.sheet.now c.requires.0 c.requires.1, (rw (sym c.wide-code.ensures.0) (sym c.is_reading.ensures ∙ c.if-is_reading.false), other-code (world_of c.args.words.now c.args.strings.now) c.args.bytes.now c.args.sheet.now c.requires.1 (rw (sym c.wide-code.ensures.0) c.if-code-eq14.false) (rw (sym c.wide-code.ensures.0) c.if-code-eq18.false) (rw (sym c.wide-code.ensures.0) c.if-code-eq19.false)))
 
 pub finish-requires : goal.finish-requires
-finish-requires c = (sheet-formed (world_of c.args.words.now c.args.strings.now) c.args.bytes.now c.args.sheet.now c.requires.1, (c.requires.0.store, c.perform-performed.ensures.1))
+finish-requires c = (sheet-formed (world_of c.args.words.now c.args.strings.now) c.args.bytes.now c.args.sheet.now c.requires.1, (c.requires.0.store, c.perform-performed.ensures.taken))
 
 pub returns : goal.returns
-returns c = record { output_after = run-performed c.args.words.now c.args.strings.now c.args.bytes.now c.args.sheet.now c.args.output.now (sheet-formed (world_of c.args.words.now c.args.strings.now) c.args.bytes.now c.args.sheet.now c.requires.1) _ _ c.perform-performed.result _ c.start-s.ensures c.perform-performed.ensures.0 c.perform-performed.ensures.1 c.finish.ensures.1 c.finish.ensures.0; words_after = rw c.finish.ensures.0 (finished-words c.args.words.now c.args.sheet.now c.requires.0.store _ _ c.perform-performed.result c.finish.ensures.1) }
+returns c = record { output_after = run-performed c.args.words.now c.args.strings.now c.args.bytes.now c.args.sheet.now c.args.output.now (sheet-formed (world_of c.args.words.now c.args.strings.now) c.args.bytes.now c.args.sheet.now c.requires.1) _ _ c.perform-performed.result _ c.start-s.ensures c.perform-performed.ensures.result_value c.perform-performed.ensures.taken c.finish.ensures.finished c.finish.ensures.value; words_after = rw c.finish.ensures.value (finished-words c.args.words.now c.args.sheet.now c.requires.0.store _ _ c.perform-performed.result c.finish.ensures.finished) }

@@ -16,7 +16,7 @@ pub returns-in-Failed : goal.returns-in-Failed
 returns-in-Failed c = record { shows = step-refused c.args.words.now c.args.strings.now c.args.bytes.now c.args.sheet.now c.args.output.now _ _ (sym c.is_memory.ensures ∙ c.if-is_memory.true) (is-failed (first_failing (record_tests (world_of c.args.words.now c.args.strings.now) c.args.bytes.now c.args.sheet.now)) _ _ c.record_refusal.ensures c.in-Failed.is) c.refused.ensures; writes = rw c.refused.ensures refl }
 
 pub returns-in-Passed : goal.returns-in-Passed
-returns-in-Passed c = record { shows = step-ran c.args.words.now c.args.strings.now c.args.bytes.now c.args.sheet.now c.args.output.now _ (sym c.is_memory.ensures ∙ c.if-is_memory.true) (is-passed (first_failing (record_tests (world_of c.args.words.now c.args.strings.now) c.args.bytes.now c.args.sheet.now)) _ c.record_refusal.ensures c.in-Passed.is) c.run.ensures.0; writes = c.run.ensures.1 }
+returns-in-Passed c = record { shows = step-ran c.args.words.now c.args.strings.now c.args.bytes.now c.args.sheet.now c.args.output.now _ (sym c.is_memory.ensures ∙ c.if-is_memory.true) (is-passed (first_failing (record_tests (world_of c.args.words.now c.args.strings.now) c.args.bytes.now c.args.sheet.now)) _ c.record_refusal.ensures c.in-Passed.is) c.run.ensures.output_after; writes = c.run.ensures.words_after }
 
 pub returns-else-is_memory : goal.returns-else-is_memory
 returns-else-is_memory c = record { shows = step-unread c.args.words.now c.args.strings.now c.args.bytes.now c.args.sheet.now c.args.output.now _ (sym c.is_memory.ensures ∙ c.if-is_memory.false) c.refused-else-is_memory.ensures; writes = rw c.refused-else-is_memory.ensures refl }

@@ -10,7 +10,7 @@ put_row-requires c = (search rules, entry-held _ _ c.requires.0 _ _ _ c.enter_st
 
 -- src/lib.rt:80:9
 pub returns-then-are_zero_from : goal.returns-then-are_zero_from
-returns-then-are_zero_from c = as_call (zeros-entered _ _ _ c.are_zero_from.ensures c.if-are_zero_from.true) (entry_done _ _ c.requires.0 _ _ _ c.enter_string-report.ensures _ _ _ _ c.put_row.ensures.0 (omega (arith, c.put_row.ensures.1, c.requires.1.0)))
+returns-then-are_zero_from c = as_call (zeros-entered _ _ _ c.are_zero_from.ensures c.if-are_zero_from.true) (entry_done _ _ c.requires.0 _ _ _ c.enter_string-report.ensures _ _ _ _ c.put_row.ensures.rows_after (omega (arith, c.put_row.ensures.upper_bound, c.requires.1.0)))
 
 -- src/lib.rt:67:1
 pub returns : goal.returns

@@ -11,4 +11,4 @@ put_row-requires c = (search rules, step-held _ _ c.requires.0 _ _ key_room key-
 
 -- src/lib.rt:31:1
 pub returns : goal.returns
-returns c = step-done _ _ c.requires.0 _ _ key_room key-room _ _ _ c.step-report.ensures _ _ _ _ c.put_row.ensures.0 (omega (arith, c.put_row.ensures.1, c.requires.1))
+returns c = step-done _ _ c.requires.0 _ _ key_room key-room _ _ _ c.step-report.ensures _ _ _ _ c.put_row.ensures.rows_after (omega (arith, c.put_row.ensures.upper_bound, c.requires.1))

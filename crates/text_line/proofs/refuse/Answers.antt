@@ -10,4 +10,4 @@ put_row-requires c = (search rules, refused-held _ c.refused.ensures)
 
 -- src/lib.rt:23:1
 pub returns : goal.returns
-returns c = refused-done _ _ c.requires.0 _ _ _ _ _ c.refused.ensures c.put_row.ensures.0 (omega (arith, c.put_row.ensures.1, c.requires.1))
+returns c = refused-done _ _ c.requires.0 _ _ _ _ _ c.refused.ensures c.put_row.ensures.rows_after (omega (arith, c.put_row.ensures.upper_bound, c.requires.1))

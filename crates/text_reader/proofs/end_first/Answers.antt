@@ -30,4 +30,4 @@ pub shape_of-state : goal.shape_of-state
 shape_of-state c = length-set c.put_names.new.state 0 2 ∙ c.state-1.given ∙ length-set c.args.state.now 2 0
 
 pub returns : goal.returns
-returns c = broken-written c.args.words.now c.args.strings.now c.args.line.now c.args.rows.now c.requires.0 c.requires.1.1.1.1 c.args.state.now c.put_names.new.state _ _ _ c.args.size _ _ c.requires.1.0 (c.state-1.given ∙ length-set c.args.state.now 2 0 ∙ (state-parts c.args.state.now c.requires.1.0).0) c.requires.1.1.0 (rw c.if-put_names.false at c.put_names.ensures) c.put_heading.ensures c.refused.ensures c.put_row.ensures.0 c.put_row.ensures.1
+returns c = broken-written c.args.words.now c.args.strings.now c.args.line.now c.args.rows.now c.requires.0 c.requires.1.1.1.1 c.args.state.now c.put_names.new.state _ _ _ c.args.size _ _ c.requires.1.0 (c.state-1.given ∙ length-set c.args.state.now 2 0 ∙ (state-parts c.args.state.now c.requires.1.0).0) c.requires.1.1.0 (rw c.if-put_names.false at c.put_names.ensures) c.put_heading.ensures c.refused.ensures c.put_row.ensures.rows_after c.put_row.ensures.upper_bound

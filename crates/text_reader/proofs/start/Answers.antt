@@ -12,9 +12,9 @@ returns-then-state-eq10 c = record {
   answers = right-lengths c.args.words.now c.args.strings.now c.args.state.now c.if-words-eq1670.true c.if-strings-eq8449.true c.if-state-eq10.true;
   refused = λ e. absurd (false≢true (sym e));
   begins = λ e line l.
-      let s = c.make_empty.ensures.1.1 (c.make_empty.ensures.0 ∙ eq-eqb _ _ c.if-words-eq1670.true) in
-      let t = c.make_empty-then-state-eq10.ensures.0 ∙ eq-eqb _ _ c.if-strings-eq8449.true in
-      begun _ _ _ line _ s.0 s.1 (c.make_empty-then-state-eq10.ensures.1.1.0 t) (c.make_empty-then-state-eq10.ensures.1.1.1 t) c.if-state-eq10.true c.clear.ensures l;
+      let s = c.make_empty.ensures.words_after_2 (c.make_empty.ensures.value ∙ eq-eqb _ _ c.if-words-eq1670.true) in
+      let t = c.make_empty-then-state-eq10.ensures.answer ∙ eq-eqb _ _ c.if-strings-eq8449.true in
+      begun _ _ _ line _ s.0 s.1 (c.make_empty-then-state-eq10.ensures.empty t) (c.make_empty-then-state-eq10.ensures.table t) c.if-state-eq10.true c.clear.ensures l;
 }
 
 -- src/lib.rt:40:1

@@ -14,4 +14,4 @@ returns-in-Unchanged c = record { by_index = λ bytes cells. rw c.in-Unchanged.i
 
 pub returns-in-Becomes : goal.returns-in-Becomes
 unfolding pure apply_validation
-returns-in-Becomes c = record { by_index = λ bytes cells. rw c.in-Becomes.is (c.write_property.ensures.0 bytes cells); fitting = c.write_property.ensures.1 }
+returns-in-Becomes c = record { by_index = λ bytes cells. rw c.in-Becomes.is (c.write_property.ensures.by_index bytes cells); fitting = c.write_property.ensures.fitting }

@@ -21,7 +21,7 @@ returns-in-Absent c = record { result_value = rw (c.requires.1, sym c.next_boole
 
 pub returns-in-Present : goal.returns-in-Present
 unfolding pure fails next ◌>>=◌ throw_if if◌then◌else◌ proxy_delete delete_present
-returns-in-Present c = record { result_value = rw (c.requires.1, sym c.next_boolean.ensures, c.in-Done.is, c.if-answer.true, sym c.get_own_property.ensures, c.in-Done-get_own_property.is, c.in-Present.is) c.delete_present.ensures.0; fitting = c.delete_present.ensures.1 }
+returns-in-Present c = record { result_value = rw (c.requires.1, sym c.next_boolean.ensures, c.in-Done.is, c.if-answer.true, sym c.get_own_property.ensures, c.in-Done-get_own_property.is, c.in-Present.is) c.delete_present.ensures.result_value; fitting = c.delete_present.ensures.fitting }
 
 pub returns-else-answer : goal.returns-else-answer
 unfolding pure fails next ◌>>=◌ throw_if if◌then◌else◌ proxy_delete

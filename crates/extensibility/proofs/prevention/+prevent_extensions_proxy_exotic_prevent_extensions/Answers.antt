@@ -8,7 +8,14 @@ use Rattle.internal_methods.specs.Proxy.{proxy_prevent_extensions}
 use Rattle.calls.proofs.EnterLaws.{prevent-extensions-goes-on, is_below}
 use Rattle.extensibility.proofs.WriteLaws.{object-fits}
 use Prim.Native.Nat.{ℕ}
+use Rattle.extensibility.proofs.prevention.+prevent_extensions_proxy_exotic_prevent_extensions.Goals as goal
 
+pub prevent_extensions-enter-requires : goal.prevent_extensions-enter-requires
+prevent_extensions-enter-requires t c = (c.requires.store, omega arith)
+
+pub prevent_extensions-returns-in-Failed : goal.prevent_extensions-returns-in-Failed
+unfolding ◌>>=◌ fails if◌then◌else◌ next proxy_prevent_extensions pure throw_if
+prevent_extensions-returns-in-Failed t c = record { result_value = rw (prevent-extensions-goes-on _ _ _ _ _, sym c.enter.ensures ∙ c.in-Failed.is); fitting = tt }
 
 pub prevent_extensions-ordinary_at-object-requires : goal.prevent_extensions-ordinary_at-object-requires
 prevent_extensions-ordinary_at-object-requires t c = c.requires.store
@@ -22,7 +29,7 @@ prevent_extensions-proxy_exotic_prevent_extensions-requires t c = (omega (arith,
 
 pub prevent_extensions-returns-in-Proxy : goal.prevent_extensions-returns-in-Proxy
 unfolding ◌>>=◌ fails if◌then◌else◌ next proxy_prevent_extensions pure throw_if
-prevent_extensions-returns-in-Proxy t c = record { result_value = rw (prevent-extensions-goes-on _ _ _ _ _, sym c.enter.ensures ∙ c.in-Proxy.is) c.proxy_exotic_prevent_extensions.ensures.0; fitting = c.proxy_exotic_prevent_extensions.ensures.1 }
+prevent_extensions-returns-in-Proxy t c = record { result_value = rw (prevent-extensions-goes-on _ _ _ _ _, sym c.enter.ensures ∙ c.in-Proxy.is) c.proxy_exotic_prevent_extensions.ensures.result_value; fitting = c.proxy_exotic_prevent_extensions.ensures.fitting }
 
 pub proxy_exotic_prevent_extensions-prevent_extensions_trap-requires : goal.proxy_exotic_prevent_extensions-prevent_extensions_trap-requires
 proxy_exotic_prevent_extensions-prevent_extensions_trap-requires t c = (c.requires, sym c.has_trap.ensures ∙ c.if-has_trap.true)
@@ -32,8 +39,8 @@ proxy_exotic_prevent_extensions-prevent_extensions-requires t c = (omega arith, 
 
 pub proxy_exotic_prevent_extensions-returns-then-has_trap : goal.proxy_exotic_prevent_extensions-returns-then-has_trap
 unfolding ◌>>=◌ fails if◌then◌else◌ next proxy_prevent_extensions pure throw_if
-proxy_exotic_prevent_extensions-returns-then-has_trap t c = let h = c.prevent_extensions_trap.ensures in record { result_value = h.0; fitting = h.1 }
+proxy_exotic_prevent_extensions-returns-then-has_trap t c = record { result_value = c.prevent_extensions_trap.ensures.result_value; fitting = c.prevent_extensions_trap.ensures.fitting }
 
 pub proxy_exotic_prevent_extensions-returns-else-has_trap : goal.proxy_exotic_prevent_extensions-returns-else-has_trap
 unfolding ◌>>=◌ fails if◌then◌else◌ next proxy_prevent_extensions pure throw_if
-proxy_exotic_prevent_extensions-returns-else-has_trap t c = record { result_value = rw (sym c.has_trap.ensures ∙ c.if-has_trap.false) c.prevent_extensions.ensures.0; fitting = c.prevent_extensions.ensures.1 }
+proxy_exotic_prevent_extensions-returns-else-has_trap t c = record { result_value = rw (sym c.has_trap.ensures ∙ c.if-has_trap.false) c.prevent_extensions.ensures.result_value; fitting = c.prevent_extensions.ensures.fitting }

@@ -8,8 +8,6 @@ use Rattle.internal_methods.specs.Proxy.{proxy_prevent_extensions}
 use Rattle.calls.proofs.EnterLaws.{prevent-extensions-goes-on, is_below}
 use Rattle.extensibility.proofs.WriteLaws.{object-fits}
 use Prim.Native.Nat.{ℕ}
-
-
 use Rattle.extensibility.proofs.prevention.+prevent_extensions_proxy_exotic_prevent_extensions.Given as goal
 
 abbrev pub decreases-prevent_extensions : goal.decreases-prevent_extensions

@@ -38,7 +38,7 @@ pub shape_of-words-in-Failed : goal.shape_of-words-in-Failed
 shape_of-words-in-Failed c = c.words-1.given ∙ c.loop-i.invariant.1.0
 
 pub returns-in-Failed : goal.returns-in-Failed
-returns-in-Failed c = record { words_after = sym (c.loop-i.invariant.1.1.1 ∙ each-failed _ c.args.keys.now c.args.n c.requires.1.1.0 c.loop-i.i _ _ c.loop-i-test.true _ _ _ (rw (c.in-Failed.is, c.key_from_word-key.ensures) at c.turn.ensures.0)); committed = committed-then c.loop-i.invariant.1.1.0 c.turn.ensures.1 }
+returns-in-Failed c = record { words_after = sym (c.loop-i.invariant.1.1.1 ∙ each-failed _ c.args.keys.now c.args.n c.requires.1.1.0 c.loop-i.i _ _ c.loop-i-test.true _ _ _ (rw (c.in-Failed.is, c.key_from_word-key.ensures) at c.turn.ensures.words_after)); committed = committed-then c.loop-i.invariant.1.1.0 c.turn.ensures.committed }
 
 pub overflow_add-i : goal.overflow_add-i
 overflow_add-i c = omega arith
@@ -47,7 +47,7 @@ pub loop-i-smaller : goal.loop-i-smaller
 loop-i-smaller c = omega arith
 
 pub loop-i-preserved : goal.loop-i-preserved
-loop-i-preserved c = (omega arith, (c.words-1.given ∙ c.loop-i.invariant.1.0, (committed-then c.loop-i.invariant.1.1.0 c.turn.ensures.1, c.loop-i.invariant.1.1.1 ∙ each_more _ c.args.keys.now c.args.n c.requires.1.1.0 c.loop-i.i _ _ c.loop-i-test.true _ _ (rw (c.in-Done.is, c.key_from_word-key.ensures) at c.turn.ensures.0))))
+loop-i-preserved c = (omega arith, (c.words-1.given ∙ c.loop-i.invariant.1.0, (committed-then c.loop-i.invariant.1.1.0 c.turn.ensures.committed, c.loop-i.invariant.1.1.1 ∙ each_more _ c.args.keys.now c.args.n c.requires.1.1.0 c.loop-i.i _ _ c.loop-i-test.true _ _ (rw (c.in-Done.is, c.key_from_word-key.ensures) at c.turn.ensures.words_after))))
 
 pub shape_of-words : goal.shape_of-words
 shape_of-words c = c.loop-i.invariant.1.0

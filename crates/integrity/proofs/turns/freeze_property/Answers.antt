@@ -11,4 +11,4 @@ pub returns-in-Absent : goal.returns-in-Absent
 returns-in-Absent c = record { words_after = freeze-absent _ _ _ _ _ _ (rw (c.in-Done.is, c.in-Absent.is) at c.get_own_property.ensures); committed = committed-none _ c.requires.readable.store }
 
 pub returns-in-Present : goal.returns-in-Present
-returns-in-Present c = record { words_after = rw c.frozen_descriptor.ensures at c.define_property_or_throw.ensures.0 ∙ freeze-present _ _ _ _ _ _ _ (rw (c.in-Done.is, c.in-Present.is) at c.get_own_property.ensures); committed = c.define_property_or_throw.ensures.1 }
+returns-in-Present c = record { words_after = rw c.frozen_descriptor.ensures at c.define_property_or_throw.ensures.words_after ∙ freeze-present _ _ _ _ _ _ _ (rw (c.in-Done.is, c.in-Present.is) at c.get_own_property.ensures); committed = c.define_property_or_throw.ensures.committed }

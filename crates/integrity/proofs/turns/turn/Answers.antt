@@ -4,8 +4,8 @@ use Rattle.integrity.proofs.turns.turn.Goals as goal
 
 pub returns-then-frozen : goal.returns-then-frozen
 unfolding turn
-returns-then-frozen c = record { words_after = rw c.if-frozen.true c.freeze_property.ensures.0; committed = c.freeze_property.ensures.1 }
+returns-then-frozen c = record { words_after = rw c.if-frozen.true c.freeze_property.ensures.words_after; committed = c.freeze_property.ensures.committed }
 
 pub returns-else-frozen : goal.returns-else-frozen
 unfolding turn
-returns-else-frozen c = record { words_after = rw (c.if-frozen.false, ← c.sealed_descriptor.ensures) c.define_property_or_throw.ensures.0; committed = c.define_property_or_throw.ensures.1 }
+returns-else-frozen c = record { words_after = rw (c.if-frozen.false, ← c.sealed_descriptor.ensures) c.define_property_or_throw.ensures.words_after; committed = c.define_property_or_throw.ensures.committed }

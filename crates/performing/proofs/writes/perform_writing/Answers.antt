@@ -19,20 +19,20 @@ delete-out-requires c = (c.requires.0.readable, rw c.key_at-in_default.ensures c
 
 pub returns-in-5 : goal.returns-in-5
 unfolding step_of operation_of perform
-returns-in-5 c = record { result_value = rw (c.write_result.ensures, sym c.wide-code.ensures.0 ∙ c.in-5.is, sym c.wide-o.ensures.0, sym c.value_at.ensures) (write-told c.args.words.now c.args.sheet.now (state_of c.args.sheet.now c.args.s) _ c.set_prototype_of-out.result c.set_prototype_of-out.ensures.0); taken = rw c.write_result.ensures (write-taken c.args.words.now c.set_prototype_of-out.result c.set_prototype_of-out.ensures.1) }
+returns-in-5 c = record { result_value = rw (c.write_result.ensures, sym c.wide-code.ensures.0 ∙ c.in-5.is, sym c.wide-o.ensures.0, sym c.value_at.ensures) (write-told c.args.words.now c.args.sheet.now (state_of c.args.sheet.now c.args.s) _ c.set_prototype_of-out.result c.set_prototype_of-out.ensures.result_value); taken = rw c.write_result.ensures (write-taken c.args.words.now c.set_prototype_of-out.result c.set_prototype_of-out.ensures.fitting) }
 
 pub returns-in-7 : goal.returns-in-7
 unfolding step_of operation_of perform
-returns-in-7 c = record { result_value = rw (c.write_result-in-7.ensures, sym c.wide-code.ensures.0 ∙ c.in-7.is, sym c.wide-o.ensures.0) (write-told c.args.words.now c.args.sheet.now (state_of c.args.sheet.now c.args.s) _ c.prevent_extensions-out.result c.prevent_extensions-out.ensures.0); taken = rw c.write_result-in-7.ensures (write-taken c.args.words.now c.prevent_extensions-out.result c.prevent_extensions-out.ensures.1) }
+returns-in-7 c = record { result_value = rw (c.write_result-in-7.ensures, sym c.wide-code.ensures.0 ∙ c.in-7.is, sym c.wide-o.ensures.0) (write-told c.args.words.now c.args.sheet.now (state_of c.args.sheet.now c.args.s) _ c.prevent_extensions-out.result c.prevent_extensions-out.ensures.result_value); taken = rw c.write_result-in-7.ensures (write-taken c.args.words.now c.prevent_extensions-out.result c.prevent_extensions-out.ensures.fitting) }
 
 pub returns-in-9 : goal.returns-in-9
 unfolding step_of operation_of perform
-returns-in-9 c = record { result_value = rw (c.write_result-in-9.ensures, sym c.wide-code.ensures.0 ∙ c.in-9.is, sym c.wide-o.ensures.0, sym c.key_at.ensures, sym c.descriptor_at.ensures, sym c.to_property_descriptor-d.ensures) (write-told c.args.words.now c.args.sheet.now (state_of c.args.sheet.now c.args.s) _ c.define_own_property-out.result c.define_own_property-out.ensures.0); taken = rw c.write_result-in-9.ensures (write-taken c.args.words.now c.define_own_property-out.result c.define_own_property-out.ensures.1) }
+returns-in-9 c = record { result_value = rw (c.write_result-in-9.ensures, sym c.wide-code.ensures.0 ∙ c.in-9.is, sym c.wide-o.ensures.0, sym c.key_at.ensures, sym c.descriptor_at.ensures, sym c.to_property_descriptor-d.ensures) (write-told c.args.words.now c.args.sheet.now (state_of c.args.sheet.now c.args.s) _ c.define_own_property-out.result c.define_own_property-out.ensures.result_value); taken = rw c.write_result-in-9.ensures (write-taken c.args.words.now c.define_own_property-out.result c.define_own_property-out.ensures.fitting) }
 
 pub returns-in-12 : goal.returns-in-12
 unfolding step_of operation_of perform
-returns-in-12 c = record { result_value = rw (c.write_result-in-12.ensures, sym c.wide-code.ensures.0 ∙ c.in-12.is, sym c.wide-o.ensures.0, sym c.key_at-in-12.ensures, sym c.value_at-in-12.ensures, sym c.value_at-in-12-2.ensures) (write-told c.args.words.now c.args.sheet.now (state_of c.args.sheet.now c.args.s) _ c.set-out.result c.set-out.ensures.0); taken = rw c.write_result-in-12.ensures (write-taken c.args.words.now c.set-out.result c.set-out.ensures.1) }
+returns-in-12 c = record { result_value = rw (c.write_result-in-12.ensures, sym c.wide-code.ensures.0 ∙ c.in-12.is, sym c.wide-o.ensures.0, sym c.key_at-in-12.ensures, sym c.value_at-in-12.ensures, sym c.value_at-in-12-2.ensures) (write-told c.args.words.now c.args.sheet.now (state_of c.args.sheet.now c.args.s) _ c.set-out.result c.set-out.ensures.result_value); taken = rw c.write_result-in-12.ensures (write-taken c.args.words.now c.set-out.result c.set-out.ensures.fitting) }
 
 pub returns-in_default : goal.returns-in_default
 unfolding step_of operation_of perform
-returns-in_default c = record { result_value = rw (c.write_result-in_default.ensures, sym c.wide-code.ensures.0 ∙ last-writing _ (rw c.wide-code.ensures.0 c.requires.1.0) (rw c.wide-code.ensures.0 c.requires.1.1.0) (rw c.wide-code.ensures.0 c.requires.1.1.1) c.in_default.in_default-own.rest.0.0.0.1 c.in_default.in_default-own.rest.0.0.1 c.in_default.in_default-own.rest.0.1 c.in_default.in_default-own.rest.1, sym c.wide-o.ensures.0, sym c.key_at-in_default.ensures) (write-told c.args.words.now c.args.sheet.now (state_of c.args.sheet.now c.args.s) _ c.delete-out.result c.delete-out.ensures.0); taken = rw c.write_result-in_default.ensures (write-taken c.args.words.now c.delete-out.result c.delete-out.ensures.1) }
+returns-in_default c = record { result_value = rw (c.write_result-in_default.ensures, sym c.wide-code.ensures.0 ∙ last-writing _ (rw c.wide-code.ensures.0 c.requires.1.0) (rw c.wide-code.ensures.0 c.requires.1.1.0) (rw c.wide-code.ensures.0 c.requires.1.1.1) c.in_default.in_default-own.rest.0.0.0.1 c.in_default.in_default-own.rest.0.0.1 c.in_default.in_default-own.rest.0.1 c.in_default.in_default-own.rest.1, sym c.wide-o.ensures.0, sym c.key_at-in_default.ensures) (write-told c.args.words.now c.args.sheet.now (state_of c.args.sheet.now c.args.s) _ c.delete-out.result c.delete-out.ensures.result_value); taken = rw c.write_result-in_default.ensures (write-taken c.args.words.now c.delete-out.result c.delete-out.ensures.fitting) }

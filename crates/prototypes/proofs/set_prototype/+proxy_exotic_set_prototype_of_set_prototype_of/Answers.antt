@@ -7,11 +7,21 @@ use Rattle.internal_methods.specs.Monad.{pure, fails, next, ◌>>=◌, throw_if,
 use Rattle.internal_methods.specs.Proxy.{proxy_set_prototype_of}
 use Rattle.calls.proofs.EnterLaws.{set-prototype-of-goes-on, is_below}
 use Prim.Native.Nat.{ℕ}
+use Rattle.prototypes.proofs.set_prototype.+proxy_exotic_set_prototype_of_set_prototype_of.Goals as goal
 
+pub proxy_exotic_set_prototype_of-set_prototype_of_trap-requires : goal.proxy_exotic_set_prototype_of-set_prototype_of_trap-requires
+proxy_exotic_set_prototype_of-set_prototype_of_trap-requires t c = (c.requires, sym c.has_trap.ensures ∙ c.if-has_trap.true)
+
+pub proxy_exotic_set_prototype_of-set_prototype_of-requires : goal.proxy_exotic_set_prototype_of-set_prototype_of-requires
+proxy_exotic_set_prototype_of-set_prototype_of-requires t c = (omega arith, c.requires)
+
+pub proxy_exotic_set_prototype_of-returns-then-has_trap : goal.proxy_exotic_set_prototype_of-returns-then-has_trap
+unfolding ◌>>=◌ fails if◌then◌else◌ next proxy_set_prototype_of pure throw_if
+proxy_exotic_set_prototype_of-returns-then-has_trap t c = record { result_value = c.set_prototype_of_trap.ensures.result_value; fitting = c.set_prototype_of_trap.ensures.fitting }
 
 pub proxy_exotic_set_prototype_of-returns-else-has_trap : goal.proxy_exotic_set_prototype_of-returns-else-has_trap
 unfolding ◌>>=◌ fails if◌then◌else◌ next proxy_set_prototype_of pure throw_if
-proxy_exotic_set_prototype_of-returns-else-has_trap t c = record { result_value = rw (sym c.has_trap.ensures ∙ c.if-has_trap.false) c.set_prototype_of.ensures.0; fitting = c.set_prototype_of.ensures.1 }
+proxy_exotic_set_prototype_of-returns-else-has_trap t c = record { result_value = rw (sym c.has_trap.ensures ∙ c.if-has_trap.false) c.set_prototype_of.ensures.result_value; fitting = c.set_prototype_of.ensures.fitting }
 
 pub set_prototype_of-enter-requires : goal.set_prototype_of-enter-requires
 set_prototype_of-enter-requires t c = (c.requires.store, omega arith)
@@ -35,4 +45,4 @@ set_prototype_of-proxy_exotic_set_prototype_of-requires t c = (omega (arith, (is
 
 pub set_prototype_of-returns-in-Proxy : goal.set_prototype_of-returns-in-Proxy
 unfolding ◌>>=◌ fails if◌then◌else◌ next proxy_set_prototype_of pure throw_if
-set_prototype_of-returns-in-Proxy t c = record { result_value = rw (set-prototype-of-goes-on _ _ _ _ _ _, sym c.enter.ensures ∙ c.in-Proxy.is) c.proxy_exotic_set_prototype_of.ensures.0; fitting = c.proxy_exotic_set_prototype_of.ensures.1 }
+set_prototype_of-returns-in-Proxy t c = record { result_value = rw (set-prototype-of-goes-on _ _ _ _ _ _, sym c.enter.ensures ∙ c.in-Proxy.is) c.proxy_exotic_set_prototype_of.ensures.result_value; fitting = c.proxy_exotic_set_prototype_of.ensures.fitting }

@@ -7,8 +7,6 @@ use Rattle.internal_methods.specs.Monad.{pure, fails, next, ◌>>=◌, throw_if,
 use Rattle.internal_methods.specs.Proxy.{proxy_set_prototype_of}
 use Rattle.calls.proofs.EnterLaws.{set-prototype-of-goes-on, is_below}
 use Prim.Native.Nat.{ℕ}
-
-
 use Rattle.prototypes.proofs.set_prototype.+proxy_exotic_set_prototype_of_set_prototype_of.Given as goal
 
 abbrev pub decreases-proxy_exotic_set_prototype_of : goal.decreases-proxy_exotic_set_prototype_of

@@ -18,7 +18,7 @@ returns-in-Accessor c = record { result_value = rw (sym c.get_own_property.ensur
 
 pub returns-then-writable : goal.returns-then-writable
 unfolding pure fails next ◌>>=◌ if◌then◌else◌ set_on_receiver
-returns-then-writable c = record { result_value = rw (sym c.get_own_property.ensures, c.in-Done.is, c.in-Present.is, c.in-Data.is, c.if-writable.true, ← c.value_descriptor-d.ensures) c.define_own_property.ensures.0; fitting = c.define_own_property.ensures.1 }
+returns-then-writable c = record { result_value = rw (sym c.get_own_property.ensures, c.in-Done.is, c.in-Present.is, c.in-Data.is, c.if-writable.true, ← c.value_descriptor-d.ensures) c.define_own_property.ensures.result_value; fitting = c.define_own_property.ensures.fitting }
 
 pub returns-else-writable : goal.returns-else-writable
 unfolding pure fails next ◌>>=◌ if◌then◌else◌ set_on_receiver
@@ -26,4 +26,4 @@ returns-else-writable c = record { result_value = rw (sym c.get_own_property.ens
 
 pub returns-in-Absent : goal.returns-in-Absent
 unfolding pure fails next ◌>>=◌ if◌then◌else◌ set_on_receiver
-returns-in-Absent c = record { result_value = rw (sym c.get_own_property.ensures, c.in-Done.is, c.in-Absent.is, ← c.descriptor_of-d.ensures) c.define_own_property-in-Absent.ensures.0; fitting = c.define_own_property-in-Absent.ensures.1 }
+returns-in-Absent c = record { result_value = rw (sym c.get_own_property.ensures, c.in-Done.is, c.in-Absent.is, ← c.descriptor_of-d.ensures) c.define_own_property-in-Absent.ensures.result_value; fitting = c.define_own_property-in-Absent.ensures.fitting }

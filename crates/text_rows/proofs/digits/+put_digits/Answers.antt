@@ -2,21 +2,12 @@ use Prim.Native.Nat.{ℕ, ◌<◌, ◌/◌}
 use native.Mathlib.Omega.{arith}
 use native.Mathlib.Numerals.{add-one}
 use mathlib.Core.Path.{refl, sym, ap}
-use borrow.Fn.Kinds.{In}
 use borrow.Author.Rules.{rules}
 use lib.ListN.{length, length-set}
 use Rattle.record.specs.Characters.{decimal}
 use Rattle.byte_records.proofs.ByteLaws.{sets-append}
 use Rattle.text_rows.proofs.DigitLaws.{one-digit, two-decimal, by-hundred, length-hundred}
 use Rattle.text_rows.proofs.digits.+put_digits.Goals as goal
-
-abbrev put-digits-at : ℕ → In 1 put-digits-kinds.ps
-put-digits-at t =
-    and 1 put-digits-kinds.ps (is 1 put-digits-kinds.ps μ-put-digits t) put-digits.Pre
-
-abbrev put-digits-below : ℕ → In 1 put-digits-kinds.ps
-put-digits-below t =
-    and 1 put-digits-kinds.ps (falls 1 put-digits-kinds.ps ◌<◌ μ-put-digits t) put-digits.Pre
 
 pub bounds-out-at : goal.bounds-out-at
 bounds-out-at t c = omega (arith, ap length (one-digit _ c.if-n-lt10.true))

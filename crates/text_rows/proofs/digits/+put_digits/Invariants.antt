@@ -2,7 +2,6 @@ use Prim.Native.Nat.{ℕ, ◌<◌, ◌/◌}
 use native.Mathlib.Omega.{arith}
 use native.Mathlib.Numerals.{add-one}
 use mathlib.Core.Path.{refl, sym, ap}
-use borrow.Fn.Kinds.{In}
 use borrow.Author.Rules.{rules}
 use lib.ListN.{length, length-set}
 use Rattle.record.specs.Characters.{decimal}
