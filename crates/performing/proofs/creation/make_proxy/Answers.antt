@@ -3,4 +3,4 @@ use borrow.Author.Rules.{rules}
 use Rattle.performing.proofs.creation.make_proxy.Goals as goal
 
 pub returns : goal.returns
-returns c = let h = rw (sym c.natural_of.ensures) c.make.ensures in record { value = h.0; taken = h.1 }
+returns c = record { value = rw (sym c.natural_of.ensures) c.make.ensures.value; taken = c.make.ensures.taken }

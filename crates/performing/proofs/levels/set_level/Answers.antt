@@ -26,13 +26,7 @@ pub copy_words-requires-in-Refused : goal.copy_words-requires-in-Refused
 copy_words-requires-in-Refused c = (sized _ c.set_integrity_level-out.ensures.committed.kept).size ∙ sym (ap length c.copy_words.ensures ∙ (sized _ c.requires.0.store).size)
 
 pub returns-in-Refused : goal.returns-in-Refused
-returns-in-Refused c = let back = c.copy_words-in-Refused.ensures ∙ c.copy_words.ensures in let h = (
-      level-shown c.args.words.now c.args.strings.now c.args.sheet.now (context c.args.words.now c.args.strings.now 256) c.args.o (pick c.args.frozen Level.frozen Level.sealed) c.start-s.result c.start-s.ensures c.copy_words-in-Refused.new.to c.set_integrity_level-out.result _ c.boolean_result-report.result c.set_integrity_level-out.ensures.words_after c.boolean_result-report.ensures (refused-left _ _ _ _ _ c.in-Refused.is back),
-      rw c.in-Refused.is back,
-    ) in record { by_index = h.0; words_after = h.1 }
+returns-in-Refused c = let back = c.copy_words-in-Refused.ensures ∙ c.copy_words.ensures in record { by_index = level-shown c.args.words.now c.args.strings.now c.args.sheet.now (context c.args.words.now c.args.strings.now 256) c.args.o (pick c.args.frozen Level.frozen Level.sealed) c.start-s.result c.start-s.ensures c.copy_words-in-Refused.new.to c.set_integrity_level-out.result _ c.boolean_result-report.result c.set_integrity_level-out.ensures.words_after c.boolean_result-report.ensures (refused-left _ _ _ _ _ c.in-Refused.is back); words_after = rw c.in-Refused.is back }
 
 pub returns-in_default : goal.returns-in_default
-returns-in_default c = let other = not-refused c.boolean_result-report.result.outcome (opened c.in_default.in_default-own.keys2) in let h = (
-      level-shown c.args.words.now c.args.strings.now c.args.sheet.now (context c.args.words.now c.args.strings.now 256) c.args.o (pick c.args.frozen Level.frozen Level.sealed) c.start-s.result c.start-s.ensures c.set_integrity_level-out.new.words c.set_integrity_level-out.result _ c.boolean_result-report.result c.set_integrity_level-out.ensures.words_after c.boolean_result-report.ensures (turns-left _ _ c.set_integrity_level-out.ensures.committed c.boolean_result-report.result.outcome other),
-      turns-words _ _ c.set_integrity_level-out.ensures.committed c.boolean_result-report.result.outcome other,
-    ) in record { by_index = h.0; words_after = h.1 }
+returns-in_default c = let other = not-refused c.boolean_result-report.result.outcome (opened c.in_default.in_default-own.keys2) in record { by_index = level-shown c.args.words.now c.args.strings.now c.args.sheet.now (context c.args.words.now c.args.strings.now 256) c.args.o (pick c.args.frozen Level.frozen Level.sealed) c.start-s.result c.start-s.ensures c.set_integrity_level-out.new.words c.set_integrity_level-out.result _ c.boolean_result-report.result c.set_integrity_level-out.ensures.words_after c.boolean_result-report.ensures (turns-left _ _ c.set_integrity_level-out.ensures.committed c.boolean_result-report.result.outcome other); words_after = turns-words _ _ c.set_integrity_level-out.ensures.committed c.boolean_result-report.result.outcome other }
