@@ -7,7 +7,8 @@ use Rattle.step.proofs.StepLaws.{memory-readable, step-refused, step-ran, step-u
 use borrow.Author.Rules.{rules}
 use Rattle.step.proofs.step.Goals as goal
 
-record-refusal-requires c κs = ((memory-readable c.before.before.before.before.before.before.before.before.before.args.words.now c.before.before.before.before.before.before.before.before.before.args.strings.now (sym c.before.before.is-memory.ensures ∙ c.before.if1.true)).store, (memory-readable c.before.before.before.before.before.before.before.before.before.args.words.now c.before.before.before.before.before.before.before.before.before.args.strings.now (sym c.before.before.is-memory.ensures ∙ c.before.if1.true)).table)
+pub record_refusal-requires : goal.record_refusal-requires
+record_refusal-requires c = ((memory-readable c.args.words.now c.args.strings.now (sym c.is_memory.ensures ∙ c.if-is_memory.true)).store, (memory-readable c.args.words.now c.args.strings.now (sym c.is_memory.ensures ∙ c.if-is_memory.true)).table)
 
 pub run-requires : goal.run-requires
 run-requires c = ((memory-readable c.args.words.now c.args.strings.now (sym c.is_memory.ensures ∙ c.if-is_memory.true)), is-passed (first_failing (record_tests (world_of c.args.words.now c.args.strings.now) c.args.bytes.now c.args.sheet.now)) _ c.record_refusal.ensures c.in-Passed.is)
