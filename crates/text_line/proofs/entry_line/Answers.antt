@@ -1,4 +1,3 @@
--- src/lib.rt:120:8
 use native.Mathlib.Omega.{arith}
 use mathlib.Core.Path.{sym, ap, ◌∙◌}
 use lib.Seq.{length-take-le}
@@ -7,26 +6,17 @@ use Rattle.text_line.proofs.LineLaws.{as_call, bytes-within, bytes-decoded, none
 use borrow.Author.Rules.{rules}
 use Rattle.text_line.proofs.entry_line.Goals as goal
 
--- src/lib.rt:121:9
 pub returns-then-is_dash : goal.returns-then-is_dash
 returns-then-is_dash c = as_call (ap (entry_of _) (dash-text _ (sym c.is_dash.ensures ∙ c.if-is_dash.true))) c.perform_units.ensures
 
--- src/lib.rt:126:50
 pub slice_bounds-text-end : goal.slice_bounds-text-end
 slice_bounds-text-end c = omega (arith, bytes-within _ c.in-Bytes.is c.put_some.ensures.1)
 
--- src/lib.rt:126:50
-pub slice_bounds-perform_units-end-in-Bytes-2 : goal.slice_bounds-perform_units-end-in-Bytes-2
-slice_bounds-perform_units-end-in-Bytes-2 c = sym (length-take-le _ _ (omega (arith, bytes-within _ c.in-Bytes.is c.put_some.ensures.1)))
-
--- src/lib.rt:126:13
 pub perform_units-requires-in-Bytes : goal.perform_units-requires-in-Bytes
 perform_units-requires-in-Bytes c = (search rules, (search rules, (search rules, omega (arith, take_short c.in-Bytes.n c.put_some.new.bytes))))
 
--- src/lib.rt:107:1
 pub returns-in-Broken : goal.returns-in-Broken
 returns-in-Broken c = as_call (ap (entry_of _) (some-text _ (sym c.is_dash.ensures ∙ c.if-is_dash.false) (none-decoded _ _ c.in-Broken.is c.put_some.ensures.0))) c.refuse.ensures
 
--- src/lib.rt:107:1
 pub returns-in-Bytes : goal.returns-in-Bytes
 returns-in-Bytes c = as_call (ap (entry_of _) (some-text _ (sym c.is_dash.ensures ∙ c.if-is_dash.false) (bytes-decoded _ _ c.in-Bytes.is c.put_some.ensures.0))) c.perform_units-in-Bytes.ensures

@@ -1,17 +1,13 @@
--- src/lib.rt:78:8
 use native.Mathlib.Omega.{arith}
 use Rattle.text_line.proofs.LineLaws.{as_call, zeros-entered, others-stepped, entry-held, entry_done}
 use borrow.Author.Rules.{rules}
 use Rattle.text_line.proofs.perform_entry.Goals as goal
 
--- src/lib.rt:80:9
 pub put_row-requires : goal.put_row-requires
 put_row-requires c = (search rules, entry-held _ _ c.requires.0 _ _ _ c.enter_string-report.ensures)
 
--- src/lib.rt:80:9
 pub returns-then-are_zero_from : goal.returns-then-are_zero_from
 returns-then-are_zero_from c = as_call (zeros-entered _ _ _ c.are_zero_from.ensures c.if-are_zero_from.true) (entry_done _ _ c.requires.0 _ _ _ c.enter_string-report.ensures _ _ _ _ c.put_row.ensures.rows_after (omega (arith, c.put_row.ensures.upper_bound, c.requires.1.0)))
 
--- src/lib.rt:67:1
 pub returns : goal.returns
 returns c = as_call (others-stepped _ _ _ c.are_zero_from.ensures c.if-are_zero_from.false) c.perform_step.ensures

@@ -1,35 +1,27 @@
--- src/lib.rt:140:9
 use native.Mathlib.Omega.{arith}
 use mathlib.Core.Path.{refl}
 use Rattle.text_line.proofs.LineLaws.{as_call, cell-short, no_cells, no_record, entry-call, step_call}
 use borrow.Author.Rules.{rules}
 use Rattle.text_line.proofs.perform_line.Goals as goal
 
--- src/lib.rt:144:12
 pub put_record-requires : goal.put_record-requires
 put_record-requires c = ((c.cells_of-found.ensures.1 c.if-found.true), (c.requires.1.1.0, refl))
 
--- src/lib.rt:145:17
 pub cell_in-cell-requires : goal.cell_in-cell-requires
 cell_in-cell-requires c = ((c.cells_of-found.ensures.1 c.if-found.true), c.requires.1.1.0.below 6 (omega arith))
 
--- src/lib.rt:147:17
 pub entry_line-requires : goal.entry_line-requires
 entry_line-requires c = (search rules, (search rules, (search rules, omega (arith, cell-short _ _ _ (c.cells_of-found.ensures.1 c.if-found.true) (c.requires.1.1.0.below 6 (omega arith)) c.cell_in-cell.ensures))))
 
--- src/lib.rt:147:17
 pub returns-then-bytes-eq15 : goal.returns-then-bytes-eq15
 returns-then-bytes-eq15 c = as_call (entry-call _ _ c.requires.1.1.1 _ c.cells_of-found.ensures.0 c.if-found.true _ _ c.put_record.ensures c.if-put_record.true _ c.cell_in-cell.ensures c.if-bytes-eq15.true) c.entry_line.ensures
 
--- src/lib.rt:149:13
 pub step_line-requires : goal.step_line-requires
 step_line-requires c = (search rules, (search rules, omega (arith, cell-short _ _ _ (c.cells_of-found.ensures.1 c.if-found.true) (c.requires.1.1.0.below 6 (omega arith)) c.cell_in-cell.ensures)))
 
--- src/lib.rt:149:13
 pub returns-then-put_record : goal.returns-then-put_record
 returns-then-put_record c = as_call (step_call _ _ c.requires.1.1.1 _ c.cells_of-found.ensures.0 c.if-found.true _ _ c.put_record.ensures c.if-put_record.true _ c.cell_in-cell.ensures c.if-bytes-eq15.false) c.step_line.ensures
 
--- src/lib.rt:129:1
 pub returns-then-found : goal.returns-then-found
 returns-then-found c = as_call (no_record _ _ c.requires.1.1.1 _ c.cells_of-found.ensures.0 c.if-found.true _ _ c.put_record.ensures c.if-put_record.false) c.refuse.ensures
 

@@ -1,17 +1,13 @@
--- src/lib.rt:128:21
 use native.Mathlib.Omega.{arith}
 use Rattle.text_reader.proofs.StateLaws.{added-fits, added-long, added-past}
 use borrow.Author.Rules.{rules}
 use Rattle.text_reader.proofs.keep.Goals as goal
 
--- src/lib.rt:130:13
 pub returns-then-count-at : goal.returns-then-count-at
 returns-then-count-at c = rw c.copy.ensures (added-fits c.args.line.now c.args.piece.now c.args.size c.requires (omega arith))
 
--- src/lib.rt:121:1
 pub returns-else-count-at : goal.returns-else-count-at
 returns-else-count-at c = added-long c.args.line.now c.args.piece.now c.args.size c.requires (omega arith) (omega arith)
 
--- src/lib.rt:121:1
 pub returns-else-size-le-MAXIMUM_LINE : goal.returns-else-size-le-MAXIMUM_LINE
 returns-else-size-le-MAXIMUM_LINE c = added-past c.args.line.now c.args.piece.now c.args.size (omega arith)
