@@ -1,8 +1,7 @@
 -- The number of a validation is that of the first test that fails. Assumes nothing.
-use Prim.Native.Nat.{ℕ, ◌<◌, ◌≤◌}
+use Prim.Native.Nat.{ℕ, ◌<◌}
 use native.Mathlib.Omega.{arith}
-use mathlib.Core.Path.{◌≡◌, refl, sym, ap, ◌∙◌, subst}
-use mathlib.Core.Logic.{◌↔◌}
+use mathlib.Core.Path.{◌≡◌, refl, subst}
 use mathlib.Core.Bool.{Bool, true, false, not, ◌&&◌, beq, cond, false≢true, true≢false}
 use Rattle.value.specs.declared.Value.{Value}
 use Rattle.value.specs.Value.{same_value}
@@ -19,10 +18,10 @@ use Rattle.property.specs.declared.ValidationTest.{ValidationTest}
 use Rattle.property.specs.declared.ValidationTest.TheVariants as test
 use Rattle.property.specs.declared.Validation.{Validation}
 use Rattle.property.specs.declared.Validation.TheVariants.{Rejected, Unchanged, Becomes}
-use Rattle.property.specs.Fields.{has, is_true, unlike, unlike_flag, value_field, writable_field, get_field, set_field, enumerable, configurable, is_accessor}
-use Rattle.property.specs.Descriptor.{is_accessor_descriptor, is_generic_descriptor}
+use Rattle.property.specs.Fields.{has, is_true, unlike, unlike_flag, value_field, writable_field, get_field, set_field, enumerable, configurable}
 use Rattle.property.specs.Validate.{has_no_fields, is_other_kind, applied, reject_if, validate_kind, validate_fixed, validate, test_number, failed_test, is_accepted}
 use Rattle.property.specs.FirstTest.{Reached, Fails, FirstFails, TestsDecided}
+use Rattle.property.proofs.FirstTestTold.{positive, told}
 
 -- What a field that fails its test holds ----------------------------------------------------------
 
@@ -43,12 +42,6 @@ other-flag (flag.Present true) false h = record { asked = true; given = refl; ot
 other-flag (flag.Present false) true h = record { asked = false; given = refl; other = false≢true }
 other-flag (flag.Present false) false h = absurd (false≢true h)
 
-flag-unlike : (a b : Bool) → (a ≡ b → ⊥) → not (beq a b) ≡ true
-flag-unlike true true h = absurd (h refl)
-flag-unlike true false h = refl
-flag-unlike false true h = refl
-flag-unlike false false h = absurd (h refl)
-
 record OtherField (f : Field) (v : Value) : Type 0 where
   asked : Value
   given : f ≡ field.Present asked
@@ -62,9 +55,6 @@ other-field : (f : Field) (v : Value) → unlike f v ≡ true → OtherField f v
 other-field field.Absent v h = absurd (false≢true h)
 other-field (field.Present u) v h = record { asked = u; given = refl; other = not-true (same_value u v) h }
 
-field-unlike : (f : Field) (u v : Value) → f ≡ field.Present u → same_value u v ≡ false → unlike f v ≡ true
-field-unlike f u v h o = rw (h, o)
-
 -- 5.c by its two parts
 kind-parts : (g a b : Bool) → (not g && not (beq a b)) ≡ true → (g ≡ false) × (a ≡ b → ⊥)
 kind-parts true a b h = absurd (false≢true h)
@@ -72,16 +62,6 @@ kind-parts false true true h = absurd (false≢true h)
 kind-parts false true false h = (refl, true≢false)
 kind-parts false false true h = (refl, false≢true)
 kind-parts false false false h = absurd (false≢true h)
-
-positive : (t : ValidationTest) → 0 < test_number t
-positive test.Extensible = omega arith
-positive test.Configurable = omega arith
-positive test.Enumerable = omega arith
-positive test.Kind = omega arith
-positive test.Get = omega arith
-positive test.Set = omega arith
-positive test.Writable = omega arith
-positive test.Value = omega arith
 
 -- A number that is told is that of a test that fails -----------------------------------------------
 
@@ -158,66 +138,25 @@ module _ (x : Bool) (d : PropertyDescriptor) where
       go false true e f = sound-yes _ _ refl
       go false false e f = sound-fixed p (applied d p) (record { fields = e; fixed = f })
 
-  -- Where test m fails, one up to m is told ---------------------------------------------------------
-
-  record UpTo (m : ℕ) (v : Validation) : Type 0 where
-    some : 0 < failed_test v
-    most : failed_test v ≤ m
-
-  here : (t : ValidationTest) (b : Bool) (next : Validation) → b ≡ true → UpTo (test_number t) (reject_if t b next)
-  unfolding reject_if
-  here t true next h = record { some = positive t; most = omega arith }
-  here t false next h = absurd (false≢true h)
-
-  later : (m : ℕ) (t : ValidationTest) (b : Bool) (next : Validation) → test_number t ≤ m → UpTo m next → UpTo m (reject_if t b next)
-  unfolding reject_if
-  later m t true next l h = record { some = positive t; most = l }
-  later m t false next l h = h
-
-  -- past 5.a, 5.b and 5.c
-  past-kind : (m : ℕ) (p : Property) → 4 ≤ m → UpTo m (validate_kind d p (Becomes (applied d p))) → UpTo m (validate_fixed d p (Becomes (applied d p)))
-  past-kind m p l h = later _ _ _ _ (omega arith) (later _ _ _ _ (omega arith) (later _ _ _ _ (omega arith) h))
-
-  past-fields : (m : ℕ) (p : Property) → Reached d p → UpTo m (validate_fixed d p (Becomes (applied d p))) → UpTo m (validate x d (Present p))
-  unfolding validate
-  past-fields m p a h = rw (a.fields, a.fixed) h
-
-  told : (t : OwnProperty) (m : ℕ) → Fails x d t m → UpTo m (validate x d t)
-  unfolding validate
-  told _ _ (Fails.not-extensible h) = here _ _ _ (ap not h)
-  told _ _ (Fails.configurable-asked {p} a h) = past-fields _ p a (here _ _ _ (ap is_true h))
-  told _ _ (Fails.enumerable-unlike {p} {b} a h o) =
-      past-fields _ p a (later _ _ _ _ (omega arith) (here _ _ _ (ap (λ f. unlike_flag f (enumerable p)) h ∙ flag-unlike b (enumerable p) o)))
-  told _ _ (Fails.kind-unlike {p} a h o) =
-      past-fields _ p a (later _ _ _ _ (omega arith) (later _ _ _ _ (omega arith) (here _ _ _ (rw h (flag-unlike (is_accessor_descriptor d) (is_accessor p) o)))))
-  told _ _ (Fails.get-unlike {g} {s} {v} {e} {c} a h o) =
-      past-fields _ (Accessor g s e c) a (past-kind _ (Accessor g s e c) (omega arith) (here _ _ _ (field-unlike _ v g h o)))
-  told _ _ (Fails.set-unlike {g} {s} {v} {e} {c} a h o) =
-      past-fields _ (Accessor g s e c) a (past-kind _ (Accessor g s e c) (omega arith) (later _ _ _ _ (omega arith) (here _ _ _ (field-unlike _ v s h o))))
-  told _ _ (Fails.writable-asked {w} {e} {c} a h) =
-      past-fields _ (Data w false e c) a (past-kind _ (Data w false e c) (omega arith) (here _ _ _ (ap is_true h)))
-  told _ _ (Fails.value-unlike {w} {v} {e} {c} a h o) =
-      past-fields _ (Data w false e c) a (past-kind _ (Data w false e c) (omega arith) (later _ _ _ _ (omega arith) (here _ _ _ (field-unlike _ v w h o))))
-
   -- The statement ------------------------------------------------------------------------------------
 
   module _ (t : OwnProperty) where
     is-first : (n : ℕ) → 0 < n → failed_test (validate x d t) ≡ n → FirstFails x d t n
     is-first n l e = record {
       fails = subst (Fails x d t) e ((sound t).failed (omega arith));
-      none_before = λ m h f. let u = (told t m f).most in omega arith;
+      none_before = λ m h f. let u = (told x d t m f).most in omega arith;
     }
 
     first-is : (n : ℕ) → FirstFails x d t n → failed_test (validate x d t) ≡ n
     first-is n f =
-        let l = (told t n f.fails).some in
-        let u = (told t n f.fails).most in
+        let l = (told x d t n f.fails).some in
+        let u = (told x d t n f.fails).most in
         let s = (sound t).failed l in
         let b : failed_test (validate x d t) < n → ⊥ = λ h. f.none_before _ h s in
         omega arith
 
     none-fails : failed_test (validate x d t) ≡ 0 → (n : ℕ) → Fails x d t n → ⊥
-    none-fails e n f = let l = (told t n f).some in omega arith
+    none-fails e n f = let l = (told x d t n f).some in omega arith
 
     is_none : ((n : ℕ) → Fails x d t n → ⊥) → failed_test (validate x d t) ≡ 0
     is_none h =
