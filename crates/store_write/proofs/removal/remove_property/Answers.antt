@@ -38,16 +38,16 @@ loop-i-smaller-then-words-i c = omega arith
 
 pub loop-i-preserved-then-words-i : goal.loop-i-preserved-then-words-i
 loop-i-preserved-then-words-i c = let g = c.loop-i.invariant in (
-      omega arith,
-      (
-        omega arith,
-        (
-          g.1.1.0,
-          λ k e.
-              g.1.1.1 k e ∙ turn-hit (λ (x : Entry). is_at x _ k) _ _ _ _ c.loop-i-test.true (key-hit _ _ _ _ k c.requires.1.owner e c.if-words-i.true),
-        ),
-      ),
-    )
+  omega arith,
+  (
+    omega arith,
+    (
+      g.1.1.0,
+      λ k e.
+          g.1.1.1 k e ∙ turn-hit (λ (x : Entry). is_at x _ k) _ _ _ _ c.loop-i-test.true (key-hit _ _ _ _ k c.requires.1.owner e c.if-words-i.true),
+    ),
+  ),
+)
 
 pub move_entry-requires : goal.move_entry-requires
 move_entry-requires c = let s = sized c.args.words.now c.requires.0 in (c.loop-i.invariant.1.1.0, (omega arith, omega arith))
