@@ -2,6 +2,7 @@
 ghost use Rattle.std.specs.Prelude.{◌+◌, ◌<◌, ◌≤◌, length};
 
 use crate::print;
+use std::io;
 use value_operations::bits;
 
 // Outcome (0 refused, 1 result, 2 TypeError, 3 throw), the refusal's or message's number, answers used, and how many bytes of the
@@ -174,28 +175,29 @@ pub fn difference(
     2
 }
 
-fn print_bytes(bytes: &[u8]) {
+fn print_bytes(rt: &impl Print, bytes: &[u8]) -> io::Result<()> {
     let n = bytes.len();
     let mut i: usize = 0;
     while i < n {
-        io::print_hex(1, bits::wide(bytes[i]), 2);
+        print!(rt; "{:02x}", bytes[i])?;
         i += 1;
     }
-    print(b"\n");
+    print(rt, "\n")
 }
 
-fn print_part(part: u64) {
+fn print_part(rt: &impl Print, part: u64) -> io::Result<()> {
     match part {
-        1 => print(b"outcome"),
-        2 => print(b"number"),
-        3 => print(b"answers"),
-        4 => print(b"completion"),
-        5 => print(b"output"),
-        _ => print(b"store"),
+        1 => print(rt, "outcome"),
+        2 => print(rt, "number"),
+        3 => print(rt, "answers"),
+        4 => print(rt, "completion"),
+        5 => print(rt, "output"),
+        _ => print(rt, "store"),
     }
 }
 
 fn print_difference(
+    rt: &impl Print,
     line: u64,
     part: u64,
     expected: &[u8],
@@ -203,25 +205,21 @@ fn print_difference(
     ours: &[u8],
     output: &[u8],
     dump: &[u8],
-) {
-    print(b"line ");
-    io::print_decimal(1, line);
-    print(b": the ");
-    print_part(part);
-    print(b" differs; outcome ");
-    io::print_decimal(1, e.outcome);
-    print(b", number ");
-    io::print_decimal(1, e.number);
-    print(b", answers ");
-    io::print_decimal(1, e.answers);
-    print(b"\n  expected   ");
-    print_bytes(expected);
-    print(b"  completion ");
-    print_bytes(ours);
-    print(b"  output     ");
-    print_bytes(output);
-    print(b"  store      ");
-    print_bytes(dump);
+) -> io::Result<()> {
+    print!(rt; "line {line}: the ")?;
+    print_part(rt, part)?;
+    let outcome = e.outcome;
+    let number = e.number;
+    let answers = e.answers;
+    print!(rt; " differs; outcome {outcome}, number {number}, answers {answers}")?;
+    print(rt, "\n  expected   ")?;
+    print_bytes(rt, expected)?;
+    print(rt, "  completion ")?;
+    print_bytes(rt, ours)?;
+    print(rt, "  output     ")?;
+    print_bytes(rt, output)?;
+    print(rt, "  store      ")?;
+    print_bytes(rt, dump)
 }
 
 fn held(bytes: &[u8], n: usize) -> usize
@@ -233,6 +231,7 @@ fn held(bytes: &[u8], n: usize) -> usize
 
 // Shows a difference: which line and part, what was expected, and what there is.
 pub fn show(
+    rt: &impl Print,
     line: u64,
     part: u64,
     expected: &[u8],
@@ -241,8 +240,8 @@ pub fn show(
     output: &[u8],
     dump: &[u8],
     size: usize,
-) {
+) -> io::Result<()> {
     let n = held(ours, e.size);
     let m = held(dump, size);
-    print_difference(line, part, expected, e, &ours[..n], output, &dump[..m]);
+    print_difference(rt, line, part, expected, e, &ours[..n], output, &dump[..m])
 }

@@ -1,5 +1,8 @@
 // Lines of hexadecimal digits from the standard input.
-ghost use Rattle.std.specs.Prelude.{◌*◌, ◌≤◌, length};
+ghost use Rattle.std.specs.Prelude.{IfOk, ◌*◌, ◌≤◌, length};
+
+use std::io;
+use std::io::Read;
 
 // The value of a hexadecimal digit, and 16 of anything else.
 fn digit(b: u8) -> u8
@@ -45,12 +48,27 @@ pub fn fill(output: &mut [u8]) {
     }
 }
 
+// Reads until the bytes are filled or the input ends, and answers how many were read.
+pub fn read_full(input: &mut impl Read, bytes: &mut [u8]) -> io::Result<usize>
+    ensures { IfOk result (λ size. size ≤ length bytes.new) }
+{
+    let mut done: usize = 0;
+    while done < bytes.len() {
+        let n = input.read(&mut bytes[done..])?;
+        if n == 0 {
+            return Ok(done);
+        }
+        done += n;
+    }
+    Ok(done)
+}
+
 // The rest of a line, decoded; false where it is broken off or has something else than digits.
-pub fn read_rest(text: &mut [u8], n: usize) -> bool
+pub fn read_rest(input: &mut impl Read, text: &mut [u8], n: usize) -> io::Result<bool>
     requires { 2 * n ≤ length text.old }
 {
-    if io::read_full(0, text) < text.len() {
-        return false;
+    if read_full(input, text)? < text.len() {
+        return Ok(false);
     }
-    decode(text, n)
+    Ok(decode(text, n))
 }

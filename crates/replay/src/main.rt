@@ -8,6 +8,8 @@ ghost use Rattle.std.specs.Prelude.{◌+◌, ◌*◌, ◌<◌, ◌≤◌, length
 
 use crate::comparison::Ending;
 use byte_records::numbers;
+use std::io;
+use std::io::Read;
 
 mod comparison;
 mod endings;
@@ -19,8 +21,8 @@ mod tally;
 // How many differences are shown.
 const SHOWN: u64 = 10;
 
-fn print(text: &[u8]) {
-    io::write_all(1, text);
+fn print(rt: &impl Print, text: &str) -> io::Result<()> {
+    print!(rt; "{text}")
 }
 
 // The call, over an output of 0xee.
@@ -39,6 +41,7 @@ fn performed(
 
 // Counts a call, and shows it if it is among the first differences.
 fn report(
+    rt: &impl Print,
     tally: &mut [u64; 128],
     part: u64,
     kind: u8,
@@ -48,13 +51,14 @@ fn report(
     output: &[u8],
     dump: &[u8],
     size: usize,
-) {
+) -> io::Result<()> {
     let told = comparison::is_told(expected, e.number);
     tally::count_call(tally, kind, e.outcome, e.number, told);
     if part != 0 {
         tally::count_difference(tally);
         if tally::differences(tally) <= SHOWN {
-            comparison::show(
+            return comparison::show(
+                rt,
                 tally::lines(tally),
                 part,
                 expected,
@@ -66,6 +70,7 @@ fn report(
             );
         }
     }
+    Ok(())
 }
 
 // Whether a call was a step that released an object.
@@ -84,6 +89,7 @@ fn is_release(kind: u8, bytes: &[u8], outcome: u64) -> bool {
 
 // One call over a line's parts.
 fn call(
+    rt: &impl Print,
     words: &mut [u64],
     strings: &mut [u16],
     kind: u8,
@@ -92,20 +98,23 @@ fn call(
     expected: &[u8],
     output: &mut [u8],
     tally: &mut [u64; 128],
-) {
+) -> io::Result<()> {
     let mut ours = [0u8; 64];
-    let mut dump = io::buffer();
+    let mut dump = [0u8; 4096];
     let e = performed(words, strings, kind, bytes, given, output, &mut ours);
     let size = readout::put_store(&mut dump, words, strings);
     let part = comparison::difference(expected, e, &ours, output, &dump, size);
     if is_release(kind, bytes, e.outcome) {
         tally::count_release(tally);
     }
-    report(tally, part, kind, expected, e, &ours, output, &dump, size);
+    report(
+        rt, tally, part, kind, expected, e, &ours, output, &dump, size,
+    )
 }
 
 // A line's body: the record, what is given with it, the expectation.
 fn run(
+    rt: &impl Print,
     words: &mut [u64],
     strings: &mut [u16],
     kind: u8,
@@ -114,10 +123,11 @@ fn run(
     end: usize,
     output: &mut [u8],
     tally: &mut [u64; 128],
-)
+) -> io::Result<()>
     requires { (size ≤ end) × (end ≤ length body.now) }
 {
     call(
+        rt,
         words,
         strings,
         kind,
@@ -126,18 +136,20 @@ fn run(
         &body[end..],
         output,
         tally,
-    );
+    )
 }
 
 // A line that cannot be read counts as a difference, and is the last.
-fn broken(tally: &mut [u64; 128]) -> bool {
-    print(b"a line is broken\n");
+fn broken(rt: &impl Print, tally: &mut [u64; 128]) -> io::Result<bool> {
+    print(rt, "a line is broken\n")?;
     tally::count_difference(tally);
-    false
+    Ok(false)
 }
 
 // A line whose head is read; its body has n bytes.
 fn read_and_run(
+    rt: &impl Print,
+    input: &mut impl Read,
     words: &mut [u64],
     strings: &mut [u16],
     kind: u8,
@@ -147,28 +159,40 @@ fn read_and_run(
     end: usize,
     output: &mut [u8],
     tally: &mut [u64; 128],
-) -> bool
+) -> io::Result<bool>
     requires { (2 * n ≤ length text.old) × ((size ≤ end) × (end ≤ n)) }
 {
-    if line_input::read_rest(text, n) {
-        run(words, strings, kind, &text[..n], size, end, output, tally);
-        return true;
+    if line_input::read_rest(input, text, n)? {
+        run(
+            rt,
+            words,
+            strings,
+            kind,
+            &text[..n],
+            size,
+            end,
+            output,
+            tally,
+        )?;
+        return Ok(true);
     }
-    broken(tally)
+    broken(rt, tally)
 }
 
 // One line, if there is another.
 fn turn(
+    rt: &impl Print,
+    input: &mut impl Read,
     words: &mut [u64],
     strings: &mut [u16],
     text: &mut [u8],
     output: &mut [u8],
     tally: &mut [u64; 128],
-) -> bool {
+) -> io::Result<bool> {
     let mut head = [0u8; 18];
-    let got = io::read_full(0, &mut head);
+    let got = line_input::read_full(input, &mut head)?;
     if got == 0 {
-        return false;
+        return Ok(false);
     }
     let formed = line_input::decode(&mut head, 9);
     let kind = head[0];
@@ -177,18 +201,20 @@ fn turn(
     let end = size + numbers::short_at(&head, 5) as usize;
     let n = end + numbers::short_at(&head, 7) as usize;
     if got < 18 {
-        return broken(tally);
+        return broken(rt, tally);
     }
     if !formed {
-        return broken(tally);
+        return broken(rt, tally);
     }
     if output.len() < room {
-        return broken(tally);
+        return broken(rt, tally);
     }
     if text.len() < 2 * n + 1 {
-        return broken(tally);
+        return broken(rt, tally);
     }
     read_and_run(
+        rt,
+        input,
         words,
         strings,
         kind,
@@ -201,17 +227,27 @@ fn turn(
     )
 }
 
-fn main() {
+fn main(rt: HostRuntime) -> io::Result<()> {
     let mut words = [0u64; 1670];
     let mut strings = [0u16; 8449];
-    let mut text = io::large_buffer();
-    let mut output = io::large_buffer();
+    let mut text = [0u8; 65536];
+    let mut output = [0u8; 65536];
     let mut tally = [0u64; 128];
-    let mut turns: u64 = 1000000000;
+    let mut input = rt.reader();
     store_write::make_empty(&mut words);
     text::make_empty(&mut strings);
-    while turns > 0 && turn(&mut words, &mut strings, &mut text, &mut output, &mut tally) {
-        turns -= 1;
+    for _ in 0..1000000000 {
+        if !turn(
+            &rt,
+            &mut input,
+            &mut words,
+            &mut strings,
+            &mut text,
+            &mut output,
+            &mut tally,
+        )? {
+            break;
+        }
     }
-    tally::print_tally(&tally);
+    tally::print_tally(&rt, &tally)
 }

@@ -2,6 +2,7 @@
 ghost use Rattle.std.specs.Prelude.{◌<◌, ◌≤◌};
 
 use crate::print;
+use std::io;
 
 // Where each is counted: messages by their numbers, those that the engine's text tells alone, refusals, kinds of call, outcomes,
 // and how many calls, lines, differences and releases there are.
@@ -38,7 +39,7 @@ fn place(at: u64) -> usize
 
 fn counted(tally: &mut [u64; 128], at: u64) {
     let i = place(at);
-    tally[i] = std::num::wrapping_add_u64(tally[i], 1);
+    tally[i] = tally[i].wrapping_add(1);
 }
 
 fn count_of(tally: &[u64; 128], at: u64) -> u64 {
@@ -81,9 +82,9 @@ pub fn differences(tally: &[u64; 128]) -> u64 {
     count_of(tally, DIFFERENCES)
 }
 
-fn print_count(name: &[u8], tally: &[u64; 128], at: u64) {
-    print(name);
-    io::print_decimal(1, count_of(tally, at));
+fn print_count(rt: &impl Print, name: &str, tally: &[u64; 128], at: u64) -> io::Result<()> {
+    print(rt, name)?;
+    print!(rt; "{}", count_of(tally, at))
 }
 
 // How many of the counts at a + 1 to a + n are zero.
@@ -108,65 +109,63 @@ fn missing_refusals(tally: &[u64; 128]) -> u64 {
     missing(tally, REFUSALS, REFUSAL_COUNT) + missing(tally, REFUSALS + UNREAD - 1, 2)
 }
 
-fn print_message(tally: &[u64; 128], n: u64)
+fn print_message(rt: &impl Print, tally: &[u64; 128], n: u64) -> io::Result<()>
     requires { n < 33 }
 {
-    print(b"message ");
-    io::print_decimal(1, n);
-    print_count(b": ", tally, n);
-    print_count(b", told by the engine's text alone ", tally, TOLD + n);
-    print(b"\n");
+    print!(rt; "message {n}")?;
+    print_count(rt, ": ", tally, n)?;
+    print_count(rt, ", told by the engine's text alone ", tally, TOLD + n)?;
+    print(rt, "\n")
 }
 
-fn print_refusal(tally: &[u64; 128], n: u64)
+fn print_refusal(rt: &impl Print, tally: &[u64; 128], n: u64) -> io::Result<()>
     requires { n < 32 }
 {
-    print(b"refusal ");
-    io::print_decimal(1, n);
-    print_count(b": ", tally, REFUSALS + n);
-    print(b"\n");
+    print!(rt; "refusal {n}")?;
+    print_count(rt, ": ", tally, REFUSALS + n)?;
+    print(rt, "\n")
 }
 
-fn print_messages(tally: &[u64; 128]) {
+fn print_messages(rt: &impl Print, tally: &[u64; 128]) -> io::Result<()> {
     let mut n: u64 = 1;
     while n <= MESSAGE_COUNT {
-        print_message(tally, n);
+        print_message(rt, tally, n)?;
         n += 1;
     }
+    Ok(())
 }
 
-fn print_refusals(tally: &[u64; 128]) {
+fn print_refusals(rt: &impl Print, tally: &[u64; 128]) -> io::Result<()> {
     let mut n: u64 = 1;
     while n <= REFUSAL_COUNT {
-        print_refusal(tally, n);
+        print_refusal(rt, tally, n)?;
         n += 1;
     }
-    print_refusal(tally, UNREAD);
-    print_refusal(tally, NAMED);
+    print_refusal(rt, tally, UNREAD)?;
+    print_refusal(rt, tally, NAMED)
 }
 
-pub fn print_tally(tally: &[u64; 128]) {
-    print_messages(tally);
-    print_refusals(tally);
-    print_count(b"stores ", tally, KINDS);
-    print_count(b", steps ", tally, KINDS + 1);
-    print_count(b" with ", tally, RELEASES);
-    print(b" releases");
-    print_count(b", strings ", tally, KINDS + 2);
-    print_count(b", completing ", tally, KINDS + 3);
-    print_count(b", validating ", tally, KINDS + 4);
-    print_count(b" and ", tally, KINDS + 5);
-    print_count(b", merging ", tally, KINDS + 6);
-    print_count(b", pages ", tally, KINDS + 7);
-    print_count(b"\nrefused ", tally, OUTCOMES);
-    print_count(b", results ", tally, OUTCOMES + 1);
-    print_count(b", TypeErrors ", tally, OUTCOMES + 2);
-    print_count(b", throws ", tally, OUTCOMES + 3);
-    print(b"\n");
-    io::print_decimal(1, missing(tally, 0, MESSAGE_COUNT));
-    print(b" messages and ");
-    io::print_decimal(1, missing_refusals(tally));
-    print_count(b" refusals missing\n", tally, CALLS);
-    print_count(b" calls, ", tally, DIFFERENCES);
-    print(b" differences\n");
+pub fn print_tally(rt: &impl Print, tally: &[u64; 128]) -> io::Result<()> {
+    print_messages(rt, tally)?;
+    print_refusals(rt, tally)?;
+    print_count(rt, "stores ", tally, KINDS)?;
+    print_count(rt, ", steps ", tally, KINDS + 1)?;
+    print_count(rt, " with ", tally, RELEASES)?;
+    print(rt, " releases")?;
+    print_count(rt, ", strings ", tally, KINDS + 2)?;
+    print_count(rt, ", completing ", tally, KINDS + 3)?;
+    print_count(rt, ", validating ", tally, KINDS + 4)?;
+    print_count(rt, " and ", tally, KINDS + 5)?;
+    print_count(rt, ", merging ", tally, KINDS + 6)?;
+    print_count(rt, ", pages ", tally, KINDS + 7)?;
+    print_count(rt, "\nrefused ", tally, OUTCOMES)?;
+    print_count(rt, ", results ", tally, OUTCOMES + 1)?;
+    print_count(rt, ", TypeErrors ", tally, OUTCOMES + 2)?;
+    print_count(rt, ", throws ", tally, OUTCOMES + 3)?;
+    let messages = missing(tally, 0, MESSAGE_COUNT);
+    let refusals = missing_refusals(tally);
+    print!(rt; "\n{messages} messages and {refusals}")?;
+    print_count(rt, " refusals missing\n", tally, CALLS)?;
+    print_count(rt, " calls, ", tally, DIFFERENCES)?;
+    print(rt, " differences\n")
 }

@@ -3,12 +3,14 @@
 // answered some, and that script itself the others: each line of the output says which.
 #![tactic(auto)]
 
-ghost use Rattle.std.specs.Prelude.{◌≡◌, ◌+◌, ◌<◌, ◌≤◌, length};
+ghost use Rattle.std.specs.Prelude.{◌≡◌, IfOk, ◌+◌, ◌<◌, ◌≤◌, length};
 
 use byte_records::{descriptor_record, numbers, value_record};
 use descriptors::completion;
 use property::{ArrayIndex, Filling, OwnProperty, Property, PropertyDescriptor};
 use record::Counts;
+use std::io;
+use std::io::Read;
 use step_records::{sheet_refusals, step_refusals, value_refusals};
 use text::indices;
 use validation::{merging, outcome};
@@ -278,15 +280,34 @@ fn passes(r: &[u8; 192]) -> bool {
 fn counted(counts: &mut [u64; 256], kind: usize)
     requires { kind < 256 }
 {
-    counts[kind] = std::num::wrapping_add_u64(counts[kind], 1);
+    counts[kind] = counts[kind].wrapping_add(1);
+}
+
+// Reads until the bytes are filled or the input ends, and answers how many were read.
+fn read_full(input: &mut impl Read, bytes: &mut [u8]) -> io::Result<usize>
+    ensures { IfOk result (λ size. size ≤ length bytes.new) }
+{
+    let mut done: usize = 0;
+    while done < bytes.len() {
+        let n = input.read(&mut bytes[done..])?;
+        if n == 0 {
+            return Ok(done);
+        }
+        done += n;
+    }
+    Ok(done)
 }
 
 // One record, if there is another: counts whether it passes.
-fn turn(passed: &mut [u64; 256], failed: &mut [u64; 256]) -> bool {
+fn turn(
+    input: &mut impl Read,
+    passed: &mut [u64; 256],
+    failed: &mut [u64; 256],
+) -> io::Result<bool> {
     let mut r = [0u8; 192];
-    let got = io::read_full(0, &mut r);
+    let got = read_full(input, &mut r)?;
     if got < 192 {
-        return false;
+        return Ok(false);
     }
     let kind = bits::wide(r[0]) as usize;
     if passes(&r) {
@@ -294,39 +315,37 @@ fn turn(passed: &mut [u64; 256], failed: &mut [u64; 256]) -> bool {
     } else {
         counted(failed, kind);
     }
-    true
+    Ok(true)
 }
 
-fn line(name: &[u8], passed: u64, said: &[u8], failed: u64) {
-    io::write_all(1, name);
-    io::print_decimal(1, passed);
-    io::write_all(1, said);
-    io::print_decimal(1, failed);
-    io::write_all(1, b" not\n");
+fn line(rt: &impl Print, name: &str, passed: u64, said: &str, failed: u64) -> io::Result<()> {
+    println!(rt; "{name}{passed}{said}{failed} not")
 }
 
-fn engine_line(name: &[u8], passed: u64, failed: u64) {
-    line(name, passed, b" as the engine says, ", failed);
+fn engine_line(rt: &impl Print, name: &str, passed: u64, failed: u64) -> io::Result<()> {
+    line(rt, name, passed, " as the engine says, ", failed)
 }
 
-fn script_line(name: &[u8], passed: u64, failed: u64) {
-    line(name, passed, b" as our script says, ", failed);
+fn script_line(rt: &impl Print, name: &str, passed: u64, failed: u64) -> io::Result<()> {
+    line(rt, name, passed, " as our script says, ", failed)
 }
 
-fn main() {
+fn main(rt: HostRuntime) -> io::Result<()> {
     let mut passed = [0u64; 256];
     let mut failed = [0u64; 256];
-    let mut turns: u64 = 1000000;
-    while turns > 0 && turn(&mut passed, &mut failed) {
-        turns -= 1;
+    let mut input = rt.reader();
+    for _ in 0..1000000 {
+        if !turn(&mut input, &mut passed, &mut failed)? {
+            break;
+        }
     }
-    engine_line(b"SameValue: ", passed[1], failed[1]);
-    engine_line(b"ToBoolean: ", passed[2], failed[2]);
-    engine_line(b"array indices: ", passed[3], failed[3]);
-    engine_line(b"completing: ", passed[4], failed[4]);
-    engine_line(b"validating: ", passed[5], failed[5]);
-    script_line(b"tests of steps: ", passed[6], failed[6]);
-    script_line(b"tests of sheets: ", passed[7], failed[7]);
-    engine_line(b"merging: ", passed[8], failed[8]);
-    script_line(b"merging refused: ", passed[9], failed[9]);
+    engine_line(&rt, "SameValue: ", passed[1], failed[1])?;
+    engine_line(&rt, "ToBoolean: ", passed[2], failed[2])?;
+    engine_line(&rt, "array indices: ", passed[3], failed[3])?;
+    engine_line(&rt, "completing: ", passed[4], failed[4])?;
+    engine_line(&rt, "validating: ", passed[5], failed[5])?;
+    script_line(&rt, "tests of steps: ", passed[6], failed[6])?;
+    script_line(&rt, "tests of sheets: ", passed[7], failed[7])?;
+    engine_line(&rt, "merging: ", passed[8], failed[8])?;
+    script_line(&rt, "merging refused: ", passed[9], failed[9])
 }
