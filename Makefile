@@ -5,17 +5,17 @@
 # A day of steps and string entries over one store, performed by the proved program: each call and what came of it. It needs cargo.
 run:
 	@tests/install.sh cargo
-	@tests/progress.sh rt check text_steps
+	@tests/progress.sh tests/build.sh text_steps
 	@tests/progress.sh $(MAKE) --no-print-directory lib
 	@target/bin/text_steps < crates/text_steps/stdin | (cd bindings/rust && cargo run --quiet --offline --bin steps -- --rows examples/day.steps)
 
-# The gate. It starts from nothing and ends in 'N passed, 0 failed'.
+# The gate. It ends in 'N passed, 0 failed'.
 test:
 	tests/gate.sh
 
 # The program on texts of valid and broken lines, against rows that share no code with it. It needs node.
 text-check:
-	rt check text_steps
+	tests/build.sh text_steps
 	node tests/text.mjs check target/bin/text_steps
 
 # The stored rows of the day against node's own objects: all but the calls.
@@ -36,16 +36,16 @@ edits:
 # The store beside a Vec of structs in Rust, then steps beside the engines that are installed, in ns, with docs/benchmarks.svg: docs/BENCHMARKS.md.
 # It needs rustc and node.
 bench:
-	rt staticlib benchmark_store
-	rustc --edition 2021 -O -C target-cpu=x86-64 -L target/staticlib -o target/bench bench/bench.rs
+	tests/build.sh benchmark_store
+	rustc --edition 2021 -O -C target-cpu=x86-64 -L target/lib -o target/bench bench/bench.rs
 	target/bench
-	rt staticlib demnyaluz
-	rustc --edition 2021 -O -C target-cpu=x86-64 -L target/staticlib -o target/steps bench/steps.rs
+	tests/build.sh demnyaluz
+	rustc --edition 2021 -O -C target-cpu=x86-64 -L target/lib -o target/steps bench/steps.rs
 	node bench/compare.mjs
 
 # 100,000 lines of steps through the program, beside node programs that only split the lines and decode their cells: lines a second.
 bench-text:
-	rt check text_steps
+	tests/build.sh text_steps
 	node bench/text.mjs make > target/text-lines
 	node bench/text.mjs compare target/bin/text_steps target/text-lines
 
@@ -67,17 +67,17 @@ vectors: lib
 SEED = 1
 CALLS = 356000
 engines:
-	rt check replay
+	tests/build.sh replay
 	for engine in node gjs jsc; do if command -v $$engine > /dev/null; then sh tests/engines.sh $$engine $(SEED) $(CALLS) || exit 1; fi; done
 
 # A smaller part of the same, on node alone: of fewer calls the rarest messages may be missing.
 engine-check:
-	rt check replay
+	tests/build.sh replay
 	sh tests/engines.sh node 7 89000
 
 # Whether the comparison notices a change in each part of an expectation. It needs python3.
 engine-damage:
-	rt check replay
+	tests/build.sh replay
 	python3 tests/engines-damage.py
 
 # gjs and jsc, from Debian's packages.
@@ -90,9 +90,7 @@ messages:
 
 # The library for C and Rust: target/lib/libdemnyaluz.a, and include/demnyaluz.h says how it is called.
 lib:
-	rt staticlib demnyaluz
-	mkdir -p target/lib
-	cp target/staticlib/libdemnyaluz.a target/lib/libdemnyaluz.a
+	tests/build.sh demnyaluz
 
 # The library through its header, by seven C programs, one of them as C++ too and two under valgrind too. It needs gcc, g++ and valgrind, which is not
 # asked for undefined values: it takes the sign of a word for undefined where other bits of the word are padding. The library has no other names.

@@ -1,12 +1,16 @@
 #!/bin/sh
-# The must-fail edits that the gate leaves out (crates/NAME/more-must-fail), of the crates named, or of all: each must be refused, and by a
-# proof of the module that it changes. The last line has the counts.
+# The must-fail edits that the gate leaves out (crates/NAME/more-must-fail), of the crates named, or of all: each must be refused, and first in
+# the module that it changes. The last line has the counts. It works on a copy in which they stand in must-fail/.
 set -eu
 root=$(cd "$(dirname "$0")/.." && pwd)
 copy=$(mktemp -d)
 trap 'rm -rf "$copy"' EXIT
-cp -R "$root/crates" "$root/crates.txt" "$copy"
-if [ -d "$root/target" ]; then cp -R "$root/target" "$copy/target"; fi
+cd "$root"
+handles=
+if [ -f HANDLES ]; then handles=HANDLES; fi
+# Without what rt made: it finds what a check of this checkout kept.
+# shellcheck disable=SC2086
+tar -cf - --exclude='crates/*/out' crates crates.txt $handles | tar -C "$copy" -xf -
 rm -rf "$copy"/crates/*/must-fail
 tried=0
 names=
@@ -25,34 +29,26 @@ for crate in "$@"; do
 done
 if [ -z "$names" ]; then echo 'edits: 0 tried'; exit 0; fi
 cd "$copy"
-# Edits wait for their neighbours: two for each processor keep all busy.
-RT_JOBS=${RT_JOBS:-$(($(nproc) * 2))}
-export RT_JOBS
 status=0
 # shellcheck disable=SC2086
-rt must-fail $names > log || status=$?
-grep '^rt: must-fail\|NOT PROVED\|FAILED' log || true
-# The module of src/MODULE.rt has its proofs in proofs/MODULE, the root (src/lib.rt, src/main.rt) in the other folders. An error at `close` says
-# that something called there is not proved: a function whose proof nobody wrote, and only the changed one can be that. An edit of a definition
-# is refused by a law.
+rt must-fail $names > log 2>&1 || status=$?
+grep '^rt: must-fail\|BAD EDIT\|NOT REFUSED\|NOT TRIED' log || cat log
+# Where the first error of an edit's check stands: src/MODULE.rt, or proofs/MODULE for its proofs; the root (src/lib.rt, src/main.rt) has its proofs
+# in the other folders, and functions that call one another have theirs in a folder with a '+'. An edit of a definition is refused by a law.
 elsewhere=0
 for edit in crates/*/must-fail/*.edit; do
     crate=$(echo "$edit" | cut -d/ -f2)
-    label=$(basename "$edit" .edit)
+    label=$(basename "$edit")
     module=$(sed -n 's,^file: src/\(.*\)\.rt$,\1,p' "$edit" | head -n 1)
-    first=$(sed -n "s,^rt: must-fail $crate/$label: refused.*first at \([^;]*\);.*,\1,p" log)
+    first=$(sed -n "s,^rt: must-fail $crate/$label: refused\, as it must be,,p" log | sed 's,^ ([^)]*),,; s,^: ,,; s,^note: ,,; s,^\./,,')
     if [ -z "$module" ] || [ -z "$first" ] || grep -q '^file: specs/' "$edit"; then continue; fi
-    case $first in "src/$module.rt"* | "proofs/$module/"*) continue ;; esac
+    case $first in "src/$module.rt:"* | "proofs/$module/"* | proofs/+* | proofs/*/+*) continue ;; esac
     folder=$(echo "$first" | cut -d/ -f2)
-    case $module in lib | main) if [ ! -f "crates/$crate/src/$folder.rt" ]; then continue; fi ;; esac
-    file=target/must-fail/$crate/$label/${first%%:*}
-    place=${first#*:}
-    if [ -f "$file" ]; then
-        case $(sed -n "${place%%:*}p" "$file" | cut -c "${place##*:}-") in close* | tie.close*) continue ;; esac
-    fi
+    case $module:$first in lib:proofs/* | main:proofs/*) if [ ! -f "crates/$crate/src/$folder.rt" ]; then continue; fi ;; esac
     elsewhere=$((elsewhere + 1))
-    echo "edits: $crate/$label changes src/$module.rt and is first refused at $first"
+    echo "edits: $crate/$label changes src/$module.rt and is first refused at $(echo "$first" | cut -d: -f1-3)"
 done
 refused=$(grep -c '^rt: must-fail .*: refused, as it must be' log || true)
-echo "edits: $tried tried, $refused refused, $elsewhere of them first in another module"
+little=$(grep -c '^rt: must-fail .*: refused, as it must be (' log || true)
+echo "edits: $tried tried, $refused refused, $little of them only by a name that a proof file has or by a limit, $elsewhere first in another module"
 [ "$status" -eq 0 ] && [ "$refused" -eq "$tried" ] && [ "$elsewhere" -eq 0 ]

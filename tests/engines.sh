@@ -5,7 +5,7 @@
 #
 # It fails unless all calls were compared, none differed, and every message and every refusal occurred; of 20,000 calls and more, every number of a
 # validation too, of a page refusals 2, 3 and 11, and of releases refusal 14 for each way of being named and 2 for each place of a released number.
-# target/bin/replay is there after 'rt check replay'.
+# target/bin/replay is there after 'tests/build.sh replay'.
 set -e
 cat tests/engines/*.js > target/engines.js
 case $1 in
