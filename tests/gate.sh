@@ -15,5 +15,5 @@ tally=$(grep '^[0-9]* passed, [0-9]* failed$' "$log" | tail -n 1)
 case $tally in *' passed, 0 failed') ;; *) exit 1 ;; esac
 if grep -q '^rt ci failed$' "$log"; then exit 1; fi
 if grep -q '^rt: ok;.*, [0-9]* bad' "$log"; then echo 'a must-fail edit is bad'; exit 1; fi
-make engine-check text-check day-check validation-check c-test bindings cost
+CI_BUILT=yes make engine-check text-check day-check validation-check c-test bindings cost
 echo "$tally"
