@@ -30,6 +30,15 @@ def table():
 narrow = set()
 
 
+# Today's library has an operator of this name: ours, which chooses between two computations, gets another.
+OPERATOR = ("if◌then◌else◌", "when◌then◌else◌")
+
+
+def operator(code, path):
+    code = code.replace(*OPERATOR)
+    return re.sub(r"(?<![^\s(])if(?=\s)", "when", code) if "/specs/" in path else code
+
+
 def words(text, names):
     """The text with each word respelled; of the third column's, neither a field nor a path's part."""
     def one(m):
@@ -51,11 +60,13 @@ def in_backticks(text, names):
     return re.sub(r"`[^`]*`", lambda m: words(m.group(0), names), text)
 
 
-def line_of(line, mark, names):
+def line_of(line, mark, names, path):
     if line.lstrip().startswith(mark):
         return in_backticks(line, names)
     m = re.search(r"(?:^|\s)" + re.escape(mark) + r"\s", line)
     code, comment = (line[: m.start()], line[m.start() :]) if m else (line, "")
+    if mark == "--":
+        code = operator(code, path)
     return outside_quotes(code, names) + in_backticks(comment, names)
 
 
@@ -75,7 +86,7 @@ def main():
             for old, new, where in somewhere:
                 if any(w in text or path.endswith(w) for w in where.split(" | ")):
                     names[old] = new
-            out = "".join(line_of(line, mark, names) for line in text.splitlines(True))
+            out = "".join(line_of(line, mark, names, path) for line in text.splitlines(True))
             if out != text:
                 with open(path, "w", encoding="utf-8") as h:
                     h.write(out)

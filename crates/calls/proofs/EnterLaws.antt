@@ -16,7 +16,7 @@ use Rattle.store.specs.declared.Object.TheVariants as object
 use Rattle.store.specs.Store.{Store, lookup}
 use Rattle.store.specs.OwnKeys.{ordinary_own_property_keys}
 use Rattle.internal_methods.specs.declared.Failure.TheVariants.{Refused, TypeError}
-use Rattle.internal_methods.specs.Monad.{State, Out, failed, M, pure, fails, next, ◌>>=◌, ◌>>◌, throw_if, if◌then◌else◌, counted, tick, dispatched, dispatch}
+use Rattle.internal_methods.specs.Monad.{State, Out, failed, M, pure, fails, next, ◌>>=◌, ◌>>◌, throw_if, when◌then◌else◌, counted, tick, dispatched, dispatch}
 use Rattle.internal_methods.specs.Methods.{Context}
 use Rattle.internal_methods.specs.Ordinary.{ordinary_get_prototype_of, ordinary_set_prototype_of, ordinary_is_extensible, ordinary_prevent_extensions, ordinary_get_own_property, ordinary_define_own_property, ordinary_has_property, ordinary_get, ordinary_set, ordinary_delete}
 use Rattle.internal_methods.specs.Proxy.{has_trap, proxy_get_prototype_of, proxy_set_prototype_of, proxy_is_extensible, proxy_prevent_extensions, proxy_get_own_property, proxy_define_own_property, proxy_has_property, proxy_get, proxy_set, proxy_delete, proxy_own_property_keys}
@@ -85,47 +85,47 @@ module _ {A : Type 0} (trap : ℕ) (σ : Store) (F : ℕ → ℕ → M A) (f : �
 -- each method
 module _ (c : Context) (sheet : List ℕ) (o : ℕ) (s : Progress) where
   pub get-prototype-of-goes-on : (depth : ℕ) → ((methods depth c).get_prototype_of o).run (state_of sheet s) ≡ after c.store (λ n q r. pure (ordinary_get_prototype_of r)) (λ n p. proxy_get_prototype_of (methods n c) p) sheet (entering 0 c.store o depth s)
-  unfolding methods proxy_get_prototype_of fails if◌then◌else◌
+  unfolding methods proxy_get_prototype_of fails when◌then◌else◌
   get-prototype-of-goes-on depth = arrives 0 c.store (λ n q. (methods n c).get_prototype_of q) (λ n q r. pure (ordinary_get_prototype_of r)) (λ n p. proxy_get_prototype_of (methods n c) p) (λ q t. refl) (λ n q. refl) (λ n p e. rw e) sheet o depth s
 
   pub set-prototype-of-goes-on : (v : Value) (depth : ℕ) → ((methods depth c).set_prototype_of o v).run (state_of sheet s) ≡ after c.store (λ n q r. pure (ordinary_set_prototype_of c.store q r v)) (λ n p. proxy_set_prototype_of c (methods n c) p v) sheet (entering 1 c.store o depth s)
-  unfolding methods proxy_set_prototype_of fails if◌then◌else◌
+  unfolding methods proxy_set_prototype_of fails when◌then◌else◌
   set-prototype-of-goes-on v depth = arrives 1 c.store (λ n q. (methods n c).set_prototype_of q v) (λ n q r. pure (ordinary_set_prototype_of c.store q r v)) (λ n p. proxy_set_prototype_of c (methods n c) p v) (λ q t. refl) (λ n q. refl) (λ n p e. rw e) sheet o depth s
 
   pub is-extensible-goes-on : (depth : ℕ) → ((methods depth c).is_extensible o).run (state_of sheet s) ≡ after c.store (λ n q r. pure (ordinary_is_extensible r)) (λ n p. proxy_is_extensible c (methods n c) p) sheet (entering 2 c.store o depth s)
-  unfolding methods proxy_is_extensible fails if◌then◌else◌
+  unfolding methods proxy_is_extensible fails when◌then◌else◌
   is-extensible-goes-on depth = arrives 2 c.store (λ n q. (methods n c).is_extensible q) (λ n q r. pure (ordinary_is_extensible r)) (λ n p. proxy_is_extensible c (methods n c) p) (λ q t. refl) (λ n q. refl) (λ n p e. rw e) sheet o depth s
 
   pub prevent-extensions-goes-on : (depth : ℕ) → ((methods depth c).prevent_extensions o).run (state_of sheet s) ≡ after c.store (λ n q r. pure (ordinary_prevent_extensions c.store q r)) (λ n p. proxy_prevent_extensions c (methods n c) p) sheet (entering 3 c.store o depth s)
-  unfolding methods proxy_prevent_extensions fails if◌then◌else◌
+  unfolding methods proxy_prevent_extensions fails when◌then◌else◌
   prevent-extensions-goes-on depth = arrives 3 c.store (λ n q. (methods n c).prevent_extensions q) (λ n q r. pure (ordinary_prevent_extensions c.store q r)) (λ n p. proxy_prevent_extensions c (methods n c) p) (λ q t. refl) (λ n q. refl) (λ n p e. rw e) sheet o depth s
 
   pub get-own-property-goes-on : (k : PropertyKey) (depth : ℕ) → ((methods depth c).get_own_property o k).run (state_of sheet s) ≡ after c.store (λ n q r. pure (ordinary_get_own_property c.store q k)) (λ n p. proxy_get_own_property (methods n c) p k) sheet (entering 4 c.store o depth s)
-  unfolding methods proxy_get_own_property fails if◌then◌else◌
+  unfolding methods proxy_get_own_property fails when◌then◌else◌
   get-own-property-goes-on k depth = arrives 4 c.store (λ n q. (methods n c).get_own_property q k) (λ n q r. pure (ordinary_get_own_property c.store q k)) (λ n p. proxy_get_own_property (methods n c) p k) (λ q t. refl) (λ n q. refl) (λ n p e. rw e) sheet o depth s
 
   pub define-own-property-goes-on : (k : PropertyKey) (d : PropertyDescriptor) (depth : ℕ) → ((methods depth c).define_own_property o k d).run (state_of sheet s) ≡ after c.store (λ n q r. ordinary_define_own_property c (methods n c) q k d) (λ n p. proxy_define_own_property c (methods n c) p k d) sheet (entering 5 c.store o depth s)
-  unfolding methods proxy_define_own_property fails if◌then◌else◌
+  unfolding methods proxy_define_own_property fails when◌then◌else◌
   define-own-property-goes-on k d depth = arrives 5 c.store (λ n q. (methods n c).define_own_property q k d) (λ n q r. ordinary_define_own_property c (methods n c) q k d) (λ n p. proxy_define_own_property c (methods n c) p k d) (λ q t. refl) (λ n q. refl) (λ n p e. rw e) sheet o depth s
 
   pub has-property-goes-on : (k : PropertyKey) (depth : ℕ) → ((methods depth c).has_property o k).run (state_of sheet s) ≡ after c.store (λ n q r. ordinary_has_property (methods n c) q k) (λ n p. proxy_has_property c (methods n c) p k) sheet (entering 6 c.store o depth s)
-  unfolding methods proxy_has_property fails if◌then◌else◌
+  unfolding methods proxy_has_property fails when◌then◌else◌
   has-property-goes-on k depth = arrives 6 c.store (λ n q. (methods n c).has_property q k) (λ n q r. ordinary_has_property (methods n c) q k) (λ n p. proxy_has_property c (methods n c) p k) (λ q t. refl) (λ n q. refl) (λ n p e. rw e) sheet o depth s
 
   pub get-goes-on : (k : PropertyKey) (receiver : Value) (depth : ℕ) → ((methods depth c).get o k receiver).run (state_of sheet s) ≡ after c.store (λ n q r. ordinary_get (methods n c) q k receiver) (λ n p. proxy_get (methods n c) p k receiver) sheet (entering 7 c.store o depth s)
-  unfolding methods proxy_get fails if◌then◌else◌
+  unfolding methods proxy_get fails when◌then◌else◌
   get-goes-on k receiver depth = arrives 7 c.store (λ n q. (methods n c).get q k receiver) (λ n q r. ordinary_get (methods n c) q k receiver) (λ n p. proxy_get (methods n c) p k receiver) (λ q t. refl) (λ n q. refl) (λ n p e. rw e) sheet o depth s
 
   pub set-goes-on : (k : PropertyKey) (v : Value) (receiver : Value) (depth : ℕ) → ((methods depth c).set o k v receiver).run (state_of sheet s) ≡ after c.store (λ n q r. ordinary_set c (methods n c) q k v receiver) (λ n p. proxy_set c (methods n c) p k v receiver) sheet (entering 8 c.store o depth s)
-  unfolding methods proxy_set fails if◌then◌else◌
+  unfolding methods proxy_set fails when◌then◌else◌
   set-goes-on k v receiver depth = arrives 8 c.store (λ n q. (methods n c).set q k v receiver) (λ n q r. ordinary_set c (methods n c) q k v receiver) (λ n p. proxy_set c (methods n c) p k v receiver) (λ q t. refl) (λ n q. refl) (λ n p e. rw e) sheet o depth s
 
   pub delete-goes-on : (k : PropertyKey) (depth : ℕ) → ((methods depth c).delete o k).run (state_of sheet s) ≡ after c.store (λ n q r. ordinary_delete c (methods n c) q k) (λ n p. proxy_delete c (methods n c) p k) sheet (entering 9 c.store o depth s)
-  unfolding methods proxy_delete fails if◌then◌else◌
+  unfolding methods proxy_delete fails when◌then◌else◌
   delete-goes-on k depth = arrives 9 c.store (λ n q. (methods n c).delete q k) (λ n q r. ordinary_delete c (methods n c) q k) (λ n p. proxy_delete c (methods n c) p k) (λ q t. refl) (λ n q. refl) (λ n p e. rw e) sheet o depth s
 
   pub own-property-keys-goes-on : (depth : ℕ) → ((methods depth c).own_property_keys o).run (state_of sheet s) ≡ after c.store (λ n q r. pure (ordinary_own_property_keys c.strings c.store q)) (λ n p. proxy_own_property_keys (methods n c) p) sheet (entering 10 c.store o depth s)
-  unfolding methods proxy_own_property_keys fails if◌then◌else◌
+  unfolding methods proxy_own_property_keys fails when◌then◌else◌
   own-property-keys-goes-on depth = arrives 10 c.store (λ n q. (methods n c).own_property_keys q) (λ n q r. pure (ordinary_own_property_keys c.strings c.store q)) (λ n p. proxy_own_property_keys (methods n c) p) (λ q t. refl) (λ n q. refl) (λ n p e. rw e) sheet o depth s
 
 -- what is known of the place where a call arrived: it is deeper, and no answer was taken

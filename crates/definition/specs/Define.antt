@@ -9,7 +9,7 @@ use Rattle.property.specs.declared.OwnProperty.TheVariants.{Absent, Present}
 use Rattle.property.specs.Fields.{is_false, writable_field, configurable}
 use Rattle.property.specs.Validate.{is_compatible}
 use Rattle.store.specs.Store.{maximum_properties}
-use Rattle.internal_methods.specs.Monad.{M, pure, ◌>>=◌, ◌>>◌, throw_if, if◌then◌else◌}
+use Rattle.internal_methods.specs.Monad.{M, pure, ◌>>=◌, ◌>>◌, throw_if, when◌then◌else◌}
 use Rattle.internal_methods.specs.Answers.{ask_boolean}
 use Rattle.internal_methods.specs.Methods.{Context, Methods, Written}
 use Rattle.internal_methods.specs.Proxy.{is_writable}
@@ -51,7 +51,7 @@ checked_definition c extensible_target d target_desc = elim target_desc [
 unfoldable pub defined_by_trap : Context → Methods → ℕ → PropertyKey → PropertyDescriptor → M Written
 defined_by_trap c call o k d = do
   boolean_trap_result ← ask_boolean c.strings  -- 7, 8
-  if not boolean_trap_result then pure (false, c.store)  -- 9
+  when not boolean_trap_result then pure (false, c.store)  -- 9
       else do
         target_desc ← call.get_own_property o k  -- 10
         extensible_target ← call.is_extensible o  -- 11

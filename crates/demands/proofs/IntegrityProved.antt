@@ -26,7 +26,7 @@ use Rattle.text.specs.Strings.{Strings}
 use Rattle.store.specs.OwnKeys.{ordinary_own_property_keys}
 use Rattle.store.proofs.StoreLaws.{same_place, place-eq, lookup-with, own-with, lookup-put}
 use Rattle.internal_methods.specs.declared.Failure.{Failure}
-use Rattle.internal_methods.specs.Monad.{Answer, State, state, Out, pure, next, ◌>>=◌, if◌then◌else◌}
+use Rattle.internal_methods.specs.Monad.{Answer, State, state, Out, pure, next, ◌>>=◌, when◌then◌else◌}
 use Rattle.internal_methods.specs.Methods.{Context, Methods, Written}
 use Rattle.internal_methods.specs.KeyList.{has_key}
 use Rattle.internal_methods.specs.Ordinary.{apply_validation, ordinary_prevent_extensions, ordinary_define_own_property}
@@ -281,21 +281,21 @@ module _ (c : Context) (o : ℕ) (level tested : Level) (h : HasLevel level c.st
   tight (Present p) k e = fixed-tight level tested covered p (h.fixed k p e)
 
   tests-run : (n : ℕ) (ks : List PropertyKey) (m : ℕ) → (test_properties (methods (suc n) c) o tested ks).run (state a (length ks + m)) ≡ Out.done true (state a m)
-  unfolding test_properties ◌>>=◌ next pure if◌then◌else◌
+  unfolding test_properties ◌>>=◌ next pure when◌then◌else◌
   tests-run n [] m = ap (λ (i : ℕ). Out.done true (state a i)) (let z : 0 + m ≡ m = omega arith in z)
   tests-run n (k ∷ ks) m =
       let counts : suc (length ks) + m ≡ suc (length ks + m) = omega arith in
-      rw counts (ap (next (λ d. if◌then◌else◌ (is_loose tested d) (pure false) (test_properties (methods (suc n) c) o tested ks))) (own-run c o h.object h.found a n (length ks + m) k _ refl)
-      ∙ (ap (λ (b : Bool). (if◌then◌else◌ b (pure false) (test_properties (methods (suc n) c) o tested ks)).run (state a (length ks + m))) (tight (own c.store o k) k refl) ∙ tests-run n ks m))
+      rw counts (ap (next (λ d. when◌then◌else◌ (is_loose tested d) (pure false) (test_properties (methods (suc n) c) o tested ks))) (own-run c o h.object h.found a n (length ks + m) k _ refl)
+      ∙ (ap (λ (b : Bool). (when◌then◌else◌ b (pure false) (test_properties (methods (suc n) c) o tested ks)).run (state a (length ks + m))) (tight (own c.store o k) k refl) ∙ tests-run n ks m))
 
   abbrev listed : List PropertyKey
   listed = ordinary_own_property_keys c.strings c.store o
 
   test-run : (n m : ℕ) → (TestIntegrityLevel.test_integrity_level (methods (suc n) c) o tested).run (state a (suc (suc (length listed + m)))) ≡ Out.done true (state a m)
-  unfolding TestIntegrityLevel.test_integrity_level ◌>>=◌ next pure if◌then◌else◌
+  unfolding TestIntegrityLevel.test_integrity_level ◌>>=◌ next pure when◌then◌else◌
   test-run n m =
-      ap (next (λ x. if◌then◌else◌ x (pure false) ((methods (suc n) c).own_property_keys o >>= λ ks. test_properties (methods (suc n) c) o tested ks))) (extensible-run c o h.object h.found a n (suc (length listed + m)))
-      ∙ (ap (λ (b : Bool). (if◌then◌else◌ b (pure false) ((methods (suc n) c).own_property_keys o >>= λ ks. test_properties (methods (suc n) c) o tested ks)).run (state a (suc (length listed + m)))) h.non_extensible
+      ap (next (λ x. when◌then◌else◌ x (pure false) ((methods (suc n) c).own_property_keys o >>= λ ks. test_properties (methods (suc n) c) o tested ks))) (extensible-run c o h.object h.found a n (suc (length listed + m)))
+      ∙ (ap (λ (b : Bool). (when◌then◌else◌ b (pure false) ((methods (suc n) c).own_property_keys o >>= λ ks. test_properties (methods (suc n) c) o tested ks)).run (state a (suc (length listed + m)))) h.non_extensible
       ∙ (ap (next (λ ks. test_properties (methods (suc n) c) o tested ks)) (keys-run c o h.object h.found a n (length listed + m)) ∙ tests-run n listed m))
 
   perform-tells : (n m : ℕ) → (perform (suc n) c (test_integrity_level o tested)).run (state a (suc (suc (length listed + m)))) ≡ (Out.done (boolean true) (state a m), c.store)
@@ -463,12 +463,12 @@ module _ (c : Context) (o : ℕ) (level : Level) (a : List Answer) (n : ℕ) whe
 
   set-run : (σ : Store) (r : OrdinaryObject) → lookup σ o ≡ some (Ordinary r) → (m : ℕ)
       → (τ : Store) × ((SetIntegrityLevel.set_integrity_level calls o level).run σ (state a (suc (suc (spent (listing (prevented r σ)) + m)))) ≡ (Out.done true (state a m), τ))
-  unfolding SetIntegrityLevel.set_integrity_level sequence.◌>>=◌ sequence.next sequence.writes sequence.reads sequence.if◌then◌else◌ sequence.pure methods pure
+  unfolding SetIntegrityLevel.set_integrity_level sequence.◌>>=◌ sequence.next sequence.writes sequence.reads sequence.when◌then◌else◌ sequence.pure methods pure
   set-run σ r e m =
       let h = ready σ r e in
       let ks = listing (prevented r σ) in
       let rest = turns-run ks (prevented r σ) h m in
-      let status : Bool → Sequence Bool = λ b. sequence.if◌then◌else◌ (not b) (sequence.pure false) (sequence.◌>>=◌ (sequence.reads (λ υ. (calls υ).own_property_keys o)) (λ keys. sequence.◌>>=◌ (for_each (turn calls o level) keys) (λ _. sequence.pure true))) in (
+      let status : Bool → Sequence Bool = λ b. sequence.when◌then◌else◌ (not b) (sequence.pure false) (sequence.◌>>=◌ (sequence.reads (λ υ. (calls υ).own_property_keys o)) (λ keys. sequence.◌>>=◌ (for_each (turn calls o level) keys) (λ _. sequence.pure true))) in (
         rest.0,
         ap (λ (x : Out Written). sequence.next status (written σ x).0 (written σ x).1) (ordinary-run σ o (λ s. pure (ordinary_prevent_extensions σ o s)) (λ p. proxy_prevent_extensions (over c σ) (methods (suc n) (over c σ)) p) r e a (suc (spent ks + m)))
             ∙ (ap (λ (x : Out (List PropertyKey)). sequence.next (λ keys. sequence.◌>>=◌ (for_each (turn calls o level) keys) (λ _. sequence.pure true)) x (prevented r σ)) (keys-run (over c (prevented r σ)) o h.object h.found a (suc n) (spent ks + m))

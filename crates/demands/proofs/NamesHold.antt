@@ -19,7 +19,7 @@ use Rattle.store.proofs.ReleaseLaws.{lookup-left, function-released}
 use Rattle.store.proofs.NumberLaws.{Numbered, numbered-fresh, live-counted}
 use Rattle.internal_methods.specs.declared.Failure.{Failure}
 use Rattle.internal_methods.specs.declared.Failure.TheVariants.{Refused}
-use Rattle.internal_methods.specs.Monad.{Answer, State, state, Out, pure, fails, if◌then◌else◌}
+use Rattle.internal_methods.specs.Monad.{Answer, State, state, Out, pure, fails, when◌then◌else◌}
 use Rattle.internal_methods.proofs.Later.{IsOrdinary, lasts-ordinary, Grows, grows-add}
 use Rattle.record.specs.Sheet.{sheet_of}
 use Rattle.record.specs.Tests.{Counts, is_made, is_known}
@@ -122,10 +122,10 @@ module _ (ω : World) (numbered : Numbered ω.store) where
 
   function-made : (v : Value) (s : State) (r : Result) (t : State) (σ : Store) → (perform maximum_calls (context_of ω) (make_function v)).run s ≡ (Out.done r t, σ)
       → (r ≡ result.value (value.Function (next_number ω.store))) × IsFunction σ (next_number ω.store) v
-  unfolding perform once make if◌then◌else◌ pure fails
+  unfolding perform once make when◌then◌else◌ pure fails
   function-made v s r t σ = go (ltb (live_count ω.store) maximum_objects) refl
     where
-      go : (room : Bool) → ltb (live_count ω.store) maximum_objects ≡ room → written ω.store ((if◌then◌else◌ room (pure (result.value (value.Function (next_number ω.store)), add ω.store (Ordinary (record { prototype = v; extensible = true })) true)) (fails (Refused 7))).run s) ≡ (Out.done r t, σ)
+      go : (room : Bool) → ltb (live_count ω.store) maximum_objects ≡ room → written ω.store ((when◌then◌else◌ room (pure (result.value (value.Function (next_number ω.store)), add ω.store (Ordinary (record { prototype = v; extensible = true })) true)) (fails (Refused 7))).run s) ≡ (Out.done r t, σ)
           → (r ≡ result.value (value.Function (next_number ω.store))) × IsFunction σ (next_number ω.store) v
       go true l e =
           let (j, k) = made-is e in

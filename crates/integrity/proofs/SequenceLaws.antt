@@ -16,7 +16,7 @@ use Rattle.internal_methods.specs.declared.Failure.TheVariants.{TypeError}
 use Rattle.internal_methods.specs.Monad.{State, failed, done}
 use Rattle.internal_methods.specs.Methods.{Methods}
 use Rattle.steps.specs.Operation.{Level}
-use Rattle.steps.specs.Sequence.{Sequence, pure, fails, reads, writes, next, ◌>>=◌, if◌then◌else◌, throw_if, for_each}
+use Rattle.steps.specs.Sequence.{Sequence, pure, fails, reads, writes, next, ◌>>=◌, when◌then◌else◌, throw_if, for_each}
 use Rattle.steps.specs.SetIntegrityLevel.{frozen_descriptor, define_property_or_throw, freeze_property, turn, set_integrity_level}
 use Rattle.integrity.specs.Outs.{set_keys}
 
@@ -74,11 +74,11 @@ module _ (call : Store → Methods) (o : ℕ) (σ : Store) (s : State) where
 
     module _ (b : Bool) (τ : Store) (t : State) (e : done (b, τ) t ≡ ((call σ).prevent_extensions o).run s) where
       pub level-refused : (υ : Store) → b ≡ false → υ ≡ τ → (done false t, υ) ≡ (set_integrity_level call o level).run σ s
-      unfolding set_integrity_level writes next ◌>>=◌ if◌then◌else◌ pure
+      unfolding set_integrity_level writes next ◌>>=◌ when◌then◌else◌ pure
       level-refused υ q r = rw (sym e, q, r)
 
       pub level-keys : (υ : Store) → b ≡ true → υ ≡ τ → (set_keys call o level).run υ t ≡ (set_integrity_level call o level).run σ s
-      unfolding set_integrity_level set_keys writes next ◌>>=◌ if◌then◌else◌
+      unfolding set_integrity_level set_keys writes next ◌>>=◌ when◌then◌else◌
       level-keys υ q r = rw (sym e, q, r)
 
 -- the keys from i on still have their turns

@@ -14,7 +14,7 @@ use Rattle.property.specs.declared.OwnProperty.TheVariants.{Present}
 use Rattle.store_read.specs.Answers.{key_from_word}
 use Rattle.store_read.proofs.ListLaws.{next_word, no_more}
 use Rattle.internal_methods.specs.declared.Failure.{Failure}
-use Rattle.internal_methods.specs.Monad.{State, failed, done, pure, next, ◌>>=◌, if◌then◌else◌}
+use Rattle.internal_methods.specs.Monad.{State, failed, done, pure, next, ◌>>=◌, when◌then◌else◌}
 use Rattle.internal_methods.specs.Methods.{Methods}
 use Rattle.steps.specs.Operation.{Level}
 use Rattle.steps.specs.TestIntegrityLevel.{is_loose, test_properties, test_integrity_level}
@@ -58,21 +58,21 @@ module _ (call : Methods) (o : ℕ) (level : Level) (s : State) where
 
       module _ (p : OwnProperty) (t : State) (e : done p t ≡ (call.get_own_property o (key_from_word (get_or ws i 0))).run s) where
         looked : (test_properties call o level (map key_from_word (drop i (take n ws)))).run s
-            ≡ (if◌then◌else◌ (is_loose level p) (pure false) (test_properties call o level (map key_from_word (drop (i + 1) (take n ws))))).run t
+            ≡ (when◌then◌else◌ (is_loose level p) (pure false) (test_properties call o level (map key_from_word (drop (i + 1) (take n ws))))).run t
         unfolding test_properties next ◌>>=◌
         looked = rw (next_word ws n i h l, sym e)
 
         chosen : (b : Bool) → is_loose level p ≡ b → (test_properties call o level (map key_from_word (drop i (take n ws)))).run s
-            ≡ (if◌then◌else◌ b (pure false) (test_properties call o level (map key_from_word (drop (i + 1) (take n ws))))).run t
-        chosen b q = looked ∙ ap (λ (x : Bool). (if◌then◌else◌ x (pure false) (test_properties call o level (map key_from_word (drop (i + 1) (take n ws))))).run t) q
+            ≡ (when◌then◌else◌ b (pure false) (test_properties call o level (map key_from_word (drop (i + 1) (take n ws))))).run t
+        chosen b q = looked ∙ ap (λ (x : Bool). (when◌then◌else◌ x (pure false) (test_properties call o level (map key_from_word (drop (i + 1) (take n ws))))).run t) q
 
         pub test-loose : is_loose level p ≡ true → (test_properties call o level (map key_from_word (drop i (take n ws)))).run s ≡ done false t
-        unfolding if◌then◌else◌ pure
+        unfolding when◌then◌else◌ pure
         test-loose q = chosen true q
 
         pub test-more : is_loose level p ≡ false
             → (test_properties call o level (map key_from_word (drop i (take n ws)))).run s ≡ (test_properties call o level (map key_from_word (drop (i + 1) (take n ws)))).run t
-        unfolding if◌then◌else◌
+        unfolding when◌then◌else◌
         test-more q = chosen false q
 
     pub test-end : n ≤ i → (test_properties call o level (map key_from_word (drop i (take n ws)))).run s ≡ done true s
@@ -95,9 +95,9 @@ module _ (call : Methods) (o : ℕ) (level : Level) (s : State) where
 
   module _ (b : Bool) (t : State) (e : done b t ≡ (call.is_extensible o).run s) where
     pub level-extensible : b ≡ true → done false t ≡ (test_integrity_level call o level).run s
-    unfolding test_integrity_level next ◌>>=◌ if◌then◌else◌ pure
+    unfolding test_integrity_level next ◌>>=◌ when◌then◌else◌ pure
     level-extensible q = rw (sym e, q)
 
     pub level-keys : b ≡ false → (test_keys call o level).run t ≡ (test_integrity_level call o level).run s
-    unfolding test_integrity_level test_keys next ◌>>=◌ if◌then◌else◌
+    unfolding test_integrity_level test_keys next ◌>>=◌ when◌then◌else◌
     level-keys q = rw (sym e, q)

@@ -22,7 +22,7 @@ use Rattle.property.specs.Validate.{validate}
 use Rattle.property.proofs.ValueLaws.{validate-by}
 use Rattle.internal_methods.specs.declared.Failure.{Failure}
 use Rattle.internal_methods.specs.declared.Failure.TheVariants.{Refused, TypeError, Thrown}
-use Rattle.internal_methods.specs.Monad.{Answer, State, state, Out, M, pure, fails, next, ◌>>=◌, ◌>>◌, throw_if, throw_any, answered, ask, counted, tick, dispatched, dispatch, if◌then◌else◌}
+use Rattle.internal_methods.specs.Monad.{Answer, State, state, Out, M, pure, fails, next, ◌>>=◌, ◌>>◌, throw_if, throw_any, answered, ask, counted, tick, dispatched, dispatch, when◌then◌else◌}
 use Rattle.internal_methods.specs.Methods.{Context, Methods, Written}
 use Rattle.internal_methods.specs.Ordinary.{is_full, apply_validation}
 use Rattle.internal_methods.specs.Internal.{methods}
@@ -198,8 +198,8 @@ steady-asking c n = record {
 }
 
 -- a write, if there is room
-steady-room : (c : Context) (n : ℕ) (b : Bool) → is_full c ≡ b → (w : Written) → KeptBy c w → Steady c n (if◌then◌else◌ b (fails (Refused 7)) (pure w)) (if◌then◌else◌ b (fails (Refused 7)) (pure w)) (KeptBy c)
-unfolding if◌then◌else◌
+steady-room : (c : Context) (n : ℕ) (b : Bool) → is_full c ≡ b → (w : Written) → KeptBy c w → Steady c n (when◌then◌else◌ b (fails (Refused 7)) (pure w)) (when◌then◌else◌ b (fails (Refused 7)) (pure w)) (KeptBy c)
+unfolding when◌then◌else◌
 steady-room c n true e w k = steady-fails _ (λ t. full e)
 steady-room c n false e w k = steady-pure w k
 

@@ -10,7 +10,7 @@ use Rattle.store.specs.declared.Object.TheVariants.{Ordinary, Proxy}
 use Rattle.store.specs.Store.{Store, lookup}
 use Rattle.internal_methods.specs.declared.Failure.{Failure}
 use Rattle.internal_methods.specs.declared.Failure.TheVariants.{Refused, TypeError}
-use Rattle.internal_methods.specs.Monad.{State, Out, failed, done, M, pure, fails, next, ◌>>=◌, ◌>>◌, throw_if, throw_any, if◌then◌else◌, dispatched, dispatch}
+use Rattle.internal_methods.specs.Monad.{State, Out, failed, done, M, pure, fails, next, ◌>>=◌, ◌>>◌, throw_if, throw_any, when◌then◌else◌, dispatched, dispatch}
 use Rattle.internal_methods.proofs.Base.{Active}
 
 -- of a method that fails nothing is said
@@ -41,8 +41,8 @@ module _ {A B : Type 0} where
   }
 
 module _ {A : Type 0} {Q : A → Type 0} where
-  pub ensures-if : {m k : M A} (b : Bool) → (b ≡ true → Ensures m Q) → (b ≡ false → Ensures k Q) → Ensures (if◌then◌else◌ b m k) Q
-  unfolding if◌then◌else◌
+  pub ensures-if : {m k : M A} (b : Bool) → (b ≡ true → Ensures m Q) → (b ≡ false → Ensures k Q) → Ensures (when◌then◌else◌ b m k) Q
+  unfolding when◌then◌else◌
   ensures-if true f g = f refl
   ensures-if false f g = g refl
 

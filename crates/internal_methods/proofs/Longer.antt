@@ -19,7 +19,7 @@ use Rattle.store.specs.declared.Object.TheVariants.{Ordinary, Proxy}
 use Rattle.store.specs.Store.{Store, lookup}
 use Rattle.internal_methods.specs.declared.Failure.{Failure}
 use Rattle.internal_methods.specs.declared.Failure.TheVariants.{Refused}
-use Rattle.internal_methods.specs.Monad.{Answer, State, state, Out, M, pure, fails, next, ◌>>=◌, ◌>>◌, throw_if, throw_any, answered, ask, counted, tick, if◌then◌else◌, dispatched, dispatch}
+use Rattle.internal_methods.specs.Monad.{Answer, State, state, Out, M, pure, fails, next, ◌>>=◌, ◌>>◌, throw_if, throw_any, answered, ask, counted, tick, when◌then◌else◌, dispatched, dispatch}
 use Rattle.internal_methods.specs.Answers.{ask_keys}
 use Rattle.internal_methods.specs.Methods.{Context}
 use Rattle.internal_methods.specs.Ordinary.{apply_validation}
@@ -82,8 +82,8 @@ module _ {A : Type 0} where
   unfolding fails
   longer-fails f = record { follows = λ x s. failed; shrinks = λ s. same }
 
-  pub longer-if : {m k : M A} (b : Bool) → Longer m → Longer k → Longer (if◌then◌else◌ b m k)
-  unfolding if◌then◌else◌
+  pub longer-if : {m k : M A} (b : Bool) → Longer m → Longer k → Longer (when◌then◌else◌ b m k)
+  unfolding when◌then◌else◌
   longer-if true hm hk = hm
   longer-if false hm hk = hk
 

@@ -14,7 +14,7 @@ use Rattle.property.specs.Validate.{validate}
 use Rattle.property.proofs.ValidateLaws.{validate-adds}
 use Rattle.store.specs.Store.{own}
 use Rattle.internal_methods.specs.declared.Failure.TheVariants.{TypeError}
-use Rattle.internal_methods.specs.Monad.{State, Out, M, ◌>>◌, throw_if, if◌then◌else◌}
+use Rattle.internal_methods.specs.Monad.{State, Out, M, ◌>>◌, throw_if, when◌then◌else◌}
 use Rattle.internal_methods.specs.Methods.{Context, Written}
 use Rattle.internal_methods.specs.Ordinary.{apply_validation, ordinary_define_own_property}
 use Rattle.internal_methods.specs.Proxy.{proxy_prevent_extensions, proxy_define_own_property}
@@ -48,8 +48,8 @@ fits-ensured {A} {P} {Q} {m} h g = record { runs = λ s. go s (m.run s) refl (h.
     go s (Out.failed f t) e (Alike.failed i) = Alike.failed i
 
 module _ {A : Type 0} {Q : A → Type 0} where
-  fits-if : {m k : M A} (b : Bool) → Fitting Q m → Fitting Q k → Fitting Q (if◌then◌else◌ b m k)
-  unfolding if◌then◌else◌
+  fits-if : {m k : M A} (b : Bool) → Fitting Q m → Fitting Q k → Fitting Q (when◌then◌else◌ b m k)
+  unfolding when◌then◌else◌
   fits-if true f g = f
   fits-if false f g = g
 

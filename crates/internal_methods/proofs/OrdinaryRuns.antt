@@ -22,7 +22,7 @@ use Rattle.store.specs.declared.ProxyObject.{ProxyObject}
 use Rattle.store.specs.declared.Object.TheVariants.{Ordinary}
 use Rattle.store.specs.Store.{Store, lookup, own}
 use Rattle.store.specs.OwnKeys.{ordinary_own_property_keys}
-use Rattle.internal_methods.specs.Monad.{Answer, State, state, done, M, pure, next, ◌>>=◌, tick, if◌then◌else◌, dispatched, dispatch}
+use Rattle.internal_methods.specs.Monad.{Answer, State, state, done, M, pure, next, ◌>>=◌, tick, when◌then◌else◌, dispatched, dispatch}
 use Rattle.internal_methods.specs.Methods.{Context}
 use Rattle.internal_methods.specs.Ordinary.{is_full, apply_validation, ordinary_define_own_property, ordinary_has_property, ordinary_get, set_on_receiver, set_data, ordinary_set, ordinary_delete}
 use Rattle.internal_methods.specs.Internal.{methods}
@@ -39,8 +39,8 @@ module _ {A : Type 0} where
   unfolding pure
   completes-pure a s = record { result = a; rest = s; is = refl }
 
-  completes-if : (b : Bool) (m k : M A) (s : State) → Completes m s → Completes k s → Completes (if◌then◌else◌ b m k) s
-  unfolding if◌then◌else◌
+  completes-if : (b : Bool) (m k : M A) (s : State) → Completes m s → Completes k s → Completes (when◌then◌else◌ b m k) s
+  unfolding when◌then◌else◌
   completes-if true m k s h i = h
   completes-if false m k s h i = i
 
@@ -98,7 +98,7 @@ module _ (c : Context) (o : ℕ) (r : OrdinaryObject) (found : lookup c.store o 
 
     -- a store with room takes any descriptor
     pub define_own_property-completes : is_full c ≡ false → (d : PropertyDescriptor) → Completes ((methods (suc (suc n)) c).define_own_property o k d) (state a (suc (suc (suc m))))
-    unfolding methods ordinary_define_own_property apply_validation if◌then◌else◌
+    unfolding methods ordinary_define_own_property apply_validation when◌then◌else◌
     define_own_property-completes room d = begins _ _ (suc (suc m)) (completes-bind _ _ (own-run n (suc m) k _ refl) (completes-bind _ _ (extensible-run n m) (go (own c.store o k) (validate r.extensible d (own c.store o k)))))
       where
         go : (current : OwnProperty) (v : Validation) → Completes (apply_validation c o k current v) (state a m)

@@ -20,7 +20,7 @@ use Rattle.store.specs.declared.Object.TheVariants.{Ordinary, Proxy}
 use Rattle.store.specs.Store.{Store, lookup}
 use Rattle.internal_methods.specs.declared.Failure.{Failure}
 use Rattle.internal_methods.specs.declared.Failure.TheVariants.{Refused, TypeError, Thrown}
-use Rattle.internal_methods.specs.Monad.{Answer, State, state, Out, M, pure, fails, next, ◌>>=◌, ◌>>◌, throw_if, answered, ask, counted, tick, if◌then◌else◌, dispatched, dispatch}
+use Rattle.internal_methods.specs.Monad.{Answer, State, state, Out, M, pure, fails, next, ◌>>=◌, ◌>>◌, throw_if, answered, ask, counted, tick, when◌then◌else◌, dispatched, dispatch}
 use Rattle.internal_methods.specs.Answers.{as_value, ask_value, ask_boolean, as_prototype, ask_prototype, as_descriptor, ask_descriptor, keys_of, listed, as_keys, ask_keys}
 use Rattle.internal_methods.specs.Readable.{Reading, any_value, descriptor, key_list, is_unreadable}
 use Rattle.internal_methods.specs.Methods.{Context}
@@ -55,8 +55,8 @@ module _ {A : Type 0} where
   unfolding fails
   reader-fails f h = record { ended = λ s. other h }
 
-  pub reader-if : {m k : M A} (b : Bool) → Reader m → Reader k → Reader (if◌then◌else◌ b m k)
-  unfolding if◌then◌else◌
+  pub reader-if : {m k : M A} (b : Bool) → Reader m → Reader k → Reader (when◌then◌else◌ b m k)
+  unfolding when◌then◌else◌
   reader-if true hm hk = hm
   reader-if false hm hk = hk
 

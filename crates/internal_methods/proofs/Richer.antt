@@ -19,7 +19,7 @@ use Rattle.store.specs.declared.Object.TheVariants.{Ordinary, Proxy}
 use Rattle.store.specs.Store.{Store, lookup}
 use Rattle.internal_methods.specs.declared.Failure.{Failure}
 use Rattle.internal_methods.specs.declared.Failure.TheVariants.{Refused, TypeError, Thrown}
-use Rattle.internal_methods.specs.Monad.{Answer, State, state, Out, M, pure, fails, next, ◌>>=◌, ◌>>◌, throw_if, answered, ask, counted, tick, if◌then◌else◌, dispatched, dispatch}
+use Rattle.internal_methods.specs.Monad.{Answer, State, state, Out, M, pure, fails, next, ◌>>=◌, ◌>>◌, throw_if, answered, ask, counted, tick, when◌then◌else◌, dispatched, dispatch}
 use Rattle.internal_methods.specs.Methods.{Context, Methods}
 use Rattle.internal_methods.specs.Ordinary.{apply_validation}
 use Rattle.internal_methods.specs.Internal.{methods}
@@ -66,8 +66,8 @@ module _ {A : Type 0} where
   unfolding fails
   falls-fails f = record { falls = λ s. le_refl _ }
 
-  falls-if : {m k : M A} (b : Bool) → Falls m → Falls k → Falls (if◌then◌else◌ b m k)
-  unfolding if◌then◌else◌
+  falls-if : {m k : M A} (b : Bool) → Falls m → Falls k → Falls (when◌then◌else◌ b m k)
+  unfolding when◌then◌else◌
   falls-if true hm hk = hm
   falls-if false hm hk = hk
 
@@ -107,8 +107,8 @@ module _ {n l : ℕ} {A : Type 0} where
   unfolding fails
   richer-fails f h = record { shifted = λ k s i j. failed (λ e. absurd (false≢true (sym h ∙ e))); falls = falls-fails f }
 
-  pub richer-if : {m k m' k' : M A} (b : Bool) → Richer n l m m' → Richer n l k k' → Richer n l (if◌then◌else◌ b m k) (if◌then◌else◌ b m' k')
-  unfolding if◌then◌else◌
+  pub richer-if : {m k m' k' : M A} (b : Bool) → Richer n l m m' → Richer n l k k' → Richer n l (when◌then◌else◌ b m k) (when◌then◌else◌ b m' k')
+  unfolding when◌then◌else◌
   richer-if true hm hk = hm
   richer-if false hm hk = hk
 

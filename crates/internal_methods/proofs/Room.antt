@@ -25,7 +25,7 @@ use Rattle.store.proofs.FindLaws.{absent-appended}
 use Rattle.store.proofs.ReleaseLaws.{excluding-fewer}
 use Rattle.internal_methods.specs.declared.Failure.{Failure}
 use Rattle.internal_methods.specs.declared.Failure.TheVariants.{Refused, TypeError, Thrown}
-use Rattle.internal_methods.specs.Monad.{Answer, State, Out, M, pure, fails, next, ◌>>=◌, ◌>>◌, throw_if, answered, ask, counted, tick, if◌then◌else◌, dispatched, dispatch}
+use Rattle.internal_methods.specs.Monad.{Answer, State, Out, M, pure, fails, next, ◌>>=◌, ◌>>◌, throw_if, answered, ask, counted, tick, when◌then◌else◌, dispatched, dispatch}
 use Rattle.internal_methods.specs.Methods.{Context, Written}
 use Rattle.internal_methods.specs.Ordinary.{is_full, apply_validation}
 use Rattle.internal_methods.specs.Internal.{methods}
@@ -196,14 +196,14 @@ not-both e = false≢true cc
 
 -- a write that adds a property, if there is room
 room-if : (c : Context) (b : Bool) → is_full c ≡ b → (τ : Store) → length τ.properties ≡ suc (length c.store.properties)
-    → Roomy c (if◌then◌else◌ b (fails (Refused 7)) (pure (true, τ))) (pure (true, τ))
-unfolding if◌then◌else◌ fails pure
+    → Roomy c (when◌then◌else◌ b (fails (Refused 7)) (pure (true, τ))) (pure (true, τ))
+unfolding when◌then◌else◌ fails pure
 room-if c true n τ e = record { rooms = λ s. added n e }
 room-if c false n τ e = record { rooms = λ s. done (λ f. absurd (false≢true (sym n ∙ f))) }
 
 pub apply_validation-roomy : (c : Context) (o : ℕ) (r : OrdinaryObject) → lookup c.store o ≡ some (Ordinary r) → (k : PropertyKey) (current : OwnProperty) → OwnIn c o k current → (v : Validation)
     → Roomy c (apply_validation c o k current v) (apply_validation (allowing c (one_more c)) o k current v)
-unfolding apply_validation if◌then◌else◌
+unfolding apply_validation when◌then◌else◌
 apply_validation-roomy c o r e k current h (Rejected t) = roomy-kept _ (le_refl _)
 apply_validation-roomy c o r e k current h Unchanged = roomy-kept _ (le_refl _)
 apply_validation-roomy c o r e k Absent h (Becomes p) = rw (has_room c) (room-if c (is_full c) refl (with_property c.store o k p) (grows c.store o k p (sym (h r e))))

@@ -17,7 +17,7 @@ use Rattle.store.specs.declared.Object.TheVariants.{Proxy}
 use Rattle.store.specs.Store.{lookup}
 use Rattle.internal_methods.specs.declared.Failure.{Failure}
 use Rattle.internal_methods.specs.declared.Failure.TheVariants.{Refused}
-use Rattle.internal_methods.specs.Monad.{Answer, State, state, Out, failed, M, pure, fails, next, ◌>>=◌, ◌>>◌, throw_if, ask, tick, if◌then◌else◌, dispatched, dispatch}
+use Rattle.internal_methods.specs.Monad.{Answer, State, state, Out, failed, M, pure, fails, next, ◌>>=◌, ◌>>◌, throw_if, ask, tick, when◌then◌else◌, dispatched, dispatch}
 use Rattle.internal_methods.specs.Answers.{as_value, ask_value, ask_boolean, as_prototype, ask_prototype, as_descriptor, ask_descriptor, keys_of, listed, as_keys, ask_keys}
 use Rattle.internal_methods.specs.Methods.{Context, Written, Methods}
 use Rattle.internal_methods.specs.Ordinary.{ordinary_get, ordinary_set}
@@ -141,12 +141,12 @@ module _ {r : Reading} {A B : Type 0} {ask : M A} (asks : Asks r ask) (k : A →
 -- a proxy that has the trap takes its answer first
 module _ {c : Context} {r : Reading} {A : Type 0} {ask : M A} (asks : Asks r ask) (n : ℕ) where
   trapped-first : (b : Bool) {B : Type 0} {m m' : M B} → Trapped (reader-relation c) b Any Any ask m m' → b ≡ false → ReadsAs r m n
-  unfolding if◌then◌else◌
+  unfolding when◌then◌else◌
   trapped-first true t e = absurd (false≢true (sym e))
   trapped-first false (walk.trapped {k = k} ha hm hk) e = first asks k (λ x. hk x tt) n
 
   trapped-write-first : (b : Bool) {m m' : M Written} → TrappedWrite (reader-relation c) b Any ask m m' → b ≡ false → ReadsAs r m n
-  unfolding if◌then◌else◌
+  unfolding when◌then◌else◌
   trapped-write-first true t e = absurd (false≢true (sym e))
   trapped-write-first false (walk.TrappedWrite.trapped {k = k} ha hm hk) e = first asks k (λ x. hk x tt) n
 
@@ -186,7 +186,7 @@ module _ (c : Context) (n calls o : ℕ) where
     own_read = own-run c o h.object h.found (a ∷ []) n calls k _ h.is
 
     get-asks : (receiver : Value) → is_undefined g ≡ false → (ordinary_get (methods (suc n) c) o k receiver).run (state (a ∷ []) (suc calls)) ≡ ask_value.run (state (a ∷ []) calls)
-    unfolding ordinary_get ◌>>=◌ next if◌then◌else◌
+    unfolding ordinary_get ◌>>=◌ next when◌then◌else◌
     get-asks receiver u = rw own_read (rw (u, next))
 
     accessor-got : (receiver : Value) → is_undefined g ≡ false → ((methods (suc (suc n)) c).get o k receiver).run (state (a ∷ []) (suc (suc calls))) ≡ ask_value.run (state (a ∷ []) calls)
@@ -194,7 +194,7 @@ module _ (c : Context) (n calls o : ℕ) where
     accessor-got receiver u = ordinary-run _ o _ _ h.object h.found (a ∷ []) (suc calls) ∙ get-asks receiver u
 
     set-asks : (v receiver : Value) → is_undefined s ≡ false → (ordinary_set c (methods (suc n) c) o k v receiver).run (state (a ∷ []) (suc calls)) ≡ (ask_value >> pure (true, c.store)).run (state (a ∷ []) calls)
-    unfolding ordinary_set ◌>>=◌ next if◌then◌else◌
+    unfolding ordinary_set ◌>>=◌ next when◌then◌else◌
     set-asks v receiver u = rw own_read (rw (u, next))
 
     accessor-set : (v receiver : Value) → is_undefined s ≡ false → ((methods (suc (suc n)) c).set o k v receiver).run (state (a ∷ []) (suc (suc calls))) ≡ (ask_value >> pure (true, c.store)).run (state (a ∷ []) calls)

@@ -26,7 +26,7 @@ use Rattle.store.specs.declared.ProxyObject.{ProxyObject}
 use Rattle.store.specs.declared.Object.TheVariants.{Ordinary, Proxy}
 use Rattle.store.specs.Store.{lookup, put, own, without_property}
 use Rattle.internal_methods.specs.declared.Failure.TheVariants.{Refused, TypeError}
-use Rattle.internal_methods.specs.Monad.{Answer, M, pure, fails, ◌>>=◌, ◌>>◌, throw_if, throw_any, ask, if◌then◌else◌, dispatch}
+use Rattle.internal_methods.specs.Monad.{Answer, M, pure, fails, ◌>>=◌, ◌>>◌, throw_if, throw_any, ask, when◌then◌else◌, dispatch}
 use Rattle.internal_methods.specs.Answers.{as_value, ask_value, ask_boolean, as_prototype, ask_prototype, undefined_descriptor, as_descriptor, ask_descriptor, keys_of, listed, unlisted, as_keys, ask_keys}
 use Rattle.internal_methods.specs.Methods.{Context, Methods, Written}
 use Rattle.internal_methods.specs.KeyList.{Sorted, has_key, duplicate_message, duplicate, is_empty, checked_off, remaining, required, rejected}
@@ -272,13 +272,13 @@ module _ {c : Context} {allowance : ℕ} {Obj : ℕ → Type 0} {Val : Value →
   abbrev c' : Context
   c' = allowing c allowance
 
-  reads-if : {A : Type 0} {Q : A → Type 0} {m k m' k' : M A} (b : Bool) → R.reads Q m m' → R.reads Q k k' → R.reads Q (if◌then◌else◌ b m k) (if◌then◌else◌ b m' k')
-  unfolding if◌then◌else◌
+  reads-if : {A : Type 0} {Q : A → Type 0} {m k m' k' : M A} (b : Bool) → R.reads Q m m' → R.reads Q k k' → R.reads Q (when◌then◌else◌ b m k) (when◌then◌else◌ b m' k')
+  unfolding when◌then◌else◌
   reads-if true f g = f
   reads-if false f g = g
 
-  writes-if : {m k m' k' : M Written} (b : Bool) → R.writes m m' → R.writes k k' → R.writes (if◌then◌else◌ b m k) (if◌then◌else◌ b m' k')
-  unfolding if◌then◌else◌
+  writes-if : {m k m' k' : M Written} (b : Bool) → R.writes m m' → R.writes k k' → R.writes (when◌then◌else◌ b m k) (when◌then◌else◌ b m' k')
+  unfolding when◌then◌else◌
   writes-if true f g = f
   writes-if false f g = g
 
@@ -332,19 +332,19 @@ module _ {c : Context} {allowance : ℕ} {Obj : ℕ → Type 0} {Val : Value →
 
   pub data Trapped (b : Bool) {A B : Type 0} (P : A → Type 0) (Q : B → Type 0) (ask : M A) : M B → M B → Type 0 where
     trapped : {m m' : M B} {k k' : A → M B} → R.reads P ask ask → R.reads Q m m' → ((x : A) → P x → R.reads Q (k x) (k' x))
-        → Trapped b P Q ask (if◌then◌else◌ b m (ask >>= k)) (if◌then◌else◌ b m' (ask >>= k'))
+        → Trapped b P Q ask (when◌then◌else◌ b m (ask >>= k)) (when◌then◌else◌ b m' (ask >>= k'))
 
   pub data TrappedWrite (b : Bool) {A : Type 0} (P : A → Type 0) (ask : M A) : M Written → M Written → Type 0 where
     trapped : {m m' : M Written} {k k' : A → M Written} → R.reads P ask ask → R.writes m m' → ((x : A) → P x → R.writes (k x) (k' x))
-        → TrappedWrite b P ask (if◌then◌else◌ b m (ask >>= k)) (if◌then◌else◌ b m' (ask >>= k'))
+        → TrappedWrite b P ask (when◌then◌else◌ b m (ask >>= k)) (when◌then◌else◌ b m' (ask >>= k'))
 
   -- a constructor's implicits are found only after its arguments, a function's before
   trap : {b : Bool} {A B : Type 0} {P : A → Type 0} {Q : B → Type 0} {ask : M A} {m m' : M B} {k k' : A → M B} → R.reads P ask ask → R.reads Q m m' → ((x : A) → P x → R.reads Q (k x) (k' x))
-      → Trapped b P Q ask (if◌then◌else◌ b m (ask >>= k)) (if◌then◌else◌ b m' (ask >>= k'))
+      → Trapped b P Q ask (when◌then◌else◌ b m (ask >>= k)) (when◌then◌else◌ b m' (ask >>= k'))
   trap ha hm hk = trapped ha hm hk
 
   trap-write : {b : Bool} {A : Type 0} {P : A → Type 0} {ask : M A} {m m' : M Written} {k k' : A → M Written} → R.reads P ask ask → R.writes m m' → ((x : A) → P x → R.writes (k x) (k' x))
-      → TrappedWrite b P ask (if◌then◌else◌ b m (ask >>= k)) (if◌then◌else◌ b m' (ask >>= k'))
+      → TrappedWrite b P ask (when◌then◌else◌ b m (ask >>= k)) (when◌then◌else◌ b m' (ask >>= k'))
   trap-write ha hm hk = trapped ha hm hk
 
   by-trap : {b : Bool} {A B : Type 0} {Q : B → Type 0} {ask : M A} {m m' : M B} → Trapped b Any Q ask m m' → R.reads Q m m'

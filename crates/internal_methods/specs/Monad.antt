@@ -82,10 +82,10 @@ unfoldable pub tick : M (Unit {0})
 tick = record { run = λ s. counted s.answers s.calls }
 
 module _ {A : Type 0} where
-  infixr 5 if◌then◌else◌
-  unfoldable pub if◌then◌else◌ : Bool → M A → M A → M A
-  if◌then◌else◌ true m k = m
-  if◌then◌else◌ false m k = k
+  infixr 5 when◌then◌else◌
+  unfoldable pub when◌then◌else◌ : Bool → M A → M A → M A
+  when◌then◌else◌ true m k = m
+  when◌then◌else◌ false m k = k
 
   unfoldable pub dispatched : Option Object → (OrdinaryObject → M A) → (ProxyObject → M A) → M A
   dispatched none f g = fails (Refused 2)

@@ -24,7 +24,7 @@ use Rattle.store.specs.declared.Object.TheVariants.{Ordinary, Proxy}
 use Rattle.store.specs.Store.{Store, lookup, put, own, with_property, without_property}
 use Rattle.store.specs.OwnKeys.{ordinary_own_property_keys}
 use Rattle.internal_methods.specs.declared.Failure.TheVariants.{Refused}
-use Rattle.internal_methods.specs.Monad.{M, pure, fails, ◌>>=◌, ◌>>◌, if◌then◌else◌}
+use Rattle.internal_methods.specs.Monad.{M, pure, fails, ◌>>=◌, ◌>>◌, when◌then◌else◌}
 use Rattle.internal_methods.specs.Answers.{ask_value}
 use Rattle.internal_methods.specs.Methods.{Context, Methods, Written}
 
@@ -78,7 +78,7 @@ is_full c = not (ltb (length c.store.properties) c.allowance)
 unfoldable pub apply_validation : Context → ℕ → PropertyKey → OwnProperty → Validation → M Written
 apply_validation c o k current (Rejected t) = pure (false, c.store)
 apply_validation c o k current Unchanged = pure (true, c.store)
-apply_validation c o k Absent (Becomes p) = if is_full c then fails (Refused 7) else pure (true, with_property c.store o k p)
+apply_validation c o k Absent (Becomes p) = when is_full c then fails (Refused 7) else pure (true, with_property c.store o k p)
 apply_validation c o k (Present q) (Becomes p) = pure (true, with_property c.store o k p)
 
 -- 10.1.6.1 OrdinaryDefineOwnProperty ( O, P, Desc )
@@ -115,7 +115,7 @@ ordinary_get call o k receiver = do
       ]
     | Present (Data v w e c) ↦ pure v  -- 3
     | Present (Accessor g s e c) ↦  -- 4, 5
-        if is_undefined g then pure Undefined  -- 6
+        when is_undefined g then pure Undefined  -- 6
         else ask_value  -- 7
   ]
 
@@ -134,7 +134,7 @@ set_on_receiver c call k v receiver = do
   elim existing [
     | Present (Accessor g s e f) ↦ pure (false, c.store)  -- 2.d.i
     | Present (Data w wr e f) ↦  -- 2.d
-        if not wr then pure (false, c.store)  -- 2.d.ii
+        when not wr then pure (false, c.store)  -- 2.d.ii
         else call.define_own_property receiver k (value_descriptor v)  -- 2.d.iii, 2.d.iv
     | Absent ↦ call.define_own_property receiver k (descriptor_of (Data v true true true))  -- 2.e, 7.3.5 CreateDataProperty
   ]
@@ -142,7 +142,7 @@ set_on_receiver c call k v receiver = do
 -- 10.1.9.2 step 2
 unfoldable pub set_data : Context → Methods → PropertyKey → Value → Bool → Value → M Written
 set_data c call k v writable receiver =
-    if not writable then pure (false, c.store)  -- 2.a
+    when not writable then pure (false, c.store)  -- 2.a
     else elim (object_of receiver) [
       | none ↦ pure (false, c.store)  -- 2.b
       | some r ↦ set_on_receiver c call k v r
@@ -161,7 +161,7 @@ ordinary_set c call o k v receiver = do
       ]
     | Present (Data w wr e f) ↦ set_data c call k v wr receiver  -- 2
     | Present (Accessor g s e f) ↦  -- 3, 4
-        if is_undefined s then pure (false, c.store)  -- 5
+        when is_undefined s then pure (false, c.store)  -- 5
         else ask_value >> pure (true, c.store)  -- 6, 7
   ]
 
@@ -172,6 +172,6 @@ ordinary_delete c call o k = do
   elim desc [
     | Absent ↦ pure (true, c.store)  -- 2
     | Present p ↦
-        if configurable p then pure (true, without_property c.store o k)  -- 3
+        when configurable p then pure (true, without_property c.store o k)  -- 3
         else pure (false, c.store)  -- 4
   ]

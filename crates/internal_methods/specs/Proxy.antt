@@ -16,7 +16,7 @@ use Rattle.property.specs.Fields.{is_false, writable_field, configurable}
 use Rattle.property.specs.Descriptor.{is_uncallable, is_mixed, to_property_descriptor, complete, descriptor_of}
 use Rattle.property.specs.Validate.{is_compatible}
 use Rattle.store.specs.declared.ProxyObject.{ProxyObject}
-use Rattle.internal_methods.specs.Monad.{M, pure, ◌>>=◌, ◌>>◌, throw_if, throw_any, if◌then◌else◌}
+use Rattle.internal_methods.specs.Monad.{M, pure, ◌>>=◌, ◌>>◌, throw_if, throw_any, when◌then◌else◌}
 use Rattle.internal_methods.specs.Answers.{ask_value, ask_boolean, ask_prototype, ask_descriptor, ask_keys}
 use Rattle.internal_methods.specs.Methods.{Context, Methods, Written}
 use Rattle.internal_methods.specs.KeyList.{Sorted, duplicate, rejected}
@@ -42,11 +42,11 @@ is_read_only (Accessor g s e c) = false
 -- 10.5.1 [[GetPrototypeOf]] ( )
 unfoldable pub proxy_get_prototype_of : Methods → ProxyObject → M Value
 proxy_get_prototype_of call p =
-    if not (has_trap p 0) then call.get_prototype_of p.target  -- 6
+    when not (has_trap p 0) then call.get_prototype_of p.target  -- 6
     else do
       handler_proto ← ask_prototype  -- 7, 8
       extensible_target ← call.is_extensible p.target  -- 9
-      if extensible_target then pure handler_proto  -- 10
+      when extensible_target then pure handler_proto  -- 10
           else do
             target_proto ← call.get_prototype_of p.target  -- 11
             throw_if 3 (not (same_value handler_proto target_proto))  -- 12
@@ -55,13 +55,13 @@ proxy_get_prototype_of call p =
 -- 10.5.2 [[SetPrototypeOf]] ( V )
 unfoldable pub proxy_set_prototype_of : Context → Methods → ProxyObject → Value → M Written
 proxy_set_prototype_of c call p v =
-    if not (has_trap p 1) then call.set_prototype_of p.target v  -- 6
+    when not (has_trap p 1) then call.set_prototype_of p.target v  -- 6
     else do
       boolean_trap_result ← ask_boolean c.strings  -- 7
-      if not boolean_trap_result then pure (false, c.store)  -- 8
+      when not boolean_trap_result then pure (false, c.store)  -- 8
           else do
             extensible_target ← call.is_extensible p.target  -- 9
-            if extensible_target then pure (true, c.store)  -- 10
+            when extensible_target then pure (true, c.store)  -- 10
                 else do
                   target_proto ← call.get_prototype_of p.target  -- 11
                   throw_if 4 (not (same_value v target_proto))  -- 12
@@ -70,7 +70,7 @@ proxy_set_prototype_of c call p v =
 -- 10.5.3 [[IsExtensible]] ( )
 unfoldable pub proxy_is_extensible : Context → Methods → ProxyObject → M Bool
 proxy_is_extensible c call p =
-    if not (has_trap p 2) then call.is_extensible p.target  -- 6
+    when not (has_trap p 2) then call.is_extensible p.target  -- 6
     else do
       boolean_trap_result ← ask_boolean c.strings  -- 7
       target_result ← call.is_extensible p.target  -- 8
@@ -80,10 +80,10 @@ proxy_is_extensible c call p =
 -- 10.5.4 [[PreventExtensions]] ( )
 unfoldable pub proxy_prevent_extensions : Context → Methods → ProxyObject → M Written
 proxy_prevent_extensions c call p =
-    if not (has_trap p 3) then call.prevent_extensions p.target  -- 6
+    when not (has_trap p 3) then call.prevent_extensions p.target  -- 6
     else do
       boolean_trap_result ← ask_boolean c.strings  -- 7
-      if not boolean_trap_result then pure (false, c.store)
+      when not boolean_trap_result then pure (false, c.store)
           else do  -- 8
             extensible_target ← call.is_extensible p.target  -- 8.a
             throw_if 6 extensible_target  -- 8.b
@@ -92,7 +92,7 @@ proxy_prevent_extensions c call p =
 -- 10.5.5 [[GetOwnProperty]] ( P )
 unfoldable pub proxy_get_own_property : Methods → ProxyObject → PropertyKey → M OwnProperty
 proxy_get_own_property call p k =
-    if not (has_trap p 4) then call.get_own_property p.target k  -- 6
+    when not (has_trap p 4) then call.get_own_property p.target k  -- 6
     else do
       trap_result_obj ← ask_descriptor  -- 7, 8
       target_desc ← call.get_own_property p.target k  -- 9
@@ -120,10 +120,10 @@ proxy_get_own_property call p k =
 -- 10.5.6 [[DefineOwnProperty]] ( P, Desc )
 unfoldable pub proxy_define_own_property : Context → Methods → ProxyObject → PropertyKey → PropertyDescriptor → M Written
 proxy_define_own_property c call p k d =
-    if not (has_trap p 5) then call.define_own_property p.target k d  -- 6
+    when not (has_trap p 5) then call.define_own_property p.target k d  -- 6
     else do
       boolean_trap_result ← ask_boolean c.strings  -- 7, 8
-      if not boolean_trap_result then pure (false, c.store)  -- 9
+      when not boolean_trap_result then pure (false, c.store)  -- 9
           else do
             target_desc ← call.get_own_property p.target k  -- 10
             extensible_target ← call.is_extensible p.target  -- 11
@@ -143,10 +143,10 @@ proxy_define_own_property c call p k d =
 -- 10.5.7 [[HasProperty]] ( P )
 unfoldable pub proxy_has_property : Context → Methods → ProxyObject → PropertyKey → M Bool
 proxy_has_property c call p k =
-    if not (has_trap p 6) then call.has_property p.target k  -- 6
+    when not (has_trap p 6) then call.has_property p.target k  -- 6
     else do
       boolean_trap_result ← ask_boolean c.strings  -- 7
-      if boolean_trap_result then pure true
+      when boolean_trap_result then pure true
           else do  -- 8
             target_desc ← call.get_own_property p.target k  -- 8.a
             elim target_desc [
@@ -173,7 +173,7 @@ lacks_getter (Present (Accessor g s e c)) v = not c && (is_undefined g && not (i
 -- 10.5.8 [[Get]] ( P, Receiver )
 unfoldable pub proxy_get : Methods → ProxyObject → PropertyKey → Value → M Value
 proxy_get call p k receiver =
-    if not (has_trap p 7) then call.get p.target k receiver  -- 6
+    when not (has_trap p 7) then call.get p.target k receiver  -- 6
     else do
       trap_result ← ask_value  -- 7
       target_desc ← call.get_own_property p.target k  -- 8
@@ -190,10 +190,10 @@ lacks_setter (Present (Accessor g s e c)) = not c && is_undefined s
 -- 10.5.9 [[Set]] ( P, V, Receiver )
 unfoldable pub proxy_set : Context → Methods → ProxyObject → PropertyKey → Value → Value → M Written
 proxy_set c call p k v receiver =
-    if not (has_trap p 8) then call.set p.target k v receiver  -- 6
+    when not (has_trap p 8) then call.set p.target k v receiver  -- 6
     else do
       boolean_trap_result ← ask_boolean c.strings  -- 7
-      if not boolean_trap_result then pure (false, c.store)  -- 8
+      when not boolean_trap_result then pure (false, c.store)  -- 8
           else do
             target_desc ← call.get_own_property p.target k  -- 9
             throw_if 19 (fixes_other target_desc v)  -- 10.a
@@ -203,10 +203,10 @@ proxy_set c call p k v receiver =
 -- 10.5.10 [[Delete]] ( P )
 unfoldable pub proxy_delete : Context → Methods → ProxyObject → PropertyKey → M Written
 proxy_delete c call p k =
-    if not (has_trap p 9) then call.delete p.target k  -- 6
+    when not (has_trap p 9) then call.delete p.target k  -- 6
     else do
       boolean_trap_result ← ask_boolean c.strings  -- 7
-      if not boolean_trap_result then pure (false, c.store)  -- 8
+      when not boolean_trap_result then pure (false, c.store)  -- 8
           else do
             target_desc ← call.get_own_property p.target k  -- 9
             elim target_desc [
@@ -233,7 +233,7 @@ sorted get_own (k ∷ ks) = do
 -- 10.5.11 [[OwnPropertyKeys]] ( )
 unfoldable pub proxy_own_property_keys : Methods → ProxyObject → M (List PropertyKey)
 proxy_own_property_keys call p =
-    if not (has_trap p 10) then call.own_property_keys p.target  -- 6
+    when not (has_trap p 10) then call.own_property_keys p.target  -- 6
     else do
       trap_result ← ask_keys  -- 7, 8
       throw_any (duplicate [] trap_result)  -- 9

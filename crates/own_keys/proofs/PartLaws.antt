@@ -6,7 +6,7 @@ use mathlib.Core.Option.{Option, none, some}
 use mathlib.Core.List.{List, []}
 use Rattle.value.specs.declared.PropertyKey.{PropertyKey}
 use Rattle.store.specs.declared.ProxyObject.{ProxyObject}
-use Rattle.internal_methods.specs.Monad.{State, Out, failed, done, M, pure, fails, next, ◌>>=◌, ◌>>◌, throw_any, if◌then◌else◌}
+use Rattle.internal_methods.specs.Monad.{State, Out, failed, done, M, pure, fails, next, ◌>>=◌, ◌>>◌, throw_any, when◌then◌else◌}
 use Rattle.internal_methods.specs.Answers.{ask_keys}
 use Rattle.internal_methods.specs.Methods.{Context, Methods}
 use Rattle.internal_methods.specs.KeyList.{duplicate}
@@ -46,12 +46,12 @@ module _ (call : Methods) (o : ℕ) where
 
 pub in_parts : (call : Methods) (p : ProxyObject) → has_trap p 10 ≡ true → (s : State)
     → (proxy_own_property_keys call p).run s ≡ next (onwards call p.target) ((trap_keys call p.target).run s)
-unfolding proxy_own_property_keys trap_keys checked_keys if◌then◌else◌ ◌>>=◌
+unfolding proxy_own_property_keys trap_keys checked_keys when◌then◌else◌ ◌>>=◌
 in_parts call p h s = rw h (asked call p.target (ask_keys.run s))
 
 -- 10.5.11 without the trap, step 6
 pub trapless : (call : Methods) (p : ProxyObject) → has_trap p 10 ≡ false → (s : State) → (call.own_property_keys p.target).run s ≡ (proxy_own_property_keys call p).run s
-unfolding proxy_own_property_keys if◌then◌else◌
+unfolding proxy_own_property_keys when◌then◌else◌
 trapless call p h s = rw h
 
 -- The lists of the answers that are left

@@ -20,7 +20,7 @@ use Rattle.value.specs.declared.Value.TheVariants as value
 use Rattle.store.specs.declared.Object.{Object}
 use Rattle.store.specs.declared.Object.TheVariants.{Ordinary, Proxy}
 use Rattle.store.specs.Store.{Store, lookup, next_number, live_count, add, named, maximum_objects}
-use Rattle.internal_methods.specs.Monad.{done, pure, fails, if◌then◌else◌}
+use Rattle.internal_methods.specs.Monad.{done, pure, fails, when◌then◌else◌}
 use Rattle.internal_methods.specs.Methods.{Context}
 use Rattle.calls.specs.declared.Progress.{Progress}
 use Rattle.calls.specs.Outs.{state_of}
@@ -44,7 +44,7 @@ module _ (sheet : List ℕ) (s : Progress) where
   making : (σ : Store) (x : Object) (callable b : Bool)
       → out_performed sheet σ (cond b (Done (completion.Value (named callable (next_number σ))) (write.NewObject x callable) s) (Failed (Refused 7) s))
       ≡ written σ ((if b then pure (result.value (named callable (next_number σ)), add σ x callable) else fails (Refused 7)).run (state_of sheet s))
-  unfolding pure fails if◌then◌else◌
+  unfolding pure fails when◌then◌else◌
   making σ x callable true = refl
   making σ x callable false = refl
 

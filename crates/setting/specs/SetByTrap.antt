@@ -2,7 +2,7 @@
 use Rattle.std.specs.Prelude.{ℕ, true, false, not}
 use Rattle.value.specs.declared.Value.{Value}
 use Rattle.value.specs.declared.PropertyKey.{PropertyKey}
-use Rattle.internal_methods.specs.Monad.{M, pure, ◌>>=◌, ◌>>◌, throw_if, if◌then◌else◌}
+use Rattle.internal_methods.specs.Monad.{M, pure, ◌>>=◌, ◌>>◌, throw_if, when◌then◌else◌}
 use Rattle.internal_methods.specs.Answers.{ask_boolean}
 use Rattle.internal_methods.specs.Methods.{Context, Methods, Written}
 use Rattle.internal_methods.specs.Proxy.{fixes_other, lacks_setter}
@@ -11,7 +11,7 @@ use Rattle.internal_methods.specs.Proxy.{fixes_other, lacks_setter}
 unfoldable pub set_by_trap : Context → Methods → ℕ → PropertyKey → Value → M Written
 set_by_trap c call o k v = do
   boolean_trap_result ← ask_boolean c.strings  -- 7
-  if not boolean_trap_result then pure (false, c.store)  -- 8
+  when not boolean_trap_result then pure (false, c.store)  -- 8
       else do
         target_desc ← call.get_own_property o k  -- 9
         throw_if 19 (fixes_other target_desc v)  -- 10.a

@@ -16,7 +16,7 @@ use Rattle.store.specs.Store.{Store, lookup, put, add, next_number, live_count, 
 use Rattle.store.proofs.ReleaseLaws.{released-fewer}
 use Rattle.internal_methods.specs.declared.Failure.{Failure}
 use Rattle.internal_methods.specs.declared.Failure.TheVariants.{Refused, TypeError}
-use Rattle.internal_methods.specs.Monad.{State, Out, M, pure, fails, next, ◌>>=◌, if◌then◌else◌}
+use Rattle.internal_methods.specs.Monad.{State, Out, M, pure, fails, next, ◌>>=◌, when◌then◌else◌}
 use Rattle.internal_methods.specs.Methods.{Context, Methods, Written}
 use Rattle.internal_methods.specs.Ordinary.{is_full}
 use Rattle.internal_methods.specs.Internal.{methods}
@@ -70,8 +70,8 @@ module _ {J : (A : Type 0) → M A → M A → Type 0} (law : Rules J) where
   turns-bind : {A B : Type 0} {m m' : Sequence A} {k k' : A → Sequence B} → Turns m m' → ((a : A) → Turns (k a) (k' a)) → Turns (sequence.◌>>=◌ m k) (sequence.◌>>=◌ m' k')
   turns-bind {m = m} {m'} {k} {k'} h g = record { over = λ σ. along (whole-bind m k σ) (whole-bind m' k' σ) (law.binds (h.over σ) (λ a. (g a.0).over a.1)) }
 
-  turns-if : {A : Type 0} {m m' k k' : Sequence A} (b : Bool) → Turns m m' → Turns k k' → Turns (sequence.if◌then◌else◌ b m k) (sequence.if◌then◌else◌ b m' k')
-  unfolding sequence.if◌then◌else◌
+  turns-if : {A : Type 0} {m m' k k' : Sequence A} (b : Bool) → Turns m m' → Turns k k' → Turns (sequence.when◌then◌else◌ b m k) (sequence.when◌then◌else◌ b m' k')
+  unfolding sequence.when◌then◌else◌
   turns-if true f g = f
   turns-if false f g = g
 
@@ -103,8 +103,8 @@ module _ {J : (A : Type 0) → M A → M A → Type 0} (law : Rules J) where
 
 module _ {J : (A : Type 0) → M A → M A → Type 0} (law : Rules J) (c : Context) (n l : ℕ)
     (h : (σ : Store) → MethodsBy (λ A Q m m'. J A m m') (λ m m'. J Written m m') Any Any (λ _ _. Any) (methods n (over c σ)) (methods l (over c σ))) where
-  by-if : {A : Type 0} {m m' k k' : M A} (b : Bool) → J A m m' → J A k k' → J A (if◌then◌else◌ b m k) (if◌then◌else◌ b m' k')
-  unfolding if◌then◌else◌
+  by-if : {A : Type 0} {m m' k k' : M A} (b : Bool) → J A m m' → J A k k' → J A (when◌then◌else◌ b m k) (when◌then◌else◌ b m' k')
+  unfolding when◌then◌else◌
   by-if true f g = f
   by-if false f g = g
 
@@ -199,8 +199,8 @@ module _ (c : Context) (n : ℕ) where
   revoked-kept o (some (Proxy p)) = le_refl _
 
   -- 7.3.16
-  same_if : {m m' k k' : M Bool} (b : Bool) → Same Any m m' → Same Any k k' → Same Any (if◌then◌else◌ b m k) (if◌then◌else◌ b m' k')
-  unfolding if◌then◌else◌
+  same_if : {m m' k k' : M Bool} (b : Bool) → Same Any m m' → Same Any k k' → Same Any (when◌then◌else◌ b m k) (when◌then◌else◌ b m' k')
+  unfolding when◌then◌else◌
   same_if true f g = f
   same_if false f g = g
 
@@ -268,11 +268,11 @@ module _ (c : Context) (n : ℕ) where
     crowded : ltb (live_count c.store) maximum_objects ≡ false → MakesOut s (Out.failed (Refused 7) s, c.store)
 
   make-out : (x : Object) (b : Bool) (s : State) → MakesOut s ((once c.store (make c.store x b)).run s)
-  unfolding once make if◌then◌else◌ pure fails
+  unfolding once make when◌then◌else◌ pure fails
   make-out x b s = go (ltb (live_count c.store) maximum_objects) refl
     where
       go : (room : Bool) → ltb (live_count c.store) maximum_objects ≡ room
-          → MakesOut s (written c.store ((if◌then◌else◌ room (pure (value (named b (next_number c.store)), add c.store x b)) (fails (Refused 7))).run s))
+          → MakesOut s (written c.store ((when◌then◌else◌ room (pure (value (named b (next_number c.store)), add c.store x b)) (fails (Refused 7))).run s))
       go true e = made x b e
       go false e = crowded e
 

@@ -18,7 +18,7 @@ use Rattle.store.specs.Store.{Store, lookup, add, next_number, live_count, named
 use Rattle.store.proofs.StoreLaws.{Fresh}
 use Rattle.internal_methods.specs.declared.Failure.{Failure}
 use Rattle.internal_methods.specs.declared.Failure.TheVariants.{Refused, TypeError}
-use Rattle.internal_methods.specs.Monad.{State, Out, M, pure, fails, if◌then◌else◌}
+use Rattle.internal_methods.specs.Monad.{State, Out, M, pure, fails, when◌then◌else◌}
 use Rattle.internal_methods.specs.Methods.{Context, Methods, Written}
 use Rattle.internal_methods.specs.Internal.{methods}
 use Rattle.internal_methods.proofs.Walk.{Any}
@@ -120,8 +120,8 @@ module _ {c : Context} {n o : ℕ} where
       go s le (done {a} {t} {τ} h m i ms) = agree-before i ((g a).runs τ h m t (le_trans i le) ms)
       go s le (failed h e) = failed h e
 
-  steady-sequence-if : {A : Type 0} {m m' k k' : Sequence A} (b : Bool) → SteadySequence c n o m m' → SteadySequence c n o k k' → SteadySequence c n o (sequence.if◌then◌else◌ b m k) (sequence.if◌then◌else◌ b m' k')
-  unfolding sequence.if◌then◌else◌
+  steady-sequence-if : {A : Type 0} {m m' k k' : Sequence A} (b : Bool) → SteadySequence c n o m m' → SteadySequence c n o k k' → SteadySequence c n o (sequence.when◌then◌else◌ b m k) (sequence.when◌then◌else◌ b m' k')
+  unfolding sequence.when◌then◌else◌
   steady-sequence-if true f g = f
   steady-sequence-if false f g = g
 
@@ -187,7 +187,7 @@ module _ (c : Context) (n : ℕ) (closed : Closed c.store) (fresh : live_count c
 
   -- an operation that makes an object
   making : (asks : Operation) (x : Object) (b : Bool) → MadeObject c.store x → ((d : ℕ) → perform d c asks ≡ once c.store (make c.store x b)) → Performs c n asks
-  unfolding once make if◌then◌else◌ pure fails
+  unfolding once make when◌then◌else◌ pure fails
   making asks x b m is = record {
     alike = λ d d' i i' s le ms. ap (λ (r : Run). r.run s) (is d ∙ sym (is d'));
     fails = λ s t f le ms e. failing (ltb (live_count c.store) maximum_objects) refl s t f (ap (λ (r : Run). (r.run s).0) (sym (is n)) ∙ e);
@@ -195,11 +195,11 @@ module _ (c : Context) (n : ℕ) (closed : Closed c.store) (fresh : live_count c
   }
     where
       failing : (room : Bool) → ltb (live_count c.store) maximum_objects ≡ room → (s t : State) (f : Failure)
-          → (written c.store ((if◌then◌else◌ room (pure (added c.store x b)) (fails (Refused 7))).run s)).0 ≡ Out.failed f t → Fails c f t
+          → (written c.store ((when◌then◌else◌ room (pure (added c.store x b)) (fails (Refused 7))).run s)).0 ≡ Out.failed f t → Fails c f t
       failing true q s t f e = absurd (false≢true cc)
       failing false q s t f e = let g : Refused 7 ≡ f = cc in subst (λ (y : Failure). Fails c y t) g (crowded q)
 
-      closing : (room : Bool) → ltb (live_count c.store) maximum_objects ≡ room → (s : State) → Closed (written c.store ((if◌then◌else◌ room (pure (added c.store x b)) (fails (Refused 7))).run s)).1
+      closing : (room : Bool) → ltb (live_count c.store) maximum_objects ≡ room → (s : State) → Closed (written c.store ((when◌then◌else◌ room (pure (added c.store x b)) (fails (Refused 7))).run s)).1
       closing true q s = closed-add c.store (fresh (ltb-true _ _ q)) x b closed m
       closing false q s = closed
 
@@ -209,8 +209,8 @@ module _ (c : Context) (n : ℕ) (closed : Closed c.store) (fresh : live_count c
   revoked-closed o (some (Proxy p)) e = closed-put c.store o _ closed (λ h. absurd (true≢false h))
 
   -- 7.3.16
-  steady-if : {m m' k k' : M Bool} (b : Bool) → Steady c n m m' Any → Steady c n k k' Any → Steady c n (if◌then◌else◌ b m k) (if◌then◌else◌ b m' k') Any
-  unfolding if◌then◌else◌
+  steady-if : {m m' k k' : M Bool} (b : Bool) → Steady c n m m' Any → Steady c n k k' Any → Steady c n (when◌then◌else◌ b m k) (when◌then◌else◌ b m' k') Any
+  unfolding when◌then◌else◌
   steady-if true f g = f
   steady-if false f g = g
 

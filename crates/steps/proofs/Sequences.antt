@@ -129,8 +129,8 @@ module _ {E : Failure → Store → Type 0} {A : Type 0} {P : Store → Type 0} 
       go σ (done q) = done q
       go σ (failed e) = failed e
 
-  pub leads-if : {m k : Sequence A} (b : Bool) → (b ≡ true → Leads P m Q E) → (b ≡ false → Leads P k Q E) → Leads P (sequence.if◌then◌else◌ b m k) Q E
-  unfolding sequence.if◌then◌else◌
+  pub leads-if : {m k : Sequence A} (b : Bool) → (b ≡ true → Leads P m Q E) → (b ≡ false → Leads P k Q E) → Leads P (sequence.when◌then◌else◌ b m k) Q E
+  unfolding sequence.when◌then◌else◌
   leads-if true f g = f refl
   leads-if false f g = g refl
 

@@ -12,7 +12,7 @@ use Rattle.store.specs.declared.Object.TheVariants.{Ordinary, Proxy}
 use Rattle.store.specs.Store.{Store, lookup, put, add, next_number, live_count, named, maximum_objects}
 use Rattle.store.specs.Release
 use Rattle.internal_methods.specs.declared.Failure.TheVariants.{Refused}
-use Rattle.internal_methods.specs.Monad.{State, M, pure, fails, ◌>>=◌, ◌>>◌, if◌then◌else◌}
+use Rattle.internal_methods.specs.Monad.{State, M, pure, fails, ◌>>=◌, ◌>>◌, when◌then◌else◌}
 use Rattle.internal_methods.specs.Methods.{Context, Written}
 use Rattle.internal_methods.specs.Internal.{methods}
 use Rattle.steps.specs.Operation.{Operation, make_object, make_proxy, revoke, get_prototype_of, set_prototype_of, is_extensible, prevent_extensions, get_own_property, define_own_property, has_property, get, set, delete, own_property_keys, make_function, release, set_integrity_level, test_integrity_level}
@@ -60,7 +60,7 @@ writing m = m >>= λ a. pure (boolean a.0, a.1)
 -- a new object has the next number, and is callable or not
 unfoldable pub make : Store → Object → Bool → M (Result × Store)
 make σ x b =
-    if ltb (live_count σ) maximum_objects then pure (value (named b (next_number σ)), add σ x b)
+    when ltb (live_count σ) maximum_objects then pure (value (named b (next_number σ)), add σ x b)
     else fails (Refused 7)
 
 abbrev pub revoked : Store → ℕ → Option Object → Store

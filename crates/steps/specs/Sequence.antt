@@ -32,10 +32,10 @@ module _ {A : Type 0} where
   unfoldable pub writes : (Store → M (A × Store)) → Sequence A
   writes m = record { run = λ σ s. written σ ((m σ).run s) }
 
-  infixr 5 if◌then◌else◌
-  unfoldable pub if◌then◌else◌ : Bool → Sequence A → Sequence A → Sequence A
-  if◌then◌else◌ true m k = m
-  if◌then◌else◌ false m k = k
+  infixr 5 when◌then◌else◌
+  unfoldable pub when◌then◌else◌ : Bool → Sequence A → Sequence A → Sequence A
+  when◌then◌else◌ true m k = m
+  when◌then◌else◌ false m k = k
 
 module _ {A B : Type 0} where
   unfoldable pub next : (A → Sequence B) → Out A → Store → Ran B

@@ -12,7 +12,7 @@ use Rattle.property.specs.declared.OwnProperty.TheVariants.{Absent, Present}
 use Rattle.store.specs.Store.{Store}
 use Rattle.internal_methods.specs.Methods.{Methods}
 use Rattle.steps.specs.Operation.{Level, sealed, frozen}
-use Rattle.steps.specs.Sequence.{Sequence, pure, reads, writes, ◌>>=◌, ◌>>◌, if◌then◌else◌, throw_if, for_each}
+use Rattle.steps.specs.Sequence.{Sequence, pure, reads, writes, ◌>>=◌, ◌>>◌, when◌then◌else◌, throw_if, for_each}
 
 -- { [[Configurable]]: false }
 abbrev pub sealed_descriptor : PropertyDescriptor
@@ -57,7 +57,7 @@ module _ (call : Store → Methods) (o : ℕ) where
   unfoldable pub set_integrity_level : Level → Sequence Bool
   set_integrity_level level = do
     status ← writes (λ σ. (call σ).prevent_extensions o)  -- 1
-    if not status then pure false  -- 2
+    when not status then pure false  -- 2
         else do
           keys ← reads (λ σ. (call σ).own_property_keys o)  -- 3
           for_each (turn level) keys  -- 4, 5

@@ -4,7 +4,7 @@ use Rattle.value.specs.declared.PropertyKey.{PropertyKey}
 use Rattle.property.specs.declared.Property.TheVariants.{Data, Accessor}
 use Rattle.property.specs.declared.OwnProperty.{OwnProperty}
 use Rattle.property.specs.declared.OwnProperty.TheVariants.{Absent, Present}
-use Rattle.internal_methods.specs.Monad.{M, pure, ◌>>=◌, if◌then◌else◌}
+use Rattle.internal_methods.specs.Monad.{M, pure, ◌>>=◌, when◌then◌else◌}
 use Rattle.internal_methods.specs.Methods.{Methods}
 use Rattle.steps.specs.Operation.{Level, sealed, frozen}
 
@@ -21,14 +21,14 @@ module _ (call : Methods) (o : ℕ) (level : Level) where
   test_properties [] = pure true  -- 6
   test_properties (k ∷ ks) = do
     current_desc ← call.get_own_property o k  -- 5.a
-    if is_loose level current_desc then pure false  -- 5.b
+    when is_loose level current_desc then pure false  -- 5.b
         else test_properties ks
 
   -- 7.3.16 TestIntegrityLevel ( O, level )
   unfoldable pub test_integrity_level : M Bool
   test_integrity_level = do
     extensible ← call.is_extensible o  -- 1
-    if extensible then pure false  -- 2
+    when extensible then pure false  -- 2
         else do
           keys ← call.own_property_keys o  -- 4
           test_properties keys  -- 5, 6

@@ -3,7 +3,7 @@ use borrow.Author.Rules.{rules}
 use mathlib.Core.Path.{sym, ◌∙◌}
 use native.Mathlib.Omega.{arith}
 use Prim.Native.Nat.{◌+◌, ◌*◌}
-use Rattle.internal_methods.specs.Monad.{pure, fails, next, ◌>>=◌, throw_if, if◌then◌else◌}
+use Rattle.internal_methods.specs.Monad.{pure, fails, next, ◌>>=◌, throw_if, when◌then◌else◌}
 use Rattle.internal_methods.specs.Proxy.{proxy_define_own_property}
 use Rattle.calls.proofs.EnterLaws.{define-own-property-goes-on, is_below}
 use Rattle.definition.specs.Define.{defined_by_trap}
@@ -21,15 +21,15 @@ pub define_own_property-proxy_exotic_define_own_property-requires : goal.define_
 define_own_property-proxy_exotic_define_own_property-requires t c = (omega (arith, (is_below _ _ _ _ _ _ (sym c.enter.ensures ∙ c.in-Proxy.is)).0), c.requires)
 
 pub define_own_property-returns-in-Failed : goal.define_own_property-returns-in-Failed
-unfolding ◌>>=◌ defined_by_trap fails if◌then◌else◌ next proxy_define_own_property pure throw_if
+unfolding ◌>>=◌ defined_by_trap fails when◌then◌else◌ next proxy_define_own_property pure throw_if
 define_own_property-returns-in-Failed t c = record { result_value = rw (define-own-property-goes-on _ _ _ _ _ _ _, sym c.enter.ensures ∙ c.in-Failed.is); fitting = tt }
 
 pub define_own_property-returns-in-Ordinary : goal.define_own_property-returns-in-Ordinary
-unfolding ◌>>=◌ defined_by_trap fails if◌then◌else◌ next proxy_define_own_property pure throw_if
+unfolding ◌>>=◌ defined_by_trap fails when◌then◌else◌ next proxy_define_own_property pure throw_if
 define_own_property-returns-in-Ordinary t c = record { result_value = rw (define-own-property-goes-on _ _ _ _ _ _ _, sym c.enter.ensures ∙ c.in-Ordinary.is) c.ordinary_define_own_property.ensures.result_value; fitting = c.ordinary_define_own_property.ensures.fitting }
 
 pub define_own_property-returns-in-Proxy : goal.define_own_property-returns-in-Proxy
-unfolding ◌>>=◌ defined_by_trap fails if◌then◌else◌ next proxy_define_own_property pure throw_if
+unfolding ◌>>=◌ defined_by_trap fails when◌then◌else◌ next proxy_define_own_property pure throw_if
 define_own_property-returns-in-Proxy t c = record { result_value = rw (define-own-property-goes-on _ _ _ _ _ _ _, sym c.enter.ensures ∙ c.in-Proxy.is) c.proxy_exotic_define_own_property.ensures.result_value; fitting = c.proxy_exotic_define_own_property.ensures.fitting }
 
 pub proxy_exotic_define_own_property-define_own_property_trap-requires : goal.proxy_exotic_define_own_property-define_own_property_trap-requires
@@ -39,9 +39,9 @@ pub proxy_exotic_define_own_property-define_own_property-requires : goal.proxy_e
 proxy_exotic_define_own_property-define_own_property-requires t c = (omega arith, c.requires)
 
 pub proxy_exotic_define_own_property-returns-then-has_trap : goal.proxy_exotic_define_own_property-returns-then-has_trap
-unfolding ◌>>=◌ defined_by_trap fails if◌then◌else◌ next proxy_define_own_property pure throw_if
+unfolding ◌>>=◌ defined_by_trap fails when◌then◌else◌ next proxy_define_own_property pure throw_if
 proxy_exotic_define_own_property-returns-then-has_trap t c = record { result_value = rw (sym c.has_trap.ensures ∙ c.if-has_trap.true) c.define_own_property_trap.ensures.result_value; fitting = c.define_own_property_trap.ensures.fitting }
 
 pub proxy_exotic_define_own_property-returns-else-has_trap : goal.proxy_exotic_define_own_property-returns-else-has_trap
-unfolding ◌>>=◌ defined_by_trap fails if◌then◌else◌ next proxy_define_own_property pure throw_if
+unfolding ◌>>=◌ defined_by_trap fails when◌then◌else◌ next proxy_define_own_property pure throw_if
 proxy_exotic_define_own_property-returns-else-has_trap t c = record { result_value = rw (sym c.has_trap.ensures ∙ c.if-has_trap.false) c.define_own_property.ensures.result_value; fitting = c.define_own_property.ensures.fitting }

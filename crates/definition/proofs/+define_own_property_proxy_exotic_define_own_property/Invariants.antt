@@ -3,7 +3,7 @@ use borrow.Author.Rules.{rules}
 use mathlib.Core.Path.{sym, ◌∙◌}
 use native.Mathlib.Omega.{arith}
 use Prim.Native.Nat.{◌+◌, ◌*◌}
-use Rattle.internal_methods.specs.Monad.{pure, fails, next, ◌>>=◌, throw_if, if◌then◌else◌}
+use Rattle.internal_methods.specs.Monad.{pure, fails, next, ◌>>=◌, throw_if, when◌then◌else◌}
 use Rattle.internal_methods.specs.Proxy.{proxy_define_own_property}
 use Rattle.calls.proofs.EnterLaws.{define-own-property-goes-on, is_below}
 use Rattle.definition.specs.Define.{defined_by_trap}

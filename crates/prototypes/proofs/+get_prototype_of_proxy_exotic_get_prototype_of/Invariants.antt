@@ -3,7 +3,7 @@ use mathlib.Core.Path.{sym, ◌∙◌}
 use native.Mathlib.Omega.{arith}
 use Prim.Native.Nat.{◌+◌, ◌*◌}
 use borrow.Author.Rules.{rules}
-use Rattle.internal_methods.specs.Monad.{pure, fails, next, ◌>>=◌, throw_if, if◌then◌else◌}
+use Rattle.internal_methods.specs.Monad.{pure, fails, next, ◌>>=◌, throw_if, when◌then◌else◌}
 use Rattle.internal_methods.specs.Proxy.{proxy_get_prototype_of}
 use Rattle.calls.proofs.EnterLaws.{get-prototype-of-goes-on, is_below}
 use Prim.Native.Nat.{ℕ}

@@ -4,7 +4,7 @@ use mathlib.Core.Path.{sym, ◌∙◌}
 use native.Mathlib.Omega.{arith}
 use Prim.Native.Nat.{◌+◌, ◌*◌}
 use Rattle.value.specs.Value.{object_of}
-use Rattle.internal_methods.specs.Monad.{pure, fails, next, ◌>>=◌, throw_if, if◌then◌else◌}
+use Rattle.internal_methods.specs.Monad.{pure, fails, next, ◌>>=◌, throw_if, when◌then◌else◌}
 use Rattle.internal_methods.specs.Ordinary.{ordinary_set}
 use Rattle.internal_methods.specs.Proxy.{proxy_set}
 use Rattle.calls.proofs.EnterLaws.{set-goes-on, is_below}
