@@ -36,7 +36,7 @@ OPERATOR = ("if◌then◌else◌", "when◌then◌else◌")
 
 def operator(code, path):
     code = code.replace(*OPERATOR)
-    return re.sub(r"(?<![^\s(])if(?=\s)", "when", code) if "/specs/" in path else code
+    return re.sub(r"(?<![^\s(])if(?=\s.*\sthen(?:\s|$))", "when", code) if path.endswith(".antt") else code
 
 
 def words(text, names):

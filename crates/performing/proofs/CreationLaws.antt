@@ -43,7 +43,7 @@ use Rattle.store.proofs.WordLaws.{sized}
 module _ (sheet : List ℕ) (s : Progress) where
   making : (σ : Store) (x : Object) (callable b : Bool)
       → out_performed sheet σ (cond b (Done (completion.Value (named callable (next_number σ))) (write.NewObject x callable) s) (Failed (Refused 7) s))
-      ≡ written σ ((if b then pure (result.value (named callable (next_number σ)), add σ x callable) else fails (Refused 7)).run (state_of sheet s))
+      ≡ written σ ((when b then pure (result.value (named callable (next_number σ)), add σ x callable) else fails (Refused 7)).run (state_of sheet s))
   unfolding pure fails when◌then◌else◌
   making σ x callable true = refl
   making σ x callable false = refl
