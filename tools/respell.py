@@ -36,7 +36,8 @@ OPERATOR = ("if◌then◌else◌", "when◌then◌else◌")
 
 def operator(code, path):
     code = code.replace(*OPERATOR)
-    return re.sub(r"(?<![^\s(])if(?=\s.*\sthen(?:\s|$))", "when", code) if path.endswith(".antt") else code
+    followed = "" if "/specs/" in path else r".*\sthen\s"
+    return re.sub(r"(?<![^\s(])if(?=\s" + followed + ")", "when", code)
 
 
 def words(text, names):
