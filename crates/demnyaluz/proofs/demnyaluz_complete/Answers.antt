@@ -4,4 +4,4 @@ use borrow.Author.Rules.{rules}
 use Rattle.demnyaluz.proofs.demnyaluz_complete.Goals as goal
 
 pub returns : goal.returns
-returns c = c.write_report.ensures.0 ∙ ap report_words c.complete.ensures
+returns c = record { reported = c.write_report.ensures.0 ∙ ap report_words c.complete.ensures }
