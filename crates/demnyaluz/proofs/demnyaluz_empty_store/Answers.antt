@@ -1,4 +1,3 @@
-use borrow.Author.Rules.{rules}
 use Rattle.demnyaluz.proofs.demnyaluz_empty_store.Goals as goal
 
 pub returns : goal.returns

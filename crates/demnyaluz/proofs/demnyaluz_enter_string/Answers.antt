@@ -1,5 +1,4 @@
 use Rattle.reporting.proofs.ContractLaws.{string-exported}
-use borrow.Author.Rules.{rules}
 use Rattle.demnyaluz.proofs.demnyaluz_enter_string.Goals as goal
 
 pub returns : goal.returns

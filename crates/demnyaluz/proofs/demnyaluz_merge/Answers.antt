@@ -1,6 +1,5 @@
 use mathlib.Core.Path.{ap, ◌∙◌}
 use Rattle.reporting.specs.ReportWords.{report_words}
-use borrow.Author.Rules.{rules}
 use Rattle.demnyaluz.proofs.demnyaluz_merge.Goals as goal
 
 pub returns : goal.returns

@@ -1,4 +1,3 @@
-use borrow.Author.Rules.{rules}
 use Rattle.demnyaluz.proofs.demnyaluz_message.Goals as goal
 
 pub returns : goal.returns

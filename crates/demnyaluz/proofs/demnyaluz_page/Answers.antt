@@ -1,5 +1,4 @@
 use Rattle.reporting.proofs.ContractLaws.{page-exported}
-use borrow.Author.Rules.{rules}
 use Rattle.demnyaluz.proofs.demnyaluz_page.Goals as goal
 
 pub returns : goal.returns

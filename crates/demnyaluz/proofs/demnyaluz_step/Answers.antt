@@ -1,5 +1,4 @@
 use Rattle.reporting.proofs.ContractLaws.{step-exported}
-use borrow.Author.Rules.{rules}
 use Rattle.demnyaluz.proofs.demnyaluz_step.Goals as goal
 
 pub returns : goal.returns

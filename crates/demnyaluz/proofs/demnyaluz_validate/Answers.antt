@@ -1,7 +1,6 @@
 use mathlib.Core.Path.{ap, ◌∙◌}
 use Rattle.reporting.specs.ReportWords.{report_words}
 use Rattle.descriptor_entries.specs.Entries.{verdict_report, is_accepted, failed_test}
-use borrow.Author.Rules.{rules}
 use Rattle.demnyaluz.proofs.demnyaluz_validate.Goals as goal
 
 pub returns : goal.returns
