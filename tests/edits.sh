@@ -1,6 +1,6 @@
 #!/bin/sh
-# The must-fail edits that the gate leaves out (crates/NAME/more-must-fail), of the crates named, or of all: each must be refused, and first in
-# the module that it changes. The last line has the counts. It works on a copy in which they stand in must-fail/.
+# The must-fail edits that the gate leaves out (crates/NAME/more-must-fail), of the crates named, or of all: each must be refused, for a fact and not
+# for a name or at a limit, and first in the module that it changes. The last line has the counts. It works on a copy in which they stand in must-fail/.
 set -eu
 root=$(cd "$(dirname "$0")/.." && pwd)
 copy=$(mktemp -d)
@@ -34,7 +34,7 @@ status=0
 rt must-fail $names > log 2>&1 || status=$?
 grep '^rt: must-fail\|BAD EDIT\|NOT REFUSED\|NOT TRIED' log || cat log
 # Where the first error of an edit's check stands: src/MODULE.rt, or proofs/MODULE for its proofs; the root (src/lib.rt, src/main.rt) has its proofs
-# in the other folders, and functions that call one another have theirs in a folder with a '+'. An edit of a definition is refused by a law.
+# in the other folders. An edit of a definition is refused by a law.
 elsewhere=0
 for edit in crates/*/must-fail/*.edit; do
     crate=$(echo "$edit" | cut -d/ -f2)
@@ -42,7 +42,7 @@ for edit in crates/*/must-fail/*.edit; do
     module=$(sed -n 's,^file: src/\(.*\)\.rt$,\1,p' "$edit" | head -n 1)
     first=$(sed -n "s,^rt: must-fail $crate/$label: refused\, as it must be,,p" log | sed 's,^ ([^)]*),,; s,^: ,,; s,^note: ,,; s,^\./,,')
     if [ -z "$module" ] || [ -z "$first" ] || grep -q '^file: specs/' "$edit"; then continue; fi
-    case $first in "src/$module.rt:"* | "proofs/$module/"* | proofs/+* | proofs/*/+*) continue ;; esac
+    case $first in "src/$module.rt:"* | "proofs/$module/"*) continue ;; esac
     folder=$(echo "$first" | cut -d/ -f2)
     case $module:$first in lib:proofs/* | main:proofs/*) if [ ! -f "crates/$crate/src/$folder.rt" ]; then continue; fi ;; esac
     elsewhere=$((elsewhere + 1))
@@ -51,4 +51,4 @@ done
 refused=$(grep -c '^rt: must-fail .*: refused, as it must be' log || true)
 little=$(grep -c '^rt: must-fail .*: refused, as it must be (' log || true)
 echo "edits: $tried tried, $refused refused, $little of them only by a name that a proof file has or by a limit, $elsewhere first in another module"
-[ "$status" -eq 0 ] && [ "$refused" -eq "$tried" ] && [ "$elsewhere" -eq 0 ]
+[ "$status" -eq 0 ] && [ "$refused" -eq "$tried" ] && [ "$little" -eq 0 ] && [ "$elsewhere" -eq 0 ]
