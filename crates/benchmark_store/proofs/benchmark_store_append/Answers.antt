@@ -3,7 +3,6 @@ use native.Mathlib.Omega.{arith}
 use Rattle.store.proofs.WordLaws.{sized}
 use Rattle.benchmark_store.proofs.ExportLaws.{addable, add_words, add-count}
 use Rattle.benchmark_store.specs.Export.{added, add_answer}
-use borrow.Author.Rules.{rules}
 use Rattle.benchmark_store.proofs.benchmark_store_append.Goals as goal
 
 pub add_property-requires : goal.add_property-requires

@@ -1,6 +1,5 @@
 use mathlib.Core.Path.{sym, ◌∙◌}
 use Rattle.benchmark_store.specs.Export.{find_answer}
-use borrow.Author.Rules.{rules}
 use Rattle.benchmark_store.proofs.benchmark_store_find.Goals as goal
 
 pub find-requires : goal.find-requires

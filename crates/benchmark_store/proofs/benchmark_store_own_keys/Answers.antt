@@ -1,7 +1,6 @@
 use mathlib.Core.Path.{sym, ◌∙◌}
 use Rattle.benchmark_store.proofs.ExportLaws.{listable, list_count, list-words}
 use Rattle.benchmark_store.specs.Export.{listed, list_answer}
-use borrow.Author.Rules.{rules}
 use Rattle.benchmark_store.proofs.benchmark_store_own_keys.Goals as goal
 
 pub list_own_keys-requires : goal.list_own_keys-requires

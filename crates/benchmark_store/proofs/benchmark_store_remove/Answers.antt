@@ -3,7 +3,6 @@ use native.Mathlib.Omega.{arith}
 use Rattle.store.proofs.WordLaws.{sized}
 use Rattle.benchmark_store.proofs.ExportLaws.{removable, remove-words, remove-count}
 use Rattle.benchmark_store.specs.Export.{removed, remove_answer}
-use borrow.Author.Rules.{rules}
 use Rattle.benchmark_store.proofs.benchmark_store_remove.Goals as goal
 
 pub remove_property-requires : goal.remove_property-requires

@@ -1,4 +1,3 @@
-use borrow.Author.Rules.{rules}
 use Rattle.benchmark_store.proofs.place_number.Goals as goal
 
 pub returns-in-At : goal.returns-in-At

@@ -1,7 +1,6 @@
 use Rattle.store.specs.Words.{property_of}
 use Rattle.store_read.proofs.ReadLaws.{odd-flag, even-flag}
 use Rattle.benchmark_store.specs.Export.{row_property}
-use borrow.Author.Rules.{rules}
 use Rattle.benchmark_store.proofs.property_of.Goals as goal
 
 pub returns-then-flags-eq1 : goal.returns-then-flags-eq1

@@ -4,7 +4,6 @@ use Rattle.internal_methods.specs.Monad.{pure, fails, next, ◌>>=◌}
 use Rattle.internal_methods.specs.Ordinary.{ordinary_define_own_property}
 use Rattle.calls.specs.Outs.{context, out_own_property}
 use Rattle.definition.proofs.DefineLaws.{ordinary-below, ordinary-own, same_write}
-use borrow.Author.Rules.{rules}
 use Rattle.definition.proofs.ordinary_define_own_property.Goals as goal
 
 pub apply_validation-requires : goal.apply_validation-requires

@@ -3,7 +3,6 @@ use mathlib.Core.Path.{sym, ◌∙◌}
 use Rattle.internal_methods.specs.Monad.{pure, fails, next, ◌>>=◌, when◌then◌else◌}
 use Rattle.internal_methods.specs.Ordinary.{ordinary_delete}
 use Rattle.extensibility.proofs.WriteLaws.{nothing-fits}
-use borrow.Author.Rules.{rules}
 use Rattle.deletion.proofs.ordinary_delete.Goals as goal
 
 pub returns-in-Failed : goal.returns-in-Failed

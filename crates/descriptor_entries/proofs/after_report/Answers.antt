@@ -1,4 +1,3 @@
-use borrow.Author.Rules.{rules}
 use Rattle.descriptor_entries.proofs.after_report.Goals as goal
 
 pub returns-in-Absent : goal.returns-in-Absent

@@ -1,4 +1,3 @@
-use borrow.Author.Rules.{rules}
 use Rattle.descriptor_entries.proofs.answer_report.Goals as goal
 
 pub returns-in-Refused : goal.returns-in-Refused

@@ -1,6 +1,5 @@
 use mathlib.Core.Path.{sym, ap, ◌∙◌}
 use Rattle.descriptor_entries.specs.Entries.{answer_report, complete_over}
-use borrow.Author.Rules.{rules}
 use Rattle.descriptor_entries.proofs.complete.Goals as goal
 
 pub returns-in-Malformed : goal.returns-in-Malformed

@@ -2,7 +2,6 @@ use mathlib.Core.Path.{sym, ◌∙◌}
 use Rattle.value.proofs.Bools.{and-true}
 use Rattle.reporting.specs.Memory.{is_memory}
 use Rattle.descriptor_entries.specs.Entries.{counts_in}
-use borrow.Author.Rules.{rules}
 use Rattle.descriptor_entries.proofs.counts_in.Goals as goal
 
 pub counts_of-requires : goal.counts_of-requires

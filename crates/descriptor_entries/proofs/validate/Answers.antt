@@ -1,6 +1,5 @@
 use mathlib.Core.Path.{sym}
 use Rattle.descriptor_entries.specs.Entries.{validate_over}
-use borrow.Author.Rules.{rules}
 use Rattle.descriptor_entries.proofs.validate.Goals as goal
 
 pub returns-in-Malformed : goal.returns-in-Malformed

@@ -1,4 +1,3 @@
-use borrow.Author.Rules.{rules}
 use Rattle.descriptors.proofs.from_property_descriptor.Goals as goal
 
 pub returns : goal.returns

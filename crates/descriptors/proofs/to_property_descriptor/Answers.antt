@@ -1,4 +1,3 @@
-use borrow.Author.Rules.{rules}
 use Rattle.property.specs.Descriptor.{to_property_descriptor}
 use Rattle.descriptors.proofs.to_property_descriptor.Goals as goal
 

@@ -1,11 +1,8 @@
 use mathlib.Core.Path.{sym, ◌∙◌}
 use native.Mathlib.Omega.{arith}
-use Prim.Native.Nat.{◌+◌, ◌*◌}
-use borrow.Author.Rules.{rules}
 use Rattle.internal_methods.specs.Monad.{pure, fails, next, ◌>>=◌}
 use Rattle.calls.proofs.EnterLaws.{own-property-keys-goes-on, is_below}
 use Rattle.own_keys.proofs.PartLaws.{in_parts, trapless, stays_fit, begun-fit}
-use Prim.Native.Nat.{ℕ}
 use Rattle.own_keys.proofs.+own_property_keys_proxy_exotic_own_property_keys.Goals as goal
 
 pub own_property_keys-enter-requires : goal.own_property_keys-enter-requires

@@ -1,6 +1,5 @@
 use mathlib.Core.Path.{sym, ◌∙◌}
 use Rattle.performing.proofs.CreationLaws.{past-creation}
-use borrow.Author.Rules.{rules}
 use Rattle.performing.proofs.perform.Goals as goal
 
 pub perform_creation-requires : goal.perform_creation-requires

@@ -5,7 +5,6 @@ use Rattle.steps.specs.Operation.{operation_of}
 use Rattle.steps.specs.Perform.{maximum_calls}
 use Rattle.performing.proofs.CreationLaws.{object-made, function-made, proxy-made, proxy-revoked, object-released, last-creation}
 use borrow.Author.Tests.{eq-eqb}
-use borrow.Author.Rules.{rules}
 use Rattle.performing.proofs.perform_creation.Goals as goal
 
 pub release-requires : goal.release-requires

@@ -6,7 +6,6 @@ use Rattle.calls.proofs.EnterLaws.{objectless, objectful}
 use Rattle.reporting.specs.Memory.{page_over}
 use Rattle.reporting.proofs.ContractLaws.{store_is}
 use Rattle.steps.specs.Page.{property_page}
-use borrow.Author.Rules.{rules}
 use Rattle.property_page.proofs.page.Goals as goal
 
 pub object_at-requires : goal.object_at-requires

@@ -1,14 +1,9 @@
-use Prim.Native.Nat.{◌+◌, ◌*◌, ◌-◌, ◌≤◌}
+use Prim.Native.Nat.{◌-◌}
 use native.Mathlib.Omega.{arith}
-use mathlib.Core.Path.{◌≡◌, refl, sym, ◌∙◌}
-use mathlib.Core.List.{map}
-use lib.ListN.{length, take, drop}
-use lib.Seq.{sets}
+use mathlib.Core.Path.{refl, sym, ◌∙◌}
 use Rattle.store.specs.Words.{store_of}
 use Rattle.store_read.specs.Answers.{key_from_word}
-use Rattle.steps.specs.Page.{own_of, lines}
 use Rattle.property_page.proofs.PageLaws.{line-next, line-none, line-end}
-use borrow.Author.Rules.{rules}
 use Rattle.property_page.proofs.put_lines.Goals as goal
 
 pub loop-i-init : goal.loop-i-init

@@ -1,14 +1,11 @@
 use Prim.Native.Nat.{◌+◌, ◌*◌, ◌-◌, ◌≤◌}
-use native.Mathlib.Omega.{arith}
-use mathlib.Core.Path.{◌≡◌, refl, sym, ◌∙◌}
+use mathlib.Core.Path.{◌≡◌}
 use mathlib.Core.List.{map}
 use lib.ListN.{length, take, drop}
 use lib.Seq.{sets}
 use Rattle.store.specs.Words.{store_of}
 use Rattle.store_read.specs.Answers.{key_from_word}
 use Rattle.steps.specs.Page.{own_of, lines}
-use Rattle.property_page.proofs.PageLaws.{line-next, line-none, line-end}
-use borrow.Author.Rules.{rules}
 use Rattle.property_page.proofs.put_lines.Given as goal
 
 abbrev pub invariant-loop-i : goal.invariant-loop-i

@@ -1,7 +1,6 @@
 use native.Mathlib.Omega.{arith}
 use Rattle.reporting.proofs.ContractLaws.{store_is, table_is}
 use Rattle.property_page.proofs.PageLaws.{page-put, page-short}
-use borrow.Author.Rules.{rules}
 use Rattle.property_page.proofs.put_page.Goals as goal
 
 pub list_own_keys-n-requires : goal.list_own_keys-n-requires

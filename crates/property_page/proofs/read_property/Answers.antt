@@ -3,7 +3,6 @@ use Rattle.calls.specs.Outs.{context}
 use Rattle.internal_methods.proofs.OrdinaryRuns.{own-run}
 use Rattle.reporting.proofs.ContractLaws.{store_is, table_is}
 use Rattle.property_page.proofs.PageLaws.{read_done, read-failed}
-use borrow.Author.Rules.{rules}
 use Rattle.property_page.proofs.read_property.Goals as goal
 
 pub get_own_property-requires : goal.get_own_property-requires

@@ -1,4 +1,3 @@
-use borrow.Author.Rules.{rules}
 use Rattle.reporting.proofs.completed.Goals as goal
 
 pub returns : goal.returns

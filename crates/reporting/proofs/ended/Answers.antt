@@ -1,7 +1,6 @@
 use native.Mathlib.Omega.{arith}
 use mathlib.Core.Path.{◌∙◌}
 use Rattle.reporting.proofs.SheetLaws.{sheet-there, ended-unread, ended-read}
-use borrow.Author.Rules.{rules}
 use Rattle.reporting.proofs.ended.Goals as goal
 
 pub returns-then-s-gt0 : goal.returns-then-s-gt0

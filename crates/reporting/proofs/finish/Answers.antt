@@ -1,7 +1,6 @@
 use mathlib.Core.Path.{refl, ◌∙◌}
 use Rattle.reporting.proofs.SheetLaws.{positive, ended-unread}
 use Rattle.reporting.proofs.EndLaws.{is-written, is-unwritten}
-use borrow.Author.Rules.{rules}
 use Rattle.reporting.proofs.finish.Goals as goal
 
 pub commit-requires : goal.commit-requires

@@ -1,6 +1,5 @@
 use mathlib.Core.Path.{sym, ◌∙◌}
 use Rattle.reporting.specs.Memory.{is_memory}
-use borrow.Author.Rules.{rules}
 use Rattle.reporting.proofs.is_memory.Goals as goal
 
 pub returns-then-is_store : goal.returns-then-is_store

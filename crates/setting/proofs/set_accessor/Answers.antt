@@ -2,7 +2,6 @@
 use mathlib.Core.Path.{sym, ◌∙◌}
 use Rattle.internal_methods.specs.Monad.{pure, fails, next, ◌>>=◌, when◌then◌else◌}
 use Rattle.setting.specs.Set.{set_accessor}
-use borrow.Author.Rules.{rules}
 use Rattle.setting.proofs.set_accessor.Goals as goal
 
 pub returns-then-is_undefined : goal.returns-then-is_undefined

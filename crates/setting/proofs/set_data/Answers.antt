@@ -4,7 +4,6 @@ use Rattle.value.specs.Value.{object_of}
 use Rattle.value.proofs.Objects.{is-object, is-no-object}
 use Rattle.internal_methods.specs.Monad.{pure, when◌then◌else◌}
 use Rattle.internal_methods.specs.Ordinary.{set_data}
-use borrow.Author.Rules.{rules}
 use Rattle.setting.proofs.set_data.Goals as goal
 
 pub returns-in-Object : goal.returns-in-Object

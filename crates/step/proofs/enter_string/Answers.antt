@@ -1,5 +1,4 @@
 use Rattle.step.proofs.StepLaws.{entry-shown}
-use borrow.Author.Rules.{rules}
 use Rattle.step.proofs.enter_string.Goals as goal
 
 pub returns : goal.returns

@@ -4,7 +4,6 @@ use Rattle.store.specs.Words.{world_of}
 use Rattle.step_records.proofs.PassedLaws.{step-length, sheet-there, sheet-formed, other-code}
 use Rattle.reporting.proofs.EndLaws.{finished-words, kept-words}
 use Rattle.step.proofs.StepLaws.{performable, lists-fit, turns, run-shown, run-listed, run-set, run-tested, run-performed}
-use borrow.Author.Rules.{rules}
 use Rattle.step.proofs.run.Goals as goal
 
 pub bounds-bytes-0 : goal.bounds-bytes-0

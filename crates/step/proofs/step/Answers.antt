@@ -4,7 +4,6 @@ use Rattle.record.specs.Tests.{first_failing}
 use Rattle.record.proofs.RefusalLaws.{is-failed, is-passed}
 use Rattle.steps.specs.Step.{record_tests}
 use Rattle.step.proofs.StepLaws.{memory-readable, step-refused, step-ran, step-unread}
-use borrow.Author.Rules.{rules}
 use Rattle.step.proofs.step.Goals as goal
 
 pub record_refusal-requires : goal.record_refusal-requires

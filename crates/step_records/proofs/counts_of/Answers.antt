@@ -1,4 +1,3 @@
-use borrow.Author.Rules.{rules}
 use Rattle.step_records.proofs.TestLaws.{counted, uncounted, same-counts}
 use Rattle.step_records.proofs.counts_of.Goals as goal
 

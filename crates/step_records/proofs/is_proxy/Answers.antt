@@ -1,4 +1,3 @@
-use borrow.Author.Rules.{rules}
 use Rattle.store.specs.Store.{lookup}
 use Rattle.store.specs.Words.{store_of}
 use Rattle.step_records.proofs.TestLaws.{not_made, is-ordinary, is-proxy}

@@ -1,7 +1,6 @@
 use mathlib.Core.Path.{sym, ◌∙◌}
 use Rattle.store.specs.Words.{world_of}
 use Rattle.step_records.proofs.TestLaws.{no_length, step-fails, descriptor-fails, step-passes}
-use borrow.Author.Rules.{rules}
 use Rattle.step_records.proofs.record_refusal.Goals as goal
 
 pub returns-then-bytes-ne58 : goal.returns-then-bytes-ne58

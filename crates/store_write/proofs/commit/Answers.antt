@@ -1,5 +1,4 @@
 use mathlib.Core.Path.{refl}
-use borrow.Author.Rules.{rules}
 use Rattle.store_write.proofs.commit.Goals as goal
 
 pub set_object-requires : goal.set_object-requires

@@ -1,6 +1,5 @@
 use native.Mathlib.Omega.{arith}
 use mathlib.Core.Path.{sym, ◌∙◌}
-use borrow.Author.Rules.{rules}
 use Rattle.text.specs.Answers.{count_answer}
 use Rattle.text.proofs.TableLaws.{table-size, length-strings}
 use Rattle.text.proofs.count.Goals as goal

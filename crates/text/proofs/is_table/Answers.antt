@@ -1,5 +1,4 @@
 use borrow.Author.Tests.{eq-eqb, ne_eqb}
-use borrow.Author.Rules.{rules}
 use Rattle.text.specs.Table.{is_table}
 use Rattle.text.proofs.is_table.Goals as goal
 

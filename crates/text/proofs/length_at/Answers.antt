@@ -1,6 +1,5 @@
 use native.Mathlib.Omega.{arith}
 use mathlib.Core.Path.{sym, ◌∙◌}
-use borrow.Author.Rules.{rules}
 use Rattle.text.proofs.TableLaws.{length-is, length_cut}
 use Rattle.text.proofs.length_at.Goals as goal
 

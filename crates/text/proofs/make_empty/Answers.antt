@@ -1,6 +1,5 @@
 use mathlib.Core.Path.{sym}
 use borrow.Author.Tests.{eq-eqb, ne_eqb}
-use borrow.Author.Rules.{rules}
 use Rattle.text.specs.Answers.{emptied}
 use Rattle.text.proofs.TableLaws.{no-strings, empty-table, untrue}
 use Rattle.text.proofs.make_empty.Goals as goal

@@ -1,6 +1,5 @@
 use mathlib.Core.Path.{refl}
 use native.Mathlib.Omega.{arith}
-use borrow.Author.Rules.{rules}
 use Rattle.text.proofs.TableLaws.{length_most, text-part}
 use Rattle.text.proofs.text_at.Goals as goal
 

@@ -1,6 +1,5 @@
 use native.Mathlib.Omega.{arith}
 use mathlib.Core.Path.{sym, ◌∙◌}
-use borrow.Author.Rules.{rules}
 use Rattle.text.proofs.TableLaws.{table-size, table-count, text-read, text-none, text-malformed}
 use Rattle.text.proofs.text_of.Goals as goal
 

@@ -1,6 +1,5 @@
 use native.Mathlib.Omega.{arith}
 use mathlib.Core.Path.{sym, ap, ◌∙◌}
-use lib.Seq.{length-take-le}
 use Rattle.text_form.specs.Lines.{entry_of}
 use Rattle.text_line.proofs.LineLaws.{as_call, bytes-within, bytes-decoded, none-decoded, take_short, dash-text, some-text}
 use borrow.Author.Rules.{rules}

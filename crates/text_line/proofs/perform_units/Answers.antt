@@ -3,7 +3,6 @@ use mathlib.Core.Path.{ap}
 use lib.ListN.{length}
 use Rattle.text_form.specs.Lines.{entry_of}
 use Rattle.text_line.proofs.LineLaws.{as_call, odd-text, half_length, even-halved, front_length, front-units, written-half}
-use borrow.Author.Rules.{rules}
 use Rattle.text_line.proofs.perform_units.Goals as goal
 
 pub returns-then-text-eq1 : goal.returns-then-text-eq1

@@ -3,7 +3,6 @@ use mathlib.Core.Path.{sym, ap, ◌∙◌}
 use lib.Seq.{length-take-le}
 use Rattle.text_form.specs.Lines.{step_with}
 use Rattle.text_line.proofs.LineLaws.{as_call, bytes-within, bytes-decoded, none-decoded, dash-sheet, some-sheet}
-use borrow.Author.Rules.{rules}
 use Rattle.text_line.proofs.step_line.Goals as goal
 
 pub returns-then-is_dash : goal.returns-then-is_dash

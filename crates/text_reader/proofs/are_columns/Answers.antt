@@ -1,9 +1,7 @@
-use Prim.Native.Nat.{suc, ◌+◌, ◌-◌, ◌≤◌}
+use Prim.Native.Nat.{suc, ◌+◌, ◌-◌}
 use native.Mathlib.Omega.{arith}
 use mathlib.Core.Path.{◌≡◌, refl, sym, ◌∙◌}
-use mathlib.Core.Bool.{true, false}
-use lib.ListN.{length, drop}
-use Rattle.text_reader.specs.Memory.{are_below}
+use mathlib.Core.Bool.{true}
 use Rattle.text_reader.proofs.StateLaws.{below_next, below_fails, below_end}
 use Rattle.text_reader.proofs.are_columns.Goals as goal
 

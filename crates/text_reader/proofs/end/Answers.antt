@@ -5,7 +5,6 @@ use mathlib.Core.List.{[]}
 use lib.ListN.{get_or}
 use Rattle.text_reader.specs.Memory.{column_words}
 use Rattle.text_reader.proofs.ReadLaws.{state-parts, reader-parts, reader-joined, phase-open, phase-ended, closed-still, ends-input, last-ended}
-use borrow.Author.Rules.{rules}
 use Rattle.text_reader.proofs.end.Goals as goal
 
 pub bounds-state-0 : goal.bounds-state-0

@@ -2,7 +2,6 @@ use native.Mathlib.Omega.{arith}
 use mathlib.Core.Path.{◌∙◌}
 use lib.ListN.{length-set}
 use Rattle.text_reader.proofs.ReadLaws.{state-parts, first_ended, broken-written}
-use borrow.Author.Rules.{rules}
 use Rattle.text_reader.proofs.end_first.Goals as goal
 
 pub bounds-state-2 : goal.bounds-state-2

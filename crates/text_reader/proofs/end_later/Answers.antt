@@ -3,7 +3,6 @@ use native.Mathlib.Omega.{arith}
 use lib.ListN.{get_or, length-set}
 use lib.Seq.{length-take-le}
 use Rattle.text_reader.proofs.ReadLaws.{state-parts, later-ended, later-columns, later-call, later-long, later-length}
-use borrow.Author.Rules.{rules}
 use Rattle.text_reader.proofs.end_later.Goals as goal
 
 pub bounds-state-1 : goal.bounds-state-1

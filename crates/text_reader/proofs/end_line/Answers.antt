@@ -1,6 +1,5 @@
 use native.Mathlib.Omega.{arith}
 use Rattle.text_reader.proofs.ReadLaws.{state-parts, phase-later}
-use borrow.Author.Rules.{rules}
 use Rattle.text_reader.proofs.end_line.Goals as goal
 
 pub bounds-state-0 : goal.bounds-state-0

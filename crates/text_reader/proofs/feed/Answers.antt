@@ -1,4 +1,3 @@
-use Prim.Native.Nat.{ℕ, ◌≤◌}
 use native.Mathlib.Omega.{arith}
 use mathlib.Core.Path.{◌≡◌, refl, sym, ap, ◌∙◌}
 use mathlib.Core.Bool.{Bool, true, false, false≢true}
@@ -6,7 +5,6 @@ use lib.ListN.{get_or}
 use Rattle.text_form.specs.Reader.{is_ended, read_bytes}
 use Rattle.text_reader.specs.Memory.{column_words, phase_in, taken_of}
 use Rattle.text_reader.proofs.ReadLaws.{state-parts, reader-parts, reader-joined, phase-open, phase-ended, taken-within}
-use borrow.Author.Rules.{rules}
 use Rattle.text_reader.proofs.feed.Goals as goal
 
 pub bounds-state-0 : goal.bounds-state-0

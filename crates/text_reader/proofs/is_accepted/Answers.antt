@@ -1,7 +1,6 @@
 use mathlib.Core.Path.{sym, ◌∙◌}
 use borrow.Author.Tests.{eq-eqb, ne_eqb}
 use Rattle.text_reader.specs.Memory.{is_reader}
-use borrow.Author.Rules.{rules}
 use Rattle.text_reader.proofs.is_accepted.Goals as goal
 
 pub returns-then-line-eq16384 : goal.returns-then-line-eq16384

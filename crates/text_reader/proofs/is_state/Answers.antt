@@ -3,7 +3,6 @@ use mathlib.Core.Bool.{true, false}
 use borrow.Author.Tests.{ne_eqb}
 use Rattle.text_reader.specs.Memory.{is_state}
 use Rattle.text_reader.proofs.StateLaws.{is_state_lem}
-use borrow.Author.Rules.{rules}
 use Rattle.text_reader.proofs.is_state.Goals as goal
 
 pub returns-then-are_columns : goal.returns-then-are_columns

@@ -1,6 +1,5 @@
 use native.Mathlib.Omega.{arith}
 use Rattle.text_reader.proofs.StateLaws.{added-fits, added-long, added-past}
-use borrow.Author.Rules.{rules}
 use Rattle.text_reader.proofs.keep.Goals as goal
 
 pub returns-then-count-at : goal.returns-then-count-at

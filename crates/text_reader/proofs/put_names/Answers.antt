@@ -5,7 +5,6 @@ use lib.Seq.{length-take-le}
 use borrow.Author.Tests.{le-leb, lt-leb}
 use Rattle.text_form.specs.Lines.{maximum_line}
 use Rattle.text_reader.proofs.ReadLaws.{names-found, names-missing}
-use borrow.Author.Rules.{rules}
 use Rattle.text_reader.proofs.put_names.Goals as goal
 
 pub slice_bounds-put_columns-end : goal.slice_bounds-put_columns-end

@@ -2,7 +2,6 @@ use native.Mathlib.Omega.{arith}
 use mathlib.Core.Path.{refl, ◌∙◌}
 use Rattle.text_reader.specs.Memory.{reader_of}
 use Rattle.text_reader.proofs.ReadLaws.{state-parts, phase-later, last-first, last-nothing, last-later, begun-line}
-use borrow.Author.Rules.{rules}
 use Rattle.text_reader.proofs.read_last.Goals as goal
 
 pub bounds-state-2 : goal.bounds-state-2

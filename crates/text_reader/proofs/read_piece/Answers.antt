@@ -5,7 +5,6 @@ use lib.ListN.{length}
 use lib.Seq.{length-take-le}
 use Rattle.text_form.specs.Cells.{until}
 use Rattle.text_reader.proofs.ReadLaws.{state-parts, state-joined, state-sized, reader-joined, taken-all, taken-line, reads_kept, reads-line}
-use borrow.Author.Rules.{rules}
 use Rattle.record.specs.Characters.{line_feed}
 use Rattle.text_reader.proofs.read_piece.Goals as goal
 

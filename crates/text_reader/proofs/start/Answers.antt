@@ -2,7 +2,6 @@ use mathlib.Core.Path.{refl, sym, ◌∙◌}
 use mathlib.Core.Bool.{false≢true}
 use borrow.Author.Tests.{eq-eqb, ne_eqb}
 use Rattle.text_reader.proofs.StateLaws.{begun, right-lengths}
-use borrow.Author.Rules.{rules}
 use Rattle.text_reader.proofs.start.Goals as goal
 
 pub returns-then-state-eq10 : goal.returns-then-state-eq10

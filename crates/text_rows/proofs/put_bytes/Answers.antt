@@ -1,7 +1,6 @@
 use native.Mathlib.Omega.{arith}
 use Prim.Native.Nat.{◌*◌}
 use lib.ListN.{length}
-use borrow.Author.Rules.{rules}
 use Rattle.record.specs.Characters.{hexadecimal}
 use Rattle.record.proofs.CharacterLaws.{length-hexadecimal}
 use Rattle.text_rows.proofs.RowLaws.{written_byte, cell-written}

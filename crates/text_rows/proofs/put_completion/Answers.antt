@@ -2,7 +2,6 @@ use native.Mathlib.Nat.{pos_of_ne-zero}
 use mathlib.Core.Path.{sym}
 use lib.Seq.{length-take-le}
 use native.Mathlib.Omega.{arith}
-use borrow.Author.Rules.{rules}
 use Rattle.text_rows.proofs.RowLaws.{widen}
 use Rattle.text_rows.proofs.put_completion.Goals as goal
 

@@ -2,7 +2,6 @@ use native.Mathlib.Omega.{arith}
 use native.Mathlib.Numerals.{add-one}
 use mathlib.Core.Path.{refl}
 use lib.ListN.{length-set}
-use borrow.Author.Rules.{rules}
 use Rattle.text_rows.proofs.put_dash.Goals as goal
 
 pub bounds-rows-at-2 : goal.bounds-rows-at-2

@@ -1,11 +1,8 @@
 use Prim.Native.Nat.{◌-◌, ◌≤◌}
-use native.Mathlib.Omega.{arith}
-use mathlib.Core.Path.{◌≡◌, refl, sym, ◌∙◌}
-use lib.ListN.{length, drop, length-set}
+use mathlib.Core.Path.{◌≡◌}
+use lib.ListN.{length, drop}
 use lib.Seq.{sets}
-use borrow.Author.Rules.{rules}
 use Rattle.text_form.specs.Rows.{heading}
-use Rattle.text_rows.proofs.RowLaws.{copy-next, copy-end}
 use Rattle.text_rows.proofs.put_heading.Given as goal
 
 abbrev pub invariant-loop-i : goal.invariant-loop-i

@@ -1,4 +1,3 @@
-use borrow.Author.Rules.{rules}
 use Rattle.record.specs.Characters.{decimal}
 use Rattle.text_rows.proofs.RowLaws.{written_byte}
 use Rattle.text_rows.proofs.put_number.Goals as goal

@@ -3,7 +3,6 @@ use mathlib.Core.Path.{sym}
 use Rattle.record.specs.Descriptor.{descriptor_bytes}
 use Rattle.property.specs.Descriptor.{descriptor_of, from_property_descriptor}
 use Rattle.text_rows.proofs.RowLaws.{length-descriptor, widen, filled-written}
-use borrow.Author.Rules.{rules}
 use Rattle.text_rows.proofs.put_property.Goals as goal
 
 pub returns : goal.returns

@@ -1,5 +1,4 @@
 use Rattle.text_rows.specs.ReportRows.{outcome_bytes}
-use borrow.Author.Rules.{rules}
 use Rattle.text_rows.proofs.RowLaws.{row_written}
 use Rattle.text_rows.proofs.put_row.Goals as goal
 

@@ -3,7 +3,6 @@ use mathlib.Core.Path.{sym}
 use Rattle.record.specs.Bytes.{value_bytes}
 use Rattle.record.proofs.RoundTrip.{length-value}
 use Rattle.text_rows.proofs.RowLaws.{widen, filled-written}
-use borrow.Author.Rules.{rules}
 use Rattle.text_rows.proofs.put_value.Goals as goal
 
 pub returns : goal.returns

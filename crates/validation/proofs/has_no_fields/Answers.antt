@@ -1,6 +1,5 @@
 use mathlib.Core.Path.{◌≡◌, refl, sym, ◌∙◌}
 use mathlib.Core.Bool.{Bool, true, false, ◌&&◌}
-use borrow.Author.Rules.{rules}
 use Rattle.property.specs.Descriptor.{is_generic_descriptor}
 use Rattle.validation.proofs.has_no_fields.Goals as goal
 

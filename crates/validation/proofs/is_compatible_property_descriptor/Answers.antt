@@ -1,4 +1,3 @@
-use borrow.Author.Rules.{rules}
 use mathlib.Core.Path.{sym}
 use Rattle.property.specs.Validate.{is_compatible}
 use Rattle.validation.proofs.is_compatible_property_descriptor.Goals as goal

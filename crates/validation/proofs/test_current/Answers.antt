@@ -1,5 +1,4 @@
 use mathlib.Core.Path.{sym, ◌∙◌}
-use borrow.Author.Rules.{rules}
 use Rattle.validation.proofs.test_current.Goals as goal
 
 pub returns-then-is_configurable : goal.returns-then-is_configurable

@@ -1,6 +1,5 @@
 use mathlib.Core.Path.{sym, ◌∙◌}
 use Rattle.property.specs.Validate.{reject_if}
-use borrow.Author.Rules.{rules}
 use Rattle.validation.proofs.test_kind.Goals as goal
 
 pub returns-then-is_unlike : goal.returns-then-is_unlike

@@ -2,7 +2,6 @@ use mathlib.Core.Path.{sym, ◌∙◌}
 use Rattle.property.specs.Validate.{reject_if, validate}
 use Rattle.validation.specs.declared.Tested.TheVariants.{Fails, Returns, Passes}
 use Rattle.validation.proofs.TestedLaws.{tested-as}
-use borrow.Author.Rules.{rules}
 use Rattle.validation.proofs.validate.Goals as goal
 
 pub returns-then-not-extensible : goal.returns-then-not-extensible

@@ -1,4 +1,3 @@
-use borrow.Author.Rules.{rules}
 use Rattle.value_operations.proofs.is_callable.Goals as goal
 
 pub returns : goal.returns

@@ -1,5 +1,3 @@
-use borrow.Author.Rules.{rules}
-use Rattle.value.proofs.Missing.{no-object}
 use Rattle.value_operations.proofs.object_of.Goals as goal
 
 pub returns-in-Object : goal.returns-in-Object

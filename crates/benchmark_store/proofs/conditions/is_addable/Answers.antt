@@ -3,7 +3,6 @@ use native.Mathlib.Omega.{arith}
 use borrow.Author.Tests.{lt-ltb, le-ltb}
 use Rattle.store.proofs.WordLaws.{sized}
 use Rattle.benchmark_store.specs.Export.{is_addable}
-use borrow.Author.Rules.{rules}
 use Rattle.benchmark_store.proofs.conditions.is_addable.Goals as goal
 
 pub bounds-words-1 : goal.bounds-words-1

@@ -1,6 +1,5 @@
 use mathlib.Core.Path.{sym, ◌∙◌}
 use Rattle.benchmark_store.specs.Export.{is_listable}
-use borrow.Author.Rules.{rules}
 use Rattle.benchmark_store.proofs.conditions.is_listable.Goals as goal
 
 pub returns-then-is_table : goal.returns-then-is_table

@@ -1,7 +1,6 @@
 use mathlib.Core.Path.{sym, ◌∙◌}
 use Rattle.store_read.proofs.ReadLaws.{own-found, own-missed}
 use Rattle.benchmark_store.specs.Export.{is_new}
-use borrow.Author.Rules.{rules}
 use Rattle.benchmark_store.proofs.conditions.is_new.Goals as goal
 
 pub returns-in-At : goal.returns-in-At

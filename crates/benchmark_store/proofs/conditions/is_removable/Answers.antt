@@ -1,6 +1,5 @@
 use mathlib.Core.Path.{sym, ◌∙◌}
 use Rattle.benchmark_store.specs.Export.{is_removable}
-use borrow.Author.Rules.{rules}
 use Rattle.benchmark_store.proofs.conditions.is_removable.Goals as goal
 
 pub returns-then-is_store : goal.returns-then-is_store

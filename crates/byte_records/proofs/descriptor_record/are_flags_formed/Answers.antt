@@ -1,4 +1,3 @@
-use borrow.Author.Rules.{rules}
 use mathlib.Core.Path.{◌∙◌, sym}
 use Rattle.byte_records.proofs.descriptor_record.are_flags_formed.Goals as goal
 

@@ -1,5 +1,4 @@
 use Rattle.record.specs.Descriptor.{descriptor_at}
-use borrow.Author.Rules.{rules}
 use Rattle.byte_records.proofs.descriptor_record.descriptor_at.Goals as goal
 
 pub returns : goal.returns

@@ -1,4 +1,3 @@
-use borrow.Author.Rules.{rules}
 use Rattle.byte_records.proofs.descriptor_record.field_at.Goals as goal
 
 pub returns-then-used : goal.returns-then-used

@@ -1,5 +1,4 @@
 use Rattle.byte_records.proofs.DescriptorLaws.{by-head}
-use borrow.Author.Rules.{rules}
 use Rattle.byte_records.proofs.descriptor_record.is_descriptor_at.Goals as goal
 
 pub returns-then-is_head_at : goal.returns-then-is_head_at

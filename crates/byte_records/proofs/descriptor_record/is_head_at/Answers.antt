@@ -1,5 +1,4 @@
 use borrow.Author.Tests.{le-ltb, lt-ltb}
-use borrow.Author.Rules.{rules}
 use Rattle.byte_records.proofs.descriptor_record.is_head_at.Goals as goal
 
 pub returns-then-flags-lt8 : goal.returns-then-flags-lt8

@@ -1,5 +1,4 @@
 use Rattle.byte_records.proofs.DescriptorLaws.{store-descriptor}
-use borrow.Author.Rules.{rules}
 use lib.ListN.{length, length-set}
 use lib.Seq.{length-sets}
 use mathlib.Core.Path.{◌∙◌, ap}

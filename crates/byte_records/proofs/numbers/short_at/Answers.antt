@@ -1,6 +1,5 @@
 use native.Mathlib.Omega.{arith}
 use Rattle.byte_records.proofs.ByteLaws.{short-of}
-use borrow.Author.Rules.{rules}
 use Rattle.byte_records.proofs.numbers.short_at.Goals as goal
 
 pub returns : goal.returns

@@ -1,5 +1,4 @@
 use Rattle.record.specs.Bytes.{is_part_at}
-use borrow.Author.Rules.{rules}
 use Rattle.byte_records.proofs.value_record.is_part_at.Goals as goal
 
 pub returns-then-used : goal.returns-then-used

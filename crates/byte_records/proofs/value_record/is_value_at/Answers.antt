@@ -1,6 +1,5 @@
 use native.Mathlib.Numerals.{add-one}
 use Rattle.record.specs.Bytes.{is_value_at}
-use borrow.Author.Rules.{rules}
 use Rattle.byte_records.proofs.value_record.is_value_at.Goals as goal
 
 pub returns : goal.returns

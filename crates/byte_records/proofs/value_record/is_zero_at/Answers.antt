@@ -1,6 +1,5 @@
 use Rattle.byte_records.proofs.ByteLaws.{zero-value}
 use borrow.Author.Tests.{eq-eqb, ne_eqb}
-use borrow.Author.Rules.{rules}
 use Rattle.byte_records.proofs.value_record.is_zero_at.Goals as goal
 
 pub returns-then-wide-eq0 : goal.returns-then-wide-eq0

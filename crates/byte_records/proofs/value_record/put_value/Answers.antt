@@ -1,5 +1,4 @@
 use Rattle.record.specs.Bytes.{value_bytes}
-use borrow.Author.Rules.{rules}
 use lib.ListN.{length, length-set}
 use lib.Seq.{length-sets}
 use mathlib.Core.Path.{◌∙◌, ap}

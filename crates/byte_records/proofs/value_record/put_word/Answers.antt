@@ -1,10 +1,7 @@
-use Prim.Native.Nat.{◌+◌, ◌-◌, ◌≤◌}
+use Prim.Native.Nat.{◌+◌, ◌-◌}
 use native.Mathlib.Omega.{arith}
 use mathlib.Core.Path.{◌≡◌, refl, sym, ◌∙◌}
 use lib.ListN.{length, length-set}
-use lib.Seq.{sets}
-use borrow.Author.Rules.{rules}
-use Rattle.record.specs.Bytes.{bytes_of}
 use Rattle.byte_records.proofs.ByteLaws.{store_step, store-end}
 use Rattle.byte_records.proofs.value_record.put_word.Goals as goal
 

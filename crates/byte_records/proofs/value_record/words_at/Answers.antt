@@ -1,5 +1,4 @@
 use native.Mathlib.Numerals.{add-one}
-use borrow.Author.Rules.{rules}
 use Rattle.byte_records.proofs.value_record.words_at.Goals as goal
 
 pub returns : goal.returns

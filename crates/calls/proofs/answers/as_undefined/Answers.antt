@@ -2,7 +2,6 @@ use Rattle.calls.specs.Outs.{state_of}
 use Rattle.internal_methods.specs.Monad.{pure, fails}
 use Rattle.internal_methods.specs.Answers.{as_prototype}
 use Rattle.calls.proofs.AnswerLaws.{no-descriptor}
-use borrow.Author.Rules.{rules}
 use borrow.Enum.Refused.{opened}
 use Rattle.calls.proofs.answers.as_undefined.Goals as goal
 

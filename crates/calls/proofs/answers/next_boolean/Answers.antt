@@ -3,7 +3,6 @@ use mathlib.Core.Path.{sym}
 use Rattle.internal_methods.specs.Monad.{pure, fails, next, ◌>>=◌}
 use Rattle.internal_methods.specs.Answers.{ask_boolean, ask_prototype}
 use Rattle.calls.proofs.AnswerLaws.{same-boolean}
-use borrow.Author.Rules.{rules}
 use Rattle.calls.proofs.answers.next_boolean.Goals as goal
 
 pub returns-in-Failed : goal.returns-in-Failed

@@ -1,7 +1,6 @@
 use mathlib.Core.Path.{sym}
 use Rattle.internal_methods.specs.Monad.{pure, fails, next, ◌>>=◌}
 use Rattle.internal_methods.specs.Answers.{ask_boolean, ask_prototype}
-use borrow.Author.Rules.{rules}
 use Rattle.calls.proofs.answers.next_prototype.Goals as goal
 
 pub returns-in-Failed : goal.returns-in-Failed

@@ -1,7 +1,6 @@
 use Rattle.internal_methods.specs.Monad.{pure, fails, next, ◌>>=◌}
 use Rattle.internal_methods.specs.Answers.{ask_value, as_value, ask_descriptor, as_descriptor}
 use Rattle.calls.proofs.AnswerLaws.{asked-none, asked-value, asked-descriptor, asked-keys, asked-throw, left-value, left-descriptor, left-keys, left-throw}
-use borrow.Author.Rules.{rules}
 use Rattle.calls.proofs.answers.next_value.Goals as goal
 
 pub past-requires : goal.past-requires

@@ -2,7 +2,6 @@ use Rattle.text.specs.Table.{strings_of}
 use mathlib.Core.Path.{sym}
 use Rattle.store_read.proofs.ReadLaws.{read_table_lem}
 use Rattle.calls.proofs.AnswerLaws.{no_text}
-use borrow.Author.Rules.{rules}
 use borrow.Enum.Refused.{opened}
 use Rattle.calls.proofs.answers.text_length.Goals as goal
 

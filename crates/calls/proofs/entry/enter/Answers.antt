@@ -1,6 +1,5 @@
 use native.Mathlib.Omega.{arith}
 use mathlib.Core.Path.{sym, ◌∙◌}
-use borrow.Author.Rules.{rules}
 use Rattle.calls.proofs.EnterLaws.{down-at-once}
 use Rattle.calls.proofs.entry.enter.Goals as goal
 

@@ -1,12 +1,9 @@
 -- `go_down` meets its contract. The loop's invariant: from here the call arrives where it arrives from o, and as many hops are left as there are
 -- both levels and calls. Assumes nothing.
 use Prim.Native.Nat.{min}
-use native.Mathlib.Omega.{arith}
-use mathlib.Core.Path.{◌≡◌, refl, sym, ◌∙◌}
-use borrow.Author.Rules.{rules}
+use mathlib.Core.Path.{◌≡◌}
 use Rattle.store.specs.Words.{store_of}
 use Rattle.calls.specs.Entering.{going_down, entering}
-use Rattle.calls.proofs.EnterLaws.{down-ended, down-missing, down-ordinary, down-revoked, down-trap, down-hop}
 use Rattle.calls.proofs.entry.go_down.Given as goal
 
 abbrev pub invariant-loop-more : goal.invariant-loop-more

@@ -1,5 +1,4 @@
 use mathlib.Core.Path.{refl}
-use borrow.Author.Rules.{rules}
 use Rattle.internal_methods.specs.Proxy.{has_trap}
 use Rattle.calls.proofs.entry.has_trap.Goals as goal
 

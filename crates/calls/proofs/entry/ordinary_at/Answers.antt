@@ -1,5 +1,4 @@
 use mathlib.Core.Path.{sym}
-use borrow.Author.Rules.{rules}
 use Rattle.calls.proofs.entry.ordinary_at.Goals as goal
 
 pub returns : goal.returns

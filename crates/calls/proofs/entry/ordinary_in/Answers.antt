@@ -1,4 +1,3 @@
-use borrow.Author.Rules.{rules}
 use Rattle.calls.proofs.entry.ordinary_in.Goals as goal
 
 pub returns-in-Missing : goal.returns-in-Missing

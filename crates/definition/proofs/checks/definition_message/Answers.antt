@@ -1,7 +1,6 @@
 -- The tests in code, one by one, pick the definition's message. Assumes nothing.
 use mathlib.Core.Path.{sym, ◌∙◌}
 use Rattle.definition.specs.DefineMessages.{definition_message}
-use borrow.Author.Rules.{rules}
 use Rattle.definition.proofs.checks.definition_message.Goals as goal
 
 pub returns-then-is_false : goal.returns-then-is_false

@@ -3,7 +3,6 @@ use mathlib.Core.Path.{sym, ◌∙◌}
 use Rattle.internal_methods.specs.Monad.{pure, fails, next, ◌>>=◌, throw_if, when◌then◌else◌}
 use Rattle.definition.specs.Define.{defined_by_trap}
 use Rattle.definition.proofs.TrapLaws.{definition-passes, definition-fails}
-use borrow.Author.Rules.{rules}
 use Rattle.definition.proofs.trap.define_own_property_trap.Goals as goal
 
 pub returns-in-Failed : goal.returns-in-Failed

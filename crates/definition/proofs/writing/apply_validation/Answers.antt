@@ -1,7 +1,6 @@
 -- What validation answers is written as the definition says. Assumes nothing.
 use Rattle.internal_methods.specs.Monad.{pure}
 use Rattle.internal_methods.specs.Ordinary.{apply_validation}
-use borrow.Author.Rules.{rules}
 use Rattle.definition.proofs.writing.apply_validation.Goals as goal
 
 pub returns-in-Rejected : goal.returns-in-Rejected

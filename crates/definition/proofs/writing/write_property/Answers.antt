@@ -9,7 +9,6 @@ use Rattle.internal_methods.specs.Ordinary.{apply_validation}
 use Rattle.store.proofs.WordLaws.{property-length}
 use Rattle.store_read.proofs.ReadLaws.{own-found, own-missed, place-below}
 use Rattle.definition.proofs.PlaceLaws.{place-changed}
-use borrow.Author.Rules.{rules}
 use Rattle.definition.proofs.writing.write_property.Goals as goal
 
 pub returns-in-At : goal.returns-in-At

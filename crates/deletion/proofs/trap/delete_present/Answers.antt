@@ -3,7 +3,6 @@ use mathlib.Core.Path.{sym, ◌∙◌}
 use Rattle.internal_methods.specs.Monad.{pure, fails, next, ◌>>=◌, throw_if}
 use Rattle.extensibility.proofs.WriteLaws.{nothing-fits}
 use Rattle.deletion.specs.Present.{delete_present}
-use borrow.Author.Rules.{rules}
 use Rattle.deletion.proofs.trap.delete_present.Goals as goal
 
 pub returns-in-Failed : goal.returns-in-Failed

@@ -4,7 +4,6 @@ use Rattle.internal_methods.specs.Monad.{pure, fails, next, ◌>>=◌, throw_if,
 use Rattle.internal_methods.specs.Proxy.{proxy_delete}
 use Rattle.extensibility.proofs.WriteLaws.{nothing-fits}
 use Rattle.deletion.specs.Present.{delete_present}
-use borrow.Author.Rules.{rules}
 use Rattle.deletion.proofs.trap.delete_trap.Goals as goal
 
 pub returns-in-Failed : goal.returns-in-Failed

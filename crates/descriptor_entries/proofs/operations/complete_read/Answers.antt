@@ -1,4 +1,3 @@
-use borrow.Author.Rules.{rules}
 use Rattle.record.proofs.RefusalLaws.{is-failed, is-passed}
 use Rattle.descriptor_entries.specs.Records.{later_one}
 use Rattle.descriptor_entries.proofs.operations.complete_read.Goals as goal

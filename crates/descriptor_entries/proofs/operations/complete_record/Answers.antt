@@ -1,4 +1,3 @@
-use borrow.Author.Rules.{rules}
 use mathlib.Core.Path.{sym, ◌∙◌}
 use Rattle.descriptor_entries.proofs.OperationLaws.{complete-malformed, complete-recorded}
 use Rattle.descriptor_entries.proofs.operations.complete_record.Goals as goal

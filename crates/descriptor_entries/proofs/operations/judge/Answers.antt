@@ -1,4 +1,3 @@
-use borrow.Author.Rules.{rules}
 use Rattle.descriptor_entries.proofs.operations.judge.Goals as goal
 
 pub returns : goal.returns

@@ -1,4 +1,3 @@
-use borrow.Author.Rules.{rules}
 use mathlib.Core.Path.{sym, ◌∙◌}
 use Rattle.descriptor_entries.proofs.OperationLaws.{is-absent, is-present, filled, unfilled}
 use Rattle.property.specs.Validate.{property_of}

@@ -1,4 +1,3 @@
-use borrow.Author.Rules.{rules}
 use mathlib.Core.Path.{sym, ◌∙◌}
 use Rattle.descriptor_entries.proofs.OperationLaws.{merge-malformed, merge-unlike, merge-recorded}
 use Rattle.descriptor_entries.proofs.operations.merge_records.Goals as goal

@@ -1,4 +1,3 @@
-use borrow.Author.Rules.{rules}
 use Rattle.descriptor_entries.proofs.OperationLaws.{is-absent, is-present}
 use Rattle.property.specs.Validate.{property_of}
 use Rattle.descriptor_entries.proofs.operations.validate_over.Goals as goal

@@ -1,4 +1,3 @@
-use borrow.Author.Rules.{rules}
 use mathlib.Core.Path.{sym}
 use Rattle.record.proofs.RefusalLaws.{is-failed, is-passed}
 use Rattle.descriptor_entries.specs.Records.{later_two}

@@ -1,4 +1,3 @@
-use borrow.Author.Rules.{rules}
 use mathlib.Core.Path.{sym, ◌∙◌}
 use Rattle.descriptor_entries.proofs.OperationLaws.{validate-malformed, validate-absent, validate-unlike, validate-recorded}
 use Rattle.descriptor_entries.proofs.operations.validate_records.Goals as goal

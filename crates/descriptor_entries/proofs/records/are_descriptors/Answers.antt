@@ -1,4 +1,3 @@
-use borrow.Author.Rules.{rules}
 use mathlib.Core.Path.{sym, ◌∙◌}
 use Rattle.descriptor_entries.proofs.records.are_descriptors.Goals as goal
 

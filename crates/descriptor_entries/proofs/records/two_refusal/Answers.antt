@@ -1,4 +1,3 @@
-use borrow.Author.Rules.{rules}
 use Rattle.descriptor_entries.specs.Records.{later_two}
 use Rattle.descriptor_entries.proofs.records.two_refusal.Goals as goal
 

@@ -1,4 +1,3 @@
-use borrow.Author.Rules.{rules}
 use Rattle.descriptors.proofs.attributes.is_enumerable.Goals as goal
 
 pub returns-in-Data : goal.returns-in-Data

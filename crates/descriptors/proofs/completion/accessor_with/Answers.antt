@@ -1,4 +1,3 @@
-use borrow.Author.Rules.{rules}
 use Rattle.descriptors.proofs.completion.accessor_with.Goals as goal
 
 pub returns : goal.returns

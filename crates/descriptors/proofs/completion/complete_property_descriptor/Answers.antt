@@ -1,4 +1,3 @@
-use borrow.Author.Rules.{rules}
 use mathlib.Core.Path.{sym, ◌∙◌}
 use Rattle.property.specs.Descriptor.{complete}
 use Rattle.descriptors.proofs.completion.complete_property_descriptor.Goals as goal

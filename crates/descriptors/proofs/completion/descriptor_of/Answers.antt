@@ -1,4 +1,3 @@
-use borrow.Author.Rules.{rules}
 use Rattle.descriptors.proofs.completion.descriptor_of.Goals as goal
 
 pub returns-in-Data : goal.returns-in-Data

@@ -1,4 +1,3 @@
-use borrow.Author.Rules.{rules}
 use mathlib.Core.Path.{sym, ◌∙◌}
 use Rattle.property.specs.Answers.{conversion_message}
 use Rattle.descriptors.proofs.errors.descriptor_message.Goals as goal

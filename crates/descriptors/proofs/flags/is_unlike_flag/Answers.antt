@@ -1,4 +1,3 @@
-use borrow.Author.Rules.{rules}
 use Rattle.descriptors.proofs.flags.is_unlike_flag.Goals as goal
 
 pub returns-in-Present : goal.returns-in-Present

@@ -1,4 +1,3 @@
-use borrow.Author.Rules.{rules}
 use Rattle.property.specs.Descriptor.{is_accessor_descriptor}
 use Rattle.descriptors.proofs.kinds.is_accessor_descriptor.Goals as goal
 

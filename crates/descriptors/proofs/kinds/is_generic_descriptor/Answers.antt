@@ -1,4 +1,3 @@
-use borrow.Author.Rules.{rules}
 use mathlib.Core.Path.{sym, ◌∙◌}
 use Rattle.property.specs.Descriptor.{is_generic_descriptor}
 use Rattle.descriptors.proofs.kinds.is_generic_descriptor.Goals as goal

@@ -3,7 +3,6 @@ use mathlib.Core.Path.{sym}
 use Rattle.internal_methods.specs.Monad.{pure, fails, next, ◌>>=◌, throw_if, when◌then◌else◌}
 use Rattle.internal_methods.specs.Proxy.{proxy_prevent_extensions}
 use Rattle.extensibility.proofs.WriteLaws.{nothing-fits}
-use borrow.Author.Rules.{rules}
 use Rattle.extensibility.proofs.prevention.prevent_extensions_trap.Goals as goal
 
 pub returns-in-Failed : goal.returns-in-Failed

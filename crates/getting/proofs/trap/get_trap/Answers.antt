@@ -2,7 +2,6 @@
 use mathlib.Core.Path.{sym, ◌∙◌}
 use Rattle.internal_methods.specs.Monad.{pure, fails, next, ◌>>=◌, throw_if, when◌then◌else◌}
 use Rattle.internal_methods.specs.Proxy.{proxy_get}
-use borrow.Author.Rules.{rules}
 use Rattle.getting.proofs.trap.get_trap.Goals as goal
 
 pub get_own_property-requires : goal.get_own_property-requires

@@ -2,7 +2,6 @@
 use mathlib.Core.Path.{sym, ◌∙◌}
 use Rattle.internal_methods.specs.Monad.{pure, fails, next, ◌>>=◌, throw_if, when◌then◌else◌}
 use Rattle.internal_methods.specs.Proxy.{proxy_has_property}
-use borrow.Author.Rules.{rules}
 use Rattle.has_property.proofs.trap.has_property_trap.Goals as goal
 
 pub next_boolean-requires : goal.next_boolean-requires

@@ -1,5 +1,4 @@
 use Rattle.integrity.proofs.TestLaws.{loose-accessor, loose-configurable, loose-writable, not-loose}
-use borrow.Author.Rules.{rules}
 use Rattle.integrity.proofs.levels.is_loose.Goals as goal
 
 pub returns-then-c : goal.returns-then-c

@@ -2,7 +2,6 @@ use mathlib.Core.Path.{◌∙◌}
 use Rattle.calls.specs.Outs.{context, state_of}
 use Rattle.integrity.proofs.KeyLaws.{told_fit}
 use Rattle.integrity.proofs.TestLaws.{level-failed, level-extensible, level-keys}
-use borrow.Author.Rules.{rules}
 use Rattle.integrity.proofs.levels.test_integrity_level.Goals as goal
 
 pub test_keys-requires : goal.test_keys-requires

@@ -1,7 +1,6 @@
 use native.Mathlib.Omega.{arith}
 use mathlib.Core.Path.{◌∙◌}
 use Rattle.integrity.proofs.TestLaws.{keys-failed, keys-tested}
-use borrow.Author.Rules.{rules}
 use Rattle.integrity.proofs.levels.test_keys.Goals as goal
 
 pub test_properties-requires : goal.test_properties-requires

@@ -1,15 +1,7 @@
-use Prim.Native.Nat.{◌≤◌, ◌-◌}
+use Prim.Native.Nat.{◌-◌}
 use native.Mathlib.Omega.{arith}
-use mathlib.Core.Path.{◌≡◌, refl, sym, ◌∙◌}
-use mathlib.Core.List.{map}
-use lib.ListN.{take, drop}
-use borrow.Author.Rules.{rules}
-use Rattle.value.specs.Words.{pick}
+use mathlib.Core.Path.{refl, sym, ◌∙◌}
 use Rattle.store_read.specs.Answers.{key_from_word}
-use Rattle.internal_methods.specs.Internal.{methods}
-use Rattle.calls.specs.Outs.{context, state_of}
-use Rattle.steps.specs.Operation.{Level}
-use Rattle.steps.specs.TestIntegrityLevel.{test_properties}
 use Rattle.integrity.proofs.TestLaws.{test-failed, test-loose, test-more, test-end}
 use Rattle.integrity.proofs.levels.test_properties.Goals as goal
 

@@ -1,6 +1,5 @@
 use native.Mathlib.Omega.{arith}
 use Rattle.integrity.proofs.KeyLaws.{list-definable}
-use borrow.Author.Rules.{rules}
 use Rattle.integrity.proofs.listed.listed_keys.Goals as goal
 
 pub load_list-n-requires : goal.load_list-n-requires

@@ -1,21 +1,17 @@
 use Prim.Native.Nat.{◌≤◌, ◌-◌}
-use native.Mathlib.Omega.{arith}
-use mathlib.Core.Path.{◌≡◌, refl, sym, ◌∙◌}
+use mathlib.Core.Path.{◌≡◌}
 use mathlib.Core.List.{map}
 use lib.ListN.{length, take, drop}
-use borrow.Author.Rules.{rules}
 use Rattle.value.specs.Words.{pick}
 use Rattle.store.specs.Words.{store_of}
 use Rattle.store_read.specs.Answers.{key_from_word}
 use Rattle.store_write.specs.Write.{Committed}
-use Rattle.store_write.proofs.CommittedLaws.{committed-none, committed-then}
 use Rattle.internal_methods.specs.Internal.{methods}
 use Rattle.calls.specs.Outs.{context, state_of}
 use Rattle.steps.specs.Operation.{Level}
 use Rattle.steps.specs.Perform.{over}
 use Rattle.steps.specs.Sequence.{for_each}
 use Rattle.steps.specs.SetIntegrityLevel.{turn}
-use Rattle.integrity.proofs.SequenceLaws.{each-failed, each_more, each-end}
 use Rattle.integrity.proofs.sealing.for_each_key.Given as goal
 
 abbrev pub invariant-loop-i : goal.invariant-loop-i

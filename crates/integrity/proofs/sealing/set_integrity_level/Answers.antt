@@ -3,7 +3,6 @@ use Rattle.store_write.proofs.CommittedLaws.{committed-none, committed-one, comm
 use Rattle.calls.specs.Outs.{context, state_of}
 use Rattle.integrity.proofs.KeyLaws.{prevented-fit}
 use Rattle.integrity.proofs.SequenceLaws.{level-failed, level-refused, level-keys}
-use borrow.Author.Rules.{rules}
 use Rattle.integrity.proofs.sealing.set_integrity_level.Goals as goal
 
 pub commit-requires : goal.commit-requires

@@ -1,7 +1,6 @@
 use native.Mathlib.Omega.{arith}
 use Rattle.store_write.proofs.CommittedLaws.{committed-none}
 use Rattle.integrity.proofs.SequenceLaws.{keys-failed, keys-stopped, keys-through}
-use borrow.Author.Rules.{rules}
 use Rattle.integrity.proofs.sealing.set_keys.Goals as goal
 
 pub for_each_key-requires : goal.for_each_key-requires

@@ -1,6 +1,5 @@
 use Rattle.store_write.proofs.CommittedLaws.{committed-none, committed-one}
 use Rattle.integrity.proofs.SequenceLaws.{define-failed, define-done, define-refused}
-use borrow.Author.Rules.{rules}
 use Rattle.integrity.proofs.turns.define_property_or_throw.Goals as goal
 
 pub commit-requires : goal.commit-requires

@@ -1,7 +1,6 @@
 use mathlib.Core.Path.{◌∙◌}
 use Rattle.store_write.proofs.CommittedLaws.{committed-none}
 use Rattle.integrity.proofs.SequenceLaws.{freeze-failed, freeze-absent, freeze-present}
-use borrow.Author.Rules.{rules}
 use Rattle.integrity.proofs.turns.freeze_property.Goals as goal
 
 pub returns-in-Failed : goal.returns-in-Failed

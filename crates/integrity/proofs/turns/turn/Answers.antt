@@ -1,5 +1,4 @@
 use Rattle.steps.specs.SetIntegrityLevel.{turn}
-use borrow.Author.Rules.{rules}
 use Rattle.integrity.proofs.turns.turn.Goals as goal
 
 pub returns-then-frozen : goal.returns-then-frozen

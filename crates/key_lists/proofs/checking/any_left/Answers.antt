@@ -1,8 +1,8 @@
-use Prim.Native.Nat.{◌≤◌, ◌-◌}
-use mathlib.Core.Path.{◌≡◌, refl, sym, ap, ◌∙◌}
+use Prim.Native.Nat.{◌-◌}
+use mathlib.Core.Path.{refl, sym, ap, ◌∙◌}
 use mathlib.Core.Bool.{not}
 use native.Mathlib.Omega.{arith}
-use Rattle.key_lists.proofs.CheckLaws.{none_left, left-hit, left_step, left_end}
+use Rattle.key_lists.proofs.CheckLaws.{left-hit, left_step, left_end}
 use Rattle.key_lists.proofs.checking.any_left.Goals as goal
 
 pub loop-i-init : goal.loop-i-init

@@ -1,8 +1,6 @@
 use Prim.Native.Nat.{◌≤◌, ◌-◌}
-use mathlib.Core.Path.{◌≡◌, refl, sym, ap, ◌∙◌}
-use mathlib.Core.Bool.{not}
-use native.Mathlib.Omega.{arith}
-use Rattle.key_lists.proofs.CheckLaws.{none_left, left-hit, left_step, left_end}
+use mathlib.Core.Path.{◌≡◌}
+use Rattle.key_lists.proofs.CheckLaws.{none_left}
 use Rattle.key_lists.proofs.checking.any_left.Given as goal
 
 abbrev pub invariant-loop-i : goal.invariant-loop-i

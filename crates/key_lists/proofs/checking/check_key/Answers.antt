@@ -1,7 +1,6 @@
 -- a message stays
 use mathlib.Core.List.{[]}
 use mathlib.Core.Path.{sym, ◌∙◌}
-use borrow.Author.Rules.{rules}
 use Rattle.key_lists.proofs.CheckLaws.{stays-first, was-there, was-missing, nothing-due, some-missing}
 use Rattle.key_lists.proofs.checking.check_key.Goals as goal
 

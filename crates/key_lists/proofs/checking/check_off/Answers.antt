@@ -1,4 +1,3 @@
-use borrow.Author.Rules.{rules}
 use Rattle.key_lists.proofs.CheckLaws.{check-hit, check-miss, check-marked}
 use Rattle.key_lists.proofs.checking.check_off.Goals as goal
 

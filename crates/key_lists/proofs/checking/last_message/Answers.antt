@@ -1,4 +1,3 @@
-use borrow.Author.Rules.{rules}
 use Rattle.key_lists.proofs.CheckLaws.{stays-last, one_left, none_left_lem}
 use Rattle.key_lists.proofs.checking.last_message.Goals as goal
 

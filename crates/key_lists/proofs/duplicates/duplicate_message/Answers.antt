@@ -1,12 +1,9 @@
-use Prim.Native.Nat.{◌≤◌, ◌-◌}
-use mathlib.Core.Path.{◌≡◌, refl, sym, ap, subst, ◌∙◌}
-use mathlib.Core.List.{[], map}
+use Prim.Native.Nat.{◌-◌}
+use mathlib.Core.Path.{refl, sym, ap, ◌∙◌}
 use native.Mathlib.Omega.{arith}
-use lib.ListN.{take}
-use Rattle.store_read.specs.Answers.{key_from_word}
 use Rattle.internal_methods.specs.KeyList.{duplicate}
 use Rattle.key_lists.specs.KeyWords.{message_number}
-use Rattle.key_lists.proofs.KeyWordLaws.{duplicate_from, duplicate-hit, duplicate-step, duplicate-end}
+use Rattle.key_lists.proofs.KeyWordLaws.{duplicate-hit, duplicate-step, duplicate-end}
 use Rattle.key_lists.proofs.duplicates.duplicate_message.Goals as goal
 
 pub loop-i-init : goal.loop-i-init

@@ -1,12 +1,10 @@
 use Prim.Native.Nat.{◌≤◌, ◌-◌}
-use mathlib.Core.Path.{◌≡◌, refl, sym, ap, subst, ◌∙◌}
+use mathlib.Core.Path.{◌≡◌, ap}
 use mathlib.Core.List.{[], map}
-use native.Mathlib.Omega.{arith}
 use lib.ListN.{take}
 use Rattle.store_read.specs.Answers.{key_from_word}
 use Rattle.internal_methods.specs.KeyList.{duplicate}
-use Rattle.key_lists.specs.KeyWords.{message_number}
-use Rattle.key_lists.proofs.KeyWordLaws.{duplicate_from, duplicate-hit, duplicate-step, duplicate-end}
+use Rattle.key_lists.proofs.KeyWordLaws.{duplicate_from}
 use Rattle.key_lists.proofs.duplicates.duplicate_message.Given as goal
 
 abbrev pub invariant-loop-i : goal.invariant-loop-i

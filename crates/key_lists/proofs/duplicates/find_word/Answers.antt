@@ -1,10 +1,10 @@
-use Prim.Native.Nat.{ℕ, ◌≤◌, ◌-◌}
+use Prim.Native.Nat.{◌-◌}
 use mathlib.Core.Path.{sym}
 use native.Mathlib.Omega.{arith}
 use native.Mathlib.Nat.{zero-add}
 use lib.Dec.{eqb}
 use borrow.Author.Tests.{eq-eqb, ne_eqb}
-use Rattle.store_read.proofs.ListLaws.{Passed, passed-hit, passed-more, passed-all}
+use Rattle.store_read.proofs.ListLaws.{passed-hit, passed-more, passed-all}
 use Rattle.key_lists.proofs.duplicates.find_word.Goals as goal
 
 pub loop-i-init : goal.loop-i-init

@@ -1,10 +1,6 @@
 use Prim.Native.Nat.{ℕ, ◌≤◌, ◌-◌}
-use mathlib.Core.Path.{sym}
-use native.Mathlib.Omega.{arith}
-use native.Mathlib.Nat.{zero-add}
 use lib.Dec.{eqb}
-use borrow.Author.Tests.{eq-eqb, ne_eqb}
-use Rattle.store_read.proofs.ListLaws.{Passed, passed-hit, passed-more, passed-all}
+use Rattle.store_read.proofs.ListLaws.{Passed}
 use Rattle.key_lists.proofs.duplicates.find_word.Given as goal
 
 abbrev pub invariant-loop-i : goal.invariant-loop-i

@@ -1,10 +1,5 @@
-use Prim.Native.Nat.{◌*◌, ◌+◌, ◌≤◌}
 use native.Mathlib.Omega.{arith}
-use mathlib.Core.Path.{◌∙◌, ◌≡◌, refl, sym}
-use lib.ListN.{length}
-use Rattle.internal_methods.specs.Answers.{keys_of}
-use Rattle.record.specs.Step.{is_some}
-use Rattle.record.specs.Sheet.{values_at}
+use mathlib.Core.Path.{◌∙◌, refl, sym}
 use Rattle.key_lists.proofs.KeyLaws.{keys-end, keys-bad, keys-good}
 use Rattle.key_lists.proofs.key_bytes.are_keys.Goals as goal
 

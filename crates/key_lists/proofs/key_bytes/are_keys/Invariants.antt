@@ -1,11 +1,9 @@
 use Prim.Native.Nat.{◌*◌, ◌+◌, ◌≤◌}
-use native.Mathlib.Omega.{arith}
-use mathlib.Core.Path.{◌∙◌, ◌≡◌, refl, sym}
+use mathlib.Core.Path.{◌≡◌}
 use lib.ListN.{length}
 use Rattle.internal_methods.specs.Answers.{keys_of}
 use Rattle.record.specs.Step.{is_some}
 use Rattle.record.specs.Sheet.{values_at}
-use Rattle.key_lists.proofs.KeyLaws.{keys-end, keys-bad, keys-good}
 use Rattle.key_lists.proofs.key_bytes.are_keys.Given as goal
 
 abbrev pub invariant-loop-left : goal.invariant-loop-left

@@ -1,4 +1,3 @@
-use borrow.Author.Rules.{rules}
 use Rattle.key_lists.proofs.KeyLaws.{string-is-key, other-is-key}
 use Rattle.key_lists.proofs.key_bytes.is_key_at.Goals as goal
 

@@ -1,5 +1,4 @@
 use native.Mathlib.Omega.{arith}
-use borrow.Author.Rules.{rules}
 use Rattle.key_lists.proofs.KeyLaws.{string-word, other_word}
 use Rattle.key_lists.proofs.key_bytes.key_word_at.Goals as goal
 

@@ -1,6 +1,6 @@
 use Prim.Native.Nat.{◌-◌}
 use native.Mathlib.Omega.{arith}
-use Rattle.key_lists.proofs.KeyLaws.{Loading, loading-start, loading-key, loading-known, loading-more, loading-end}
+use Rattle.key_lists.proofs.KeyLaws.{loading-start, loading-key, loading-known, loading-more, loading-end}
 use Rattle.key_lists.proofs.key_bytes.load_keys.Goals as goal
 
 pub loop-i-init : goal.loop-i-init

@@ -1,6 +1,5 @@
 use Prim.Native.Nat.{◌-◌}
-use native.Mathlib.Omega.{arith}
-use Rattle.key_lists.proofs.KeyLaws.{Loading, loading-start, loading-key, loading-known, loading-more, loading-end}
+use Rattle.key_lists.proofs.KeyLaws.{Loading}
 use Rattle.key_lists.proofs.key_bytes.load_keys.Given as goal
 
 abbrev pub invariant-loop-i : goal.invariant-loop-i

@@ -1,10 +1,9 @@
-use Prim.Native.Nat.{◌-◌, ◌≤◌}
+use Prim.Native.Nat.{◌-◌}
 use native.Mathlib.Omega.{arith}
-use mathlib.Core.Path.{◌≡◌, refl, ap, ◌∙◌}
+use mathlib.Core.Path.{refl, ap, ◌∙◌}
 use lib.ListN.{length}
 use lib.Seq.{length-sets}
-use borrow.Author.Rules.{rules}
-use Rattle.key_lists.proofs.KeyLaws.{written, write-start, write_step, write-end}
+use Rattle.key_lists.proofs.KeyLaws.{write-start, write_step, write-end}
 use Rattle.key_lists.proofs.key_bytes.write_keys.Goals as goal
 
 pub loop-i-init : goal.loop-i-init

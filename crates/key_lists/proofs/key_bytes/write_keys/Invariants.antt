@@ -1,10 +1,7 @@
 use Prim.Native.Nat.{◌-◌, ◌≤◌}
-use native.Mathlib.Omega.{arith}
-use mathlib.Core.Path.{◌≡◌, refl, ap, ◌∙◌}
+use mathlib.Core.Path.{◌≡◌}
 use lib.ListN.{length}
-use lib.Seq.{length-sets}
-use borrow.Author.Rules.{rules}
-use Rattle.key_lists.proofs.KeyLaws.{written, write-start, write_step, write-end}
+use Rattle.key_lists.proofs.KeyLaws.{written}
 use Rattle.key_lists.proofs.key_bytes.write_keys.Given as goal
 
 abbrev pub invariant-loop-i : goal.invariant-loop-i

@@ -1,4 +1,3 @@
-use Rattle.std.proofs.Common.{◌∙◌}
 use Rattle.key_lists.proofs.TurnLaws.{sorted-records}
 use Rattle.key_lists.proofs.target_keys.rejected_marked.Goals as goal
 

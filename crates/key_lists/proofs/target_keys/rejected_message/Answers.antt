@@ -1,4 +1,4 @@
-use Rattle.std.proofs.Common.{◌≡◌, ◌*◌, ◌<◌, refl, sym, ◌∙◌, arith}
+use Rattle.std.proofs.Common.{refl, sym, ◌∙◌, arith}
 use Rattle.key_lists.proofs.TurnLaws.{goes_on, goes_first, goes_on_lem, goes_last}
 use Rattle.key_lists.proofs.target_keys.rejected_message.Goals as goal
 

@@ -1,8 +1,7 @@
-use Prim.Native.Nat.{◌≤◌, ◌-◌}
+use Prim.Native.Nat.{◌-◌}
 use native.Mathlib.Omega.{arith}
 use mathlib.Core.Path.{◌≡◌, refl}
-use lib.ListN.{length, take, length-set}
-use borrow.Author.Rules.{rules}
+use lib.ListN.{length, length-set}
 use Rattle.key_lists.specs.Records.{records_of}
 use Rattle.key_lists.proofs.TurnLaws.{records-set}
 use Rattle.key_lists.proofs.target_keys.target_keys.Goals as goal

@@ -1,12 +1,11 @@
-use Prim.Native.Nat.{◌≤◌, ◌-◌}
+use Prim.Native.Nat.{◌-◌}
 use native.Mathlib.Omega.{arith}
-use mathlib.Core.Path.{◌≡◌, refl, sym, ◌∙◌}
-use lib.ListN.{length, drop, length-set}
+use mathlib.Core.Path.{refl, sym, ◌∙◌}
+use lib.ListN.{length, length-set}
 use Rattle.text.specs.Table.{overwrite}
 use Rattle.text.proofs.TableLaws.{overwrite-end}
 use Rattle.message.proofs.WrittenLaws.{overwrite-next}
 use Rattle.internal_methods.specs.Messages.{message_text}
-use borrow.Author.Rules.{rules}
 use Rattle.message.proofs.writing.write.Goals as goal
 
 pub loop-i-init : goal.loop-i-init

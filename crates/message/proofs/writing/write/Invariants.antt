@@ -1,12 +1,8 @@
 use Prim.Native.Nat.{◌≤◌, ◌-◌}
-use native.Mathlib.Omega.{arith}
-use mathlib.Core.Path.{◌≡◌, refl, sym, ◌∙◌}
-use lib.ListN.{length, drop, length-set}
+use mathlib.Core.Path.{◌≡◌}
+use lib.ListN.{length, drop}
 use Rattle.text.specs.Table.{overwrite}
-use Rattle.text.proofs.TableLaws.{overwrite-end}
-use Rattle.message.proofs.WrittenLaws.{overwrite-next}
 use Rattle.internal_methods.specs.Messages.{message_text}
-use borrow.Author.Rules.{rules}
 use Rattle.message.proofs.writing.write.Given as goal
 
 abbrev pub invariant-loop-i : goal.invariant-loop-i

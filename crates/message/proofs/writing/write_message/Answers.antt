@@ -2,7 +2,6 @@ use native.Mathlib.Omega.{arith}
 use mathlib.Core.Path.{◌∙◌}
 use Rattle.internal_methods.specs.Messages.{message_text}
 use Rattle.message.proofs.WrittenLaws.{written-fits, written-not}
-use borrow.Author.Rules.{rules}
 use Rattle.message.proofs.writing.write_message.Goals as goal
 
 pub write-requires : goal.write-requires

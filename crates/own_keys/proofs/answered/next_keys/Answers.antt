@@ -5,7 +5,6 @@ use Rattle.internal_methods.specs.Monad.{pure, fails, next, ◌>>=◌}
 use Rattle.internal_methods.specs.Answers.{ask_keys, as_keys}
 use Rattle.calls.proofs.AnswerLaws.{asked-none, asked-value, asked-descriptor, asked-keys, asked-throw, left-value, left-descriptor, left-keys, left-throw}
 use Rattle.own_keys.proofs.ListLaws.{keys-within, loadable, listed-keys, listed-others}
-use borrow.Author.Rules.{rules}
 use Rattle.own_keys.proofs.answered.next_keys.Goals as goal
 
 pub past-requires : goal.past-requires

@@ -1,6 +1,5 @@
 use Rattle.internal_methods.specs.Monad.{fails}
 use Rattle.own_keys.proofs.ListLaws.{no-list}
-use borrow.Author.Rules.{rules}
 use borrow.Enum.Refused.{opened}
 use Rattle.own_keys.proofs.answered.unlisted_failure.Goals as goal
 

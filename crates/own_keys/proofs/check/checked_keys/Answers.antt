@@ -3,7 +3,6 @@ use native.Mathlib.Omega.{arith}
 use Rattle.internal_methods.specs.Monad.{pure, fails, next, ◌>>=◌, throw_any}
 use Rattle.own_keys.specs.Checked.{checked_keys}
 use Rattle.key_lists.proofs.MessageLaws.{not-rejected, rejected-some}
-use borrow.Author.Rules.{rules}
 use Rattle.own_keys.proofs.check.checked_keys.Goals as goal
 
 pub mark_configurable-requires : goal.mark_configurable-requires

@@ -1,5 +1,4 @@
 use native.Mathlib.Omega.{arith}
-use borrow.Author.Rules.{rules}
 use Rattle.own_keys.proofs.check.rejected_in.Goals as goal
 
 pub rejected_marked-requires : goal.rejected_marked-requires

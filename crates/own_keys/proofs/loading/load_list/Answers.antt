@@ -1,6 +1,5 @@
 use Rattle.own_keys.proofs.OwnLaws.{own-listed-few}
 use native.Mathlib.Omega.{arith}
-use borrow.Author.Rules.{rules}
 use Rattle.own_keys.proofs.loading.load_list.Goals as goal
 
 pub load_keys-requires : goal.load_keys-requires

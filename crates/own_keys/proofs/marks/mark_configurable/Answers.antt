@@ -1,14 +1,12 @@
-use Prim.Native.Nat.{◌≤◌, ◌-◌}
+use Prim.Native.Nat.{◌-◌}
 use native.Mathlib.Omega.{arith}
-use mathlib.Core.Path.{◌≡◌, refl, sym, ◌∙◌}
-use mathlib.Core.List.{map}
-use lib.ListN.{length, take, length-set}
-use borrow.Author.Rules.{rules}
+use mathlib.Core.Path.{refl, sym, ◌∙◌}
+use lib.ListN.{length, length-set}
 use Rattle.store_read.specs.Answers.{key_from_word}
 use Rattle.internal_methods.specs.Proxy.{sorted}
 use Rattle.internal_methods.specs.Internal.{methods}
 use Rattle.calls.specs.Outs.{context, state_of}
-use Rattle.own_keys.proofs.MarkLaws.{sorted_onto, sorted-start, sorted-failed, sorted_more, sorted-end}
+use Rattle.own_keys.proofs.MarkLaws.{sorted-start, sorted-failed, sorted_more, sorted-end}
 use Rattle.own_keys.proofs.marks.mark_configurable.Goals as goal
 
 pub loop-i-init : goal.loop-i-init

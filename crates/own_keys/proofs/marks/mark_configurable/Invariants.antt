@@ -1,14 +1,12 @@
 use Prim.Native.Nat.{◌≤◌, ◌-◌}
-use native.Mathlib.Omega.{arith}
-use mathlib.Core.Path.{◌≡◌, refl, sym, ◌∙◌}
+use mathlib.Core.Path.{◌≡◌}
 use mathlib.Core.List.{map}
-use lib.ListN.{length, take, length-set}
-use borrow.Author.Rules.{rules}
+use lib.ListN.{length, take}
 use Rattle.store_read.specs.Answers.{key_from_word}
 use Rattle.internal_methods.specs.Proxy.{sorted}
 use Rattle.internal_methods.specs.Internal.{methods}
 use Rattle.calls.specs.Outs.{context, state_of}
-use Rattle.own_keys.proofs.MarkLaws.{sorted_onto, sorted-start, sorted-failed, sorted_more, sorted-end}
+use Rattle.own_keys.proofs.MarkLaws.{sorted_onto}
 use Rattle.own_keys.proofs.marks.mark_configurable.Given as goal
 
 abbrev pub invariant-loop-i : goal.invariant-loop-i

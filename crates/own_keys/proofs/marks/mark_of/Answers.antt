@@ -1,5 +1,4 @@
 use mathlib.Core.Path.{sym, ◌∙◌}
-use borrow.Author.Rules.{rules}
 use Rattle.own_keys.proofs.marks.mark_of.Goals as goal
 
 pub returns-then-absent_or_configurable : goal.returns-then-absent_or_configurable

@@ -1,4 +1,3 @@
-use borrow.Author.Rules.{rules}
 use Rattle.own_keys.proofs.trap.duplicate_in.Goals as goal
 
 pub returns : goal.returns

@@ -2,7 +2,6 @@ use mathlib.Core.Path.{sym}
 use Rattle.internal_methods.specs.Monad.{pure, fails, next, ◌>>=◌, throw_any}
 use Rattle.own_keys.specs.Trap.{trap_keys}
 use Rattle.key_lists.proofs.MessageLaws.{no-duplicate, some-duplicate}
-use borrow.Author.Rules.{rules}
 use Rattle.own_keys.proofs.trap.own_keys_trap.Goals as goal
 
 pub duplicate_in-message-requires : goal.duplicate_in-message-requires

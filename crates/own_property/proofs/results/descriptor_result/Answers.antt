@@ -3,7 +3,6 @@ use mathlib.Core.Path.{sym, ◌∙◌}
 use Rattle.internal_methods.specs.Monad.{pure, fails, next, ◌>>=◌, throw_if}
 use Rattle.own_property.specs.Result.{descriptor_result}
 use Rattle.own_property.proofs.ResultLaws.{result-passes, result-fails}
-use borrow.Author.Rules.{rules}
 use Rattle.own_property.proofs.results.descriptor_result.Goals as goal
 
 pub returns-then-is_uncallable : goal.returns-then-is_uncallable

@@ -1,7 +1,6 @@
 -- The tests in code, one by one, pick the definition's message. Assumes nothing.
 use mathlib.Core.Path.{sym, ◌∙◌}
 use Rattle.own_property.specs.Result.{result_message}
-use borrow.Author.Rules.{rules}
 use Rattle.own_property.proofs.results.result_message.Goals as goal
 
 pub returns-then-is_configurable : goal.returns-then-is_configurable

@@ -2,7 +2,6 @@
 use mathlib.Core.Path.{sym, ◌∙◌}
 use Rattle.internal_methods.specs.Monad.{pure, fails, next, ◌>>=◌, throw_if}
 use Rattle.own_property.specs.Result.{undefined_result}
-use borrow.Author.Rules.{rules}
 use Rattle.own_property.proofs.results.undefined_result.Goals as goal
 
 pub returns-in-Absent : goal.returns-in-Absent

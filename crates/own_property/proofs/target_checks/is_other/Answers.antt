@@ -1,4 +1,3 @@
-use borrow.Author.Rules.{rules}
 use Rattle.own_property.proofs.target_checks.is_other.Goals as goal
 
 pub returns : goal.returns

@@ -1,5 +1,4 @@
 use mathlib.Core.Path.{sym, ◌∙◌}
-use borrow.Author.Rules.{rules}
 use Rattle.own_property.proofs.target_checks.is_ungettable.Goals as goal
 
 pub returns-then-is_undefined : goal.returns-then-is_undefined

@@ -1,4 +1,3 @@
-use borrow.Author.Rules.{rules}
 use Rattle.own_property.proofs.target_checks.is_writable.Goals as goal
 
 pub returns-in-Data : goal.returns-in-Data

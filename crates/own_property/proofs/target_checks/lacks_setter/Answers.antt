@@ -1,4 +1,3 @@
-use borrow.Author.Rules.{rules}
 use Rattle.own_property.proofs.target_checks.lacks_setter.Goals as goal
 
 pub returns-in-Accessor : goal.returns-in-Accessor

@@ -3,7 +3,6 @@ use borrow.Author.Tests.{ltb-true}
 use Rattle.store.specs.Store.{live_count}
 use Rattle.store.specs.Words.{store_of}
 use Rattle.performing.specs.Creation.{make_out}
-use borrow.Author.Rules.{rules}
 use Rattle.performing.proofs.creation.make.Goals as goal
 
 pub returns-then-has_object_room : goal.returns-then-has_object_room

@@ -1,5 +1,4 @@
 use mathlib.Core.Path.{sym}
-use borrow.Author.Rules.{rules}
 use Rattle.performing.proofs.creation.make_proxy.Goals as goal
 
 pub returns : goal.returns

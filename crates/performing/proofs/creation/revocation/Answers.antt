@@ -1,4 +1,3 @@
-use borrow.Author.Rules.{rules}
 use Rattle.performing.proofs.creation.revocation.Goals as goal
 
 pub returns-in-Proxy : goal.returns-in-Proxy

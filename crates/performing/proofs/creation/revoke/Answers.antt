@@ -3,7 +3,6 @@ use mathlib.Core.Path.{refl, sym, ◌∙◌}
 use Rattle.store.specs.Store.{lookup}
 use Rattle.store.specs.Words.{store_of}
 use Rattle.calls.proofs.EnterLaws.{objectless, objectful}
-use borrow.Author.Rules.{rules}
 use Rattle.performing.proofs.creation.revoke.Goals as goal
 
 pub returns-in-Missing : goal.returns-in-Missing

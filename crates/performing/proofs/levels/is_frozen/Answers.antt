@@ -2,7 +2,6 @@ use Prim.Native.Nat.{ℕ}
 use mathlib.Core.Path.{◌∙◌, ap}
 use lib.Dec.{eqb}
 use Rattle.steps.specs.Operation.{natural_of}
-use borrow.Author.Rules.{rules}
 use Rattle.performing.proofs.levels.is_frozen.Goals as goal
 
 pub returns : goal.returns

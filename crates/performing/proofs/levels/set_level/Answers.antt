@@ -9,7 +9,6 @@ use Rattle.steps.specs.Operation.{Level}
 use Rattle.reporting.proofs.SheetLaws.{sheet-there}
 use Rattle.reporting.proofs.EndLaws.{turns-words, turns-left}
 use Rattle.performing.proofs.LevelLaws.{level-shown, refused-left, not-refused}
-use borrow.Author.Rules.{rules}
 use borrow.Enum.Refused.{opened}
 use Rattle.performing.proofs.levels.set_level.Goals as goal
 

@@ -3,7 +3,6 @@ use Rattle.reporting.proofs.SheetLaws.{sheet-there}
 use Rattle.calls.specs.Outs.{state_of}
 use Rattle.reporting.specs.Reports.{start}
 use Rattle.performing.proofs.ResultLaws.{boolean-told}
-use borrow.Author.Rules.{rules}
 use Rattle.steps.specs.Perform.{perform}
 use Rattle.performing.proofs.levels.test_level.Goals as goal
 

@@ -6,7 +6,6 @@ use Rattle.calls.specs.Outs.{state_of}
 use Rattle.own_keys.specs.Loading.{listed_keys}
 use Rattle.reporting.proofs.SheetLaws.{none_left, some_left}
 use Rattle.performing.proofs.ListingLaws.{keys-unread, written_out, not_written}
-use borrow.Author.Rules.{rules}
 use Rattle.performing.proofs.listing.write_out.Goals as goal
 
 pub returns-then-s-gt0 : goal.returns-then-s-gt0

@@ -1,4 +1,3 @@
-use borrow.Author.Rules.{rules}
 use Rattle.performing.proofs.reads.boolean_result.Goals as goal
 
 pub returns-in-Failed : goal.returns-in-Failed

@@ -1,6 +1,5 @@
 use Rattle.value.specs.PropertyKey.{key_of}
 use Rattle.performing.proofs.ResultLaws.{key-there, key-missing}
-use borrow.Author.Rules.{rules}
 use Rattle.performing.proofs.reads.key_or_first.Goals as goal
 
 pub returns-in-Key : goal.returns-in-Key

@@ -4,7 +4,6 @@ use Rattle.calls.specs.Outs.{state_of}
 use Rattle.steps.specs.Operation.{operation_of}
 use Rattle.steps.specs.Perform.{perform}
 use Rattle.performing.proofs.ResultLaws.{value-told, boolean-told, own-told, last-reading}
-use borrow.Author.Rules.{rules}
 use Rattle.performing.proofs.reads.perform_reading.Goals as goal
 
 pub returns-in-4 : goal.returns-in-4

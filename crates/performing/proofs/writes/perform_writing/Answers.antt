@@ -5,7 +5,6 @@ use Rattle.steps.specs.Operation.{operation_of}
 use Rattle.steps.specs.Perform.{perform}
 use Rattle.performing.proofs.ResultLaws.{write-told, write-taken}
 use Rattle.performing.proofs.WritingLaws.{last-writing}
-use borrow.Author.Rules.{rules}
 use Rattle.performing.proofs.writes.perform_writing.Goals as goal
 
 pub define_own_property-out-requires : goal.define_own_property-out-requires

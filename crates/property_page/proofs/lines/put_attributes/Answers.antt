@@ -2,7 +2,6 @@ use Prim.Native.Nat.{suc, ◌+◌}
 use native.Mathlib.Omega.{arith}
 use mathlib.Core.Path.{◌≡◌}
 use lib.ListN.{length-set}
-use borrow.Author.Rules.{rules}
 use Rattle.property_page.proofs.lines.put_attributes.Goals as goal
 
 pub bounds-out-at-in-Data : goal.bounds-out-at-in-Data

@@ -3,7 +3,6 @@ use native.Mathlib.Omega.{arith}
 use mathlib.Core.Path.{◌≡◌}
 use lib.ListN.{length-set}
 use Rattle.steps.specs.Page.{key_column}
-use borrow.Author.Rules.{rules}
 use Rattle.property_page.proofs.lines.put_key.Goals as goal
 
 pub bounds-out-at-2 : goal.bounds-out-at-2

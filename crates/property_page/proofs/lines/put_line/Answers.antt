@@ -4,7 +4,6 @@ use lib.ListN.{length-set}
 use Rattle.steps.specs.Page.{key_column, attributes_column, first_column, second_column}
 use Rattle.steps.proofs.Pages.{length-key, length-attributes, length-first, length-second}
 use Rattle.property_page.proofs.LineLaws.{columns-set}
-use borrow.Author.Rules.{rules}
 use Rattle.property_page.proofs.lines.put_line.Goals as goal
 
 pub put_attributes-requires : goal.put_attributes-requires

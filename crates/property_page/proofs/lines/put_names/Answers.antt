@@ -1,11 +1,9 @@
-use Prim.Native.Nat.{◌-◌, ◌≤◌}
+use Prim.Native.Nat.{◌-◌}
 use native.Mathlib.Omega.{arith}
-use mathlib.Core.Path.{◌≡◌, refl, sym, ◌∙◌}
-use lib.ListN.{length, drop, length-set}
-use lib.Seq.{sets}
+use mathlib.Core.Path.{refl, sym, ◌∙◌}
+use lib.ListN.{length, length-set}
 use Rattle.steps.specs.Page.{columns, padded, names}
 use Rattle.text_rows.proofs.RowLaws.{copy-next, copy-end}
-use borrow.Author.Rules.{rules}
 use Rattle.property_page.proofs.lines.put_names.Goals as goal
 
 pub loop-i-init : goal.loop-i-init

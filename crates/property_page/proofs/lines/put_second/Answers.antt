@@ -1,4 +1,3 @@
-use borrow.Author.Rules.{rules}
 use Rattle.property_page.proofs.lines.put_second.Goals as goal
 
 pub returns-in-Data : goal.returns-in-Data

@@ -1,12 +1,8 @@
-use Prim.Native.Nat.{◌+◌, ◌-◌, ◌≤◌}
+use Prim.Native.Nat.{◌+◌, ◌-◌}
 use native.Mathlib.Omega.{arith}
 use mathlib.Core.Path.{◌≡◌, refl, sym, ◌∙◌}
-use mathlib.Core.List.{[]}
-use lib.ListN.{length, drop, length-set}
-use lib.Seq.{sets}
-use Rattle.steps.specs.Page.{padded}
+use lib.ListN.{length, length-set}
 use Rattle.property_page.proofs.LineLaws.{fill-next, fill_end}
-use borrow.Author.Rules.{rules}
 use Rattle.property_page.proofs.lines.put_spaces.Goals as goal
 
 pub loop-i-init : goal.loop-i-init

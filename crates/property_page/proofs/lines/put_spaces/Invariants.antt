@@ -1,12 +1,9 @@
 use Prim.Native.Nat.{◌+◌, ◌-◌, ◌≤◌}
-use native.Mathlib.Omega.{arith}
-use mathlib.Core.Path.{◌≡◌, refl, sym, ◌∙◌}
+use mathlib.Core.Path.{◌≡◌}
 use mathlib.Core.List.{[]}
-use lib.ListN.{length, drop, length-set}
+use lib.ListN.{length, drop}
 use lib.Seq.{sets}
 use Rattle.steps.specs.Page.{padded}
-use Rattle.property_page.proofs.LineLaws.{fill-next, fill_end}
-use borrow.Author.Rules.{rules}
 use Rattle.property_page.proofs.lines.put_spaces.Given as goal
 
 abbrev pub invariant-loop-i : goal.invariant-loop-i

@@ -4,7 +4,6 @@ use Rattle.record.specs.Bytes.{value_bytes}
 use Rattle.record.specs.Characters.{hexadecimal}
 use Rattle.record.proofs.RoundTrip.{length-value}
 use Rattle.text_rows.proofs.RowLaws.{all_set}
-use borrow.Author.Rules.{rules}
 use Rattle.property_page.proofs.lines.put_value.Goals as goal
 
 pub returns : goal.returns

@@ -7,7 +7,6 @@ use Rattle.store.specs.Words.{store_of}
 use Rattle.internal_methods.specs.Ordinary.{reaches}
 use Rattle.calls.proofs.EnterLaws.{objectless, objectful}
 use Rattle.value.proofs.Objects.{is-no-object, is-object}
-use borrow.Author.Rules.{rules}
 use Rattle.prototypes.proofs.chain.next_link.Goals as goal
 
 pub returns-then-p-o : goal.returns-then-p-o

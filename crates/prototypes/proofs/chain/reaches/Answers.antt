@@ -2,8 +2,6 @@
 use Rattle.prototypes.proofs.ChainLaws.{follow}
 use native.Mathlib.Omega.{arith}
 use mathlib.Core.Path.{◌≡◌, refl, sym}
-use borrow.Author.Rules.{rules}
-use Rattle.store.specs.Words.{store_of}
 use Rattle.store.proofs.WordLaws.{object-length}
 use Rattle.internal_methods.specs.Ordinary.{reaches}
 use Rattle.prototypes.proofs.chain.reaches.Goals as goal

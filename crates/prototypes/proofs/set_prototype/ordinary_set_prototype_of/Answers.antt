@@ -2,7 +2,6 @@
 use mathlib.Core.Path.{sym, ◌∙◌}
 use Rattle.internal_methods.specs.Ordinary.{ordinary_set_prototype_of}
 use Rattle.extensibility.proofs.WriteLaws.{nothing-fits, object-fits}
-use borrow.Author.Rules.{rules}
 use Rattle.prototypes.proofs.set_prototype.ordinary_set_prototype_of.Goals as goal
 
 pub returns-then-same_value : goal.returns-then-same_value

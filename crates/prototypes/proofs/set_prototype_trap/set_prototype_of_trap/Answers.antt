@@ -3,7 +3,6 @@ use mathlib.Core.Path.{sym, ◌∙◌}
 use Rattle.internal_methods.specs.Monad.{pure, fails, next, ◌>>=◌, throw_if, when◌then◌else◌}
 use Rattle.internal_methods.specs.Proxy.{proxy_set_prototype_of}
 use Rattle.extensibility.proofs.WriteLaws.{nothing-fits}
-use borrow.Author.Rules.{rules}
 use Rattle.prototypes.proofs.set_prototype_trap.set_prototype_of_trap.Goals as goal
 
 pub returns-then-extensible : goal.returns-then-extensible

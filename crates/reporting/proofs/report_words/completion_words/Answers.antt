@@ -3,7 +3,6 @@ use Rattle.value.specs.Words.{payload_of}
 use Rattle.store_write.proofs.WriteLaws.{fits-undefined}
 use Rattle.reporting.specs.ReportWords.{report_words}
 use Rattle.reporting.proofs.ReportLaws.{words-tell, value_tells}
-use borrow.Author.Rules.{rules}
 use Rattle.reporting.proofs.report_words.completion_words.Goals as goal
 
 pub returns-in-Value : goal.returns-in-Value

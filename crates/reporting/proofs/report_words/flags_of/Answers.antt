@@ -1,4 +1,3 @@
-use borrow.Author.Rules.{rules}
 use Rattle.reporting.proofs.report_words.flags_of.Goals as goal
 
 pub returns-in-Data : goal.returns-in-Data

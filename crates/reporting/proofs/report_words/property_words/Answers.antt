@@ -2,7 +2,6 @@ use Rattle.value.specs.Words.{payload_of}
 use Rattle.store_write.proofs.WriteLaws.{fits-words, fits-undefined}
 use Rattle.reporting.specs.ReportWords.{report_words}
 use Rattle.reporting.proofs.ReportLaws.{words-tell}
-use borrow.Author.Rules.{rules}
 use Rattle.reporting.proofs.report_words.property_words.Goals as goal
 
 pub returns-in-Data : goal.returns-in-Data

@@ -1,5 +1,4 @@
 use Rattle.store_write.proofs.WriteLaws.{fits-words}
-use borrow.Author.Rules.{rules}
 use Rattle.reporting.proofs.report_words.value_words.Goals as goal
 
 pub returns : goal.returns

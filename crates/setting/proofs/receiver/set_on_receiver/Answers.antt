@@ -2,7 +2,6 @@
 use mathlib.Core.Path.{sym}
 use Rattle.internal_methods.specs.Monad.{pure, fails, next, ◌>>=◌, when◌then◌else◌}
 use Rattle.internal_methods.specs.Ordinary.{set_on_receiver}
-use borrow.Author.Rules.{rules}
 use Rattle.setting.proofs.receiver.set_on_receiver.Goals as goal
 
 pub get_own_property-requires : goal.get_own_property-requires

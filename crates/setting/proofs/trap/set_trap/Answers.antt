@@ -2,7 +2,6 @@
 use mathlib.Core.Path.{sym, ◌∙◌}
 use Rattle.internal_methods.specs.Monad.{pure, fails, next, ◌>>=◌, throw_if, when◌then◌else◌}
 use Rattle.setting.specs.SetByTrap.{set_by_trap}
-use borrow.Author.Rules.{rules}
 use Rattle.setting.proofs.trap.set_trap.Goals as goal
 
 pub next_boolean-requires : goal.next_boolean-requires

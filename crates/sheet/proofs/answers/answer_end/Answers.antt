@@ -1,5 +1,4 @@
 use Rattle.sheet.proofs.SheetLaws.{end-absent, end-plain, end-three, end-two}
-use borrow.Author.Rules.{rules}
 use Rattle.sheet.proofs.answers.answer_end.Goals as goal
 
 pub returns-then-bytes-at : goal.returns-then-bytes-at

@@ -1,5 +1,4 @@
 use Rattle.sheet.proofs.SheetLaws.{end-in, end-out}
-use borrow.Author.Rules.{rules}
 use native.Mathlib.Omega.{arith}
 use Rattle.sheet.proofs.answers.end_after.Goals as goal
 

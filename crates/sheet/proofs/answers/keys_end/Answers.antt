@@ -1,5 +1,4 @@
 use Rattle.sheet.proofs.SheetLaws.{end-out, end_same}
-use borrow.Author.Rules.{rules}
 use native.Mathlib.Omega.{arith}
 use Rattle.sheet.proofs.answers.keys_end.Goals as goal
 

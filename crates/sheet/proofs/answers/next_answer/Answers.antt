@@ -1,5 +1,4 @@
 use Rattle.sheet.proofs.SheetLaws.{end-beyond, end_fits, end-plain, end-three, end-two, next-descriptor, next_keys, next-none, next_past, next-throw, next-value}
-use borrow.Author.Rules.{rules}
 use native.Mathlib.Omega.{arith}
 use Rattle.sheet.proofs.answers.next_answer.Goals as goal
 

@@ -2,7 +2,6 @@ use native.Mathlib.Omega.{arith}
 use mathlib.Core.Path.{◌∙◌}
 use Rattle.sheet.proofs.SheetLaws.{end-beyond, end-plain, end-three, end-two}
 use Rattle.step_records.proofs.SheetLaws.{answer-value, answer-descriptor, answer-keys, answer-throw, answer-other}
-use borrow.Author.Rules.{rules}
 use Rattle.step_records.proofs.sheet_refusals.answer_refusal.Goals as goal
 
 pub bounds-bytes-at : goal.bounds-bytes-at

@@ -1,5 +1,4 @@
 use borrow.Author.Tests.{le-leb, lt-leb}
-use borrow.Author.Rules.{rules}
 use Rattle.step_records.proofs.sheet_refusals.keys_refusal.Goals as goal
 
 pub returns-then-n-le256 : goal.returns-then-n-le256

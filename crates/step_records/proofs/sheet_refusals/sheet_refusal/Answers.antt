@@ -1,11 +1,8 @@
-use Prim.Native.Nat.{◌≤◌}
 use native.Mathlib.Omega.{arith}
-use mathlib.Core.Path.{◌≡◌}
 use Rattle.sheet.proofs.SheetLaws.{end_fits}
-use Rattle.step_records.specs.Refusals.{earlier, sheet_refusal}
+use Rattle.step_records.specs.Refusals.{earlier}
 use Rattle.step_records.proofs.RefusalLaws.{earlier-least, earlier-most}
-use Rattle.step_records.proofs.SheetLaws.{from, sheet-empty, sheet-long, sheet-start, walk-past, walk_step, walk-done, walk-short, answer-least}
-use borrow.Author.Rules.{rules}
+use Rattle.step_records.proofs.SheetLaws.{sheet-empty, sheet-long, sheet-start, walk-past, walk_step, walk-done, walk-short, answer-least}
 use Rattle.step_records.proofs.sheet_refusals.sheet_refusal.Goals as goal
 
 pub returns-then-bytes-eq0 : goal.returns-then-bytes-eq0

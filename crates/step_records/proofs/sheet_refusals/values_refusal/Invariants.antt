@@ -1,11 +1,7 @@
 use Prim.Native.Nat.{◌*◌, ◌+◌, ◌≤◌}
-use native.Mathlib.Omega.{arith}
 use mathlib.Core.Path.{◌≡◌}
 use lib.ListN.{length}
 use Rattle.step_records.specs.Refusals.{earlier, values_refusal}
-use Rattle.step_records.proofs.RefusalLaws.{earlier-most}
-use Rattle.step_records.proofs.SheetLaws.{values-start, values-step, values-done}
-use borrow.Author.Rules.{rules}
 use Rattle.step_records.proofs.sheet_refusals.values_refusal.Given as goal
 
 abbrev pub invariant-loop-left : goal.invariant-loop-left

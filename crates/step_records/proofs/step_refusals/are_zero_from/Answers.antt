@@ -1,9 +1,8 @@
 -- The loop's invariant: the bytes from `at` to i are zero, and i is at most 57. The measure is what is left to 58.
-use Prim.Native.Nat.{◌≤◌, ◌-◌}
+use Prim.Native.Nat.{◌-◌}
 use native.Mathlib.Omega.{arith}
-use mathlib.Core.Path.{◌≡◌, sym, ◌∙◌}
+use mathlib.Core.Path.{sym, ◌∙◌}
 use mathlib.Core.Bool.{true}
-use Rattle.record.specs.Bytes.{are_zero}
 use Rattle.step_records.proofs.StepRefusalLaws.{zero-start, zero_more, zero-not, zero-end}
 use Rattle.step_records.proofs.step_refusals.are_zero_from.Goals as goal
 

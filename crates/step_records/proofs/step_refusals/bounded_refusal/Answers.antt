@@ -1,6 +1,5 @@
 use mathlib.Core.Path.{◌∙◌}
 use Rattle.step_records.proofs.StepRefusalLaws.{bounded-integer, bounded-other}
-use borrow.Author.Rules.{rules}
 use Rattle.step_records.proofs.step_refusals.bounded_refusal.Goals as goal
 
 pub returns-then-w-eq3 : goal.returns-then-w-eq3

@@ -1,4 +1,3 @@
-use borrow.Author.Rules.{rules}
 use Rattle.step_records.proofs.step_refusals.definition_step.Goals as goal
 
 pub returns-then-is_zero_at-2 : goal.returns-then-is_zero_at-2

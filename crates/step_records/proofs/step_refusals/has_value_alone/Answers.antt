@@ -1,4 +1,3 @@
-use borrow.Author.Rules.{rules}
 use Rattle.step_records.proofs.step_refusals.has_value_alone.Goals as goal
 
 pub returns-then-is_zero_at : goal.returns-then-is_zero_at

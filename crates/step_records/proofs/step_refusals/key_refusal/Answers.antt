@@ -1,6 +1,5 @@
 use mathlib.Core.Path.{◌∙◌}
 use Rattle.step_records.proofs.StepRefusalLaws.{key-string, key-symbol, key-other}
-use borrow.Author.Rules.{rules}
 use Rattle.step_records.proofs.step_refusals.key_refusal.Goals as goal
 
 pub returns-in-5 : goal.returns-in-5

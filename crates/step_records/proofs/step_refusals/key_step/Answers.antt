@@ -1,4 +1,3 @@
-use borrow.Author.Rules.{rules}
 use Rattle.step_records.proofs.step_refusals.key_step.Goals as goal
 
 pub returns-then-are_zero_from : goal.returns-then-are_zero_from

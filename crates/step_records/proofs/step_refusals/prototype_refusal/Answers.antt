@@ -1,7 +1,6 @@
 use mathlib.Core.Path.{◌∙◌}
 use mathlib.Core.Bool.{true, false}
 use Rattle.step_records.proofs.StepRefusalLaws.{prototype-null, prototype-named, prototype-other}
-use borrow.Author.Rules.{rules}
 use Rattle.step_records.proofs.step_refusals.prototype_refusal.Goals as goal
 
 pub returns-in-1 : goal.returns-in-1

@@ -1,4 +1,3 @@
-use borrow.Author.Rules.{rules}
 use Rattle.step_records.proofs.step_refusals.prototype_step.Goals as goal
 
 pub returns-then-has_value_alone : goal.returns-then-has_value_alone

@@ -1,6 +1,5 @@
 use mathlib.Core.Path.{◌∙◌}
 use Rattle.step_records.proofs.StepRefusalLaws.{revoking-proxy}
-use borrow.Author.Rules.{rules}
 use Rattle.step_records.proofs.step_refusals.revoking_step.Goals as goal
 
 pub returns-then-proxy : goal.returns-then-proxy

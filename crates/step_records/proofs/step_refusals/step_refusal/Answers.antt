@@ -1,7 +1,5 @@
 use mathlib.Core.Path.{◌∙◌}
-use mathlib.Core.Logic.{⊎_elim}
 use Rattle.step_records.proofs.StepRefusalLaws.{code-low, code-middle, code-high, no_length, no_code, object-code, object-range-code, revoking-code, creation-code, proxy-code, level-code, prototype-code, key-code, definition-code, get-code, set_code}
-use borrow.Author.Rules.{rules}
 use Rattle.step_records.proofs.step_refusals.step_refusal.Goals as goal
 use Rattle.step_records.proofs.step_refusals.step_refusal.Goals.{in-4-1, in_default+else-code-lt1+then-code-lt8}
 

@@ -1,6 +1,5 @@
 use mathlib.Core.Path.{sym, ◌∙◌}
 use Rattle.step_records.proofs.ValueLaws.{no-head, three-parts}
-use borrow.Author.Rules.{rules}
 use Rattle.step_records.proofs.value_refusals.descriptor_refusal.Goals as goal
 
 pub returns-then-is_head_at : goal.returns-then-is_head_at

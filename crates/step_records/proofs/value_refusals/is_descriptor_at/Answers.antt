@@ -1,5 +1,4 @@
 use Rattle.step_records.proofs.ValueLaws.{no-accessor}
-use borrow.Author.Rules.{rules}
 use Rattle.step_records.proofs.value_refusals.is_descriptor_at.Goals as goal
 
 pub returns-then-wide-lt16 : goal.returns-then-wide-lt16

@@ -1,6 +1,5 @@
 use mathlib.Core.Path.{sym, ◌∙◌}
 use Rattle.step_records.proofs.ValueLaws.{part-used, part-zero, part-nonzero}
-use borrow.Author.Rules.{rules}
 use Rattle.step_records.proofs.value_refusals.part_refusal.Goals as goal
 
 pub returns-then-used : goal.returns-then-used

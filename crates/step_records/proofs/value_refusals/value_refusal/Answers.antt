@@ -1,7 +1,6 @@
 use mathlib.Core.Path.{◌∙◌}
 use mathlib.Core.Bool.{true, false}
 use Rattle.step_records.proofs.ValueLaws.{refusal-0, refusal-1, refusal-2, refusal-3, refusal-4, refusal-5, refusal-6, refusal-named, refusal-other}
-use borrow.Author.Rules.{rules}
 use Rattle.step_records.proofs.value_refusals.value_refusal.Goals as goal
 
 pub returns-in-0 : goal.returns-in-0

@@ -1,4 +1,3 @@
-use borrow.Author.Rules.{rules}
 use mathlib.Core.Path.{◌∙◌, sym}
 use Rattle.step_records.proofs.value_tests.descriptor_passes.Goals as goal
 

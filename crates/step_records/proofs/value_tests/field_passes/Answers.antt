@@ -1,4 +1,3 @@
-use borrow.Author.Rules.{rules}
 use Rattle.step_records.proofs.value_tests.field_passes.Goals as goal
 
 pub returns-in-Present : goal.returns-in-Present

@@ -1,5 +1,4 @@
 use Rattle.record.specs.Tests.{is_descriptor}
-use borrow.Author.Rules.{rules}
 use mathlib.Core.Path.{◌∙◌, sym}
 use Rattle.step_records.proofs.value_tests.is_descriptor.Goals as goal
 

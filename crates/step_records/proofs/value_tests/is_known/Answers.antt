@@ -1,5 +1,4 @@
 use Rattle.record.specs.Tests.{is_known}
-use borrow.Author.Rules.{rules}
 use Rattle.step_records.proofs.value_tests.is_known.Goals as goal
 
 pub returns-in-Undefined : goal.returns-in-Undefined

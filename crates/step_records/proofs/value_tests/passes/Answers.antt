@@ -1,4 +1,3 @@
-use borrow.Author.Rules.{rules}
 use Rattle.step_records.proofs.value_tests.passes.Goals as goal
 
 pub returns-in-Made : goal.returns-in-Made

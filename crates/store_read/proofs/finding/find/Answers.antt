@@ -1,5 +1,4 @@
 use mathlib.Core.Path.{sym, ◌∙◌}
-use borrow.Author.Rules.{rules}
 use Rattle.store.proofs.WordLaws.{property-length}
 use Rattle.store_read.proofs.ReadLaws.{word-found, word-missing, no-owner, no_key}
 use Rattle.store_read.proofs.finding.find.Goals as goal

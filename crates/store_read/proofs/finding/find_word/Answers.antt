@@ -1,13 +1,9 @@
-use Prim.Native.Nat.{ℕ, ◌≤◌, ◌-◌}
-use mathlib.Core.Path.{◌≡◌, sym, ◌∙◌}
+use Prim.Native.Nat.{◌-◌}
+use mathlib.Core.Path.{sym, ◌∙◌}
 use native.Mathlib.Omega.{arith}
 use native.Mathlib.Nat.{sub-zero}
 use lib.Dec.{eqb}
-use borrow.Author.Rules.{rules}
 use borrow.Author.Tests.{eq-eqb, ne_eqb}
-use Rattle.text.specs.Table.{tabulate}
-use Rattle.store.specs.Words.{word_at}
-use Rattle.store_read.specs.Answers.{first_place, key_words, key_in}
 use Rattle.store.proofs.WordLaws.{sized, property-length}
 use Rattle.store_read.proofs.ReadLaws.{first-hit, first_step, first-end, hit-placed, all_placed}
 use Rattle.store_read.proofs.finding.find_word.Goals as goal

@@ -2,7 +2,6 @@ use mathlib.Core.Path.{sym, ◌∙◌}
 use native.Mathlib.Omega.{arith}
 use Rattle.store.proofs.WordLaws.{sized}
 use Rattle.store_read.proofs.ReadLaws.{place-below, own-found, own-missed}
-use borrow.Author.Rules.{rules}
 use Rattle.store_read.proofs.finding.own.Goals as goal
 
 pub property_at-requires : goal.property_at-requires

@@ -2,7 +2,6 @@ use native.Mathlib.Omega.{arith}
 use Rattle.store.proofs.WordLaws.{sized}
 use Rattle.store_read.proofs.ReadLaws.{odd-flag, even-flag}
 use Rattle.store.specs.Words.{property_in, property_of}
-use borrow.Author.Rules.{rules}
 use Rattle.store_read.proofs.finding.property_at.Goals as goal
 
 pub bounds-words-at : goal.bounds-words-at

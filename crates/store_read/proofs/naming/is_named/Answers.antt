@@ -1,5 +1,4 @@
 use mathlib.Core.Path.{sym}
-use borrow.Author.Rules.{rules}
 use Rattle.store.specs.Release.{is_named}
 use Rattle.store_read.proofs.naming.is_named.Goals as goal
 

@@ -1,6 +1,5 @@
 use native.Mathlib.Omega.{arith}
 use mathlib.Core.Path.{sym, ◌∙◌}
-use borrow.Author.Rules.{rules}
 use Rattle.store.specs.Words.{object_in, slot_in}
 use Rattle.store.proofs.WordLaws.{sized}
 use Rattle.store_read.proofs.NameLaws.{ordinary-names, proxy-names, revoked-names}

@@ -1,9 +1,7 @@
-use Prim.Native.Nat.{◌-◌, ◌≤◌}
+use Prim.Native.Nat.{◌-◌}
 use native.Mathlib.Omega.{arith}
-use mathlib.Core.Path.{◌≡◌, refl, sym, ◌∙◌}
-use Rattle.text.specs.Table.{tabulate}
-use Rattle.store.specs.Release.{objects_name}
-use Rattle.store.specs.Words.{slot_in, store_of}
+use mathlib.Core.Path.{refl, sym, ◌∙◌}
+use Rattle.store.specs.Words.{store_of}
 use Rattle.store_read.proofs.NameLaws.{object-hit, object-step, objects-end}
 use Rattle.store_read.proofs.naming.objects_name.Goals as goal
 

@@ -1,10 +1,8 @@
 use Prim.Native.Nat.{◌-◌, ◌≤◌}
-use native.Mathlib.Omega.{arith}
-use mathlib.Core.Path.{◌≡◌, refl, sym, ◌∙◌}
+use mathlib.Core.Path.{◌≡◌}
 use Rattle.text.specs.Table.{tabulate}
 use Rattle.store.specs.Release.{objects_name}
 use Rattle.store.specs.Words.{slot_in, store_of}
-use Rattle.store_read.proofs.NameLaws.{object-hit, object-step, objects-end}
 use Rattle.store_read.proofs.naming.objects_name.Given as goal
 
 abbrev pub invariant-loop-i : goal.invariant-loop-i

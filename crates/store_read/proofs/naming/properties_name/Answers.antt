@@ -1,11 +1,8 @@
-use Prim.Native.Nat.{◌-◌, ◌≤◌}
+use Prim.Native.Nat.{◌-◌}
 use native.Mathlib.Nat.{sub-zero}
 use native.Mathlib.Omega.{arith}
-use mathlib.Core.Path.{◌≡◌, sym, ◌∙◌}
-use borrow.Author.Rules.{rules}
-use Rattle.text.specs.Table.{tabulate}
-use Rattle.store.specs.Release.{properties_name}
-use Rattle.store.specs.Words.{entry_in, store_of}
+use mathlib.Core.Path.{sym, ◌∙◌}
+use Rattle.store.specs.Words.{store_of}
 use Rattle.store.proofs.WordLaws.{property-length}
 use Rattle.store_read.proofs.NameLaws.{property-hit, property-step, properties-end}
 use Rattle.store_read.proofs.naming.properties_name.Goals as goal

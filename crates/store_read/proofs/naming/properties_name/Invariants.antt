@@ -1,13 +1,8 @@
 use Prim.Native.Nat.{◌-◌, ◌≤◌}
-use native.Mathlib.Nat.{sub-zero}
-use native.Mathlib.Omega.{arith}
-use mathlib.Core.Path.{◌≡◌, sym, ◌∙◌}
-use borrow.Author.Rules.{rules}
+use mathlib.Core.Path.{◌≡◌}
 use Rattle.text.specs.Table.{tabulate}
 use Rattle.store.specs.Release.{properties_name}
 use Rattle.store.specs.Words.{entry_in, store_of}
-use Rattle.store.proofs.WordLaws.{property-length}
-use Rattle.store_read.proofs.NameLaws.{property-hit, property-step, properties-end}
 use Rattle.store_read.proofs.naming.properties_name.Given as goal
 
 abbrev pub invariant-loop-i : goal.invariant-loop-i

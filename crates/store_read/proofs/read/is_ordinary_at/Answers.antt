@@ -1,6 +1,5 @@
 use native.Mathlib.Omega.{arith}
 use mathlib.Core.Path.{◌∙◌}
-use borrow.Author.Rules.{rules}
 use Rattle.value.proofs.BitLaws.{bit-above}
 use Rattle.store.proofs.WordLaws.{sized}
 use Rattle.store_read.proofs.ReadLaws.{ordinary-marked, proxy-marked, lookup-missing}

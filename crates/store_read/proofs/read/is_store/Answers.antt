@@ -1,6 +1,5 @@
 use borrow.Author.Tests.{eq-eqb, ne_eqb, le-leb, lt-leb, lt-ltb, le-ltb}
 use Rattle.store.specs.Words.{is_store}
-use borrow.Author.Rules.{rules}
 use Rattle.store_read.proofs.read.is_store.Goals as goal
 
 pub returns-then-words-lt4294967296 : goal.returns-then-words-lt4294967296

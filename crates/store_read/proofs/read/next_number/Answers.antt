@@ -1,6 +1,5 @@
 use native.Mathlib.Omega.{arith}
 use mathlib.Core.Path.{◌∙◌}
-use borrow.Author.Rules.{rules}
 use Rattle.store.proofs.WordLaws.{sized}
 use Rattle.store_read.proofs.ReadLaws.{next-unused, next-released, next-number}
 use Rattle.store_read.proofs.read.next_number.Goals as goal

@@ -1,6 +1,5 @@
 use native.Mathlib.Omega.{arith}
 use mathlib.Core.Path.{sym, ◌∙◌}
-use borrow.Author.Rules.{rules}
 use Rattle.value.proofs.BitLaws.{bit-above}
 use Rattle.store.specs.Words.{object_in}
 use Rattle.store.proofs.WordLaws.{sized}

@@ -1,5 +1,3 @@
-use borrow.Author.Rules.{rules}
-use borrow.Author.Tests.{eq-eqb, ne_eqb}
 use Rattle.store_read.proofs.ReadLaws.{ordinary-words, proxy-words}
 use Rattle.store_read.proofs.read.object_of.Goals as goal
 

@@ -1,7 +1,7 @@
-use Prim.Native.Nat.{◌-◌, ◌≤◌}
+use Prim.Native.Nat.{◌-◌}
 use native.Mathlib.Omega.{arith}
-use mathlib.Core.Path.{◌≡◌, refl}
-use lib.ListN.{length, length-set, take}
+use mathlib.Core.Path.{refl}
+use lib.ListN.{length, length-set}
 use Rattle.store_write.proofs.CopyLaws.{copy_more, copy-end}
 use Rattle.store_write.proofs.copying.copy_words.Goals as goal
 

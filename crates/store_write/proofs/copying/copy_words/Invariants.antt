@@ -1,8 +1,6 @@
 use Prim.Native.Nat.{◌-◌, ◌≤◌}
-use native.Mathlib.Omega.{arith}
-use mathlib.Core.Path.{◌≡◌, refl}
-use lib.ListN.{length, length-set, take}
-use Rattle.store_write.proofs.CopyLaws.{copy_more, copy-end}
+use mathlib.Core.Path.{◌≡◌}
+use lib.ListN.{length, take}
 use Rattle.store_write.proofs.copying.copy_words.Given as goal
 
 abbrev pub invariant-loop-i : goal.invariant-loop-i

@@ -1,4 +1,3 @@
-use borrow.Author.Rules.{rules}
 use Rattle.store_write.proofs.WriteLaws.{number-queued, number-left}
 use Rattle.store_write.proofs.numbers.release_number.Goals as goal
 

@@ -1,4 +1,3 @@
-use borrow.Author.Rules.{rules}
 use Rattle.store_write.proofs.WriteLaws.{unused-taken, released-taken}
 use Rattle.store_write.proofs.numbers.take_number.Goals as goal
 

@@ -4,7 +4,6 @@ use Rattle.store.specs.Words.{word_at, key_at}
 use lib.ListN.{length, length-set}
 use mathlib.Core.Path.{ap, ◌∙◌}
 use native.Mathlib.Omega.{arith}
-use borrow.Author.Rules.{rules}
 use Rattle.store_write.proofs.properties.add_property.Goals as goal
 
 pub bounds-words-1 : goal.bounds-words-1

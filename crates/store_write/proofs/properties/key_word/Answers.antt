@@ -1,6 +1,5 @@
 use mathlib.Core.Path.{ap}
 use native.Mathlib.Omega.{arith}
-use borrow.Author.Rules.{rules}
 use Rattle.value.specs.PropertyKey.{key_number}
 use Rattle.store_write.proofs.properties.key_word.Goals as goal
 

@@ -1,7 +1,6 @@
 use Rattle.store_write.proofs.WriteLaws.{fits-words, fits-undefined, undefined-payload}
 use mathlib.Core.Path.{refl}
 use native.Mathlib.Omega.{arith}
-use borrow.Author.Rules.{rules}
 use Rattle.store_write.proofs.properties.property_words.Goals as goal
 
 pub overflow_add-result : goal.overflow_add-result

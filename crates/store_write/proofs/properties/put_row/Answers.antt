@@ -2,7 +2,6 @@ use Rattle.store_write.proofs.WriteLaws.{five-set}
 use Rattle.store.specs.Words.{row_at}
 use lib.ListN.{length-set}
 use native.Mathlib.Omega.{arith}
-use borrow.Author.Rules.{rules}
 use Rattle.store_write.proofs.properties.put_row.Goals as goal
 
 pub bounds-words-at-2 : goal.bounds-words-at-2

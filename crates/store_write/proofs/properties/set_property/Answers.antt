@@ -1,7 +1,6 @@
 use Rattle.store.proofs.WordLaws.{sized}
 use Rattle.store_write.proofs.WriteLaws.{became, becomes-row}
 use native.Mathlib.Omega.{arith}
-use borrow.Author.Rules.{rules}
 use Rattle.store_write.proofs.properties.set_property.Goals as goal
 
 pub write_row-requires : goal.write_row-requires

@@ -1,5 +1,4 @@
 use Rattle.store_write.proofs.WriteLaws.{row-stored}
-use borrow.Author.Rules.{rules}
 use Rattle.store_write.proofs.properties.write_row.Goals as goal
 
 pub returns : goal.returns

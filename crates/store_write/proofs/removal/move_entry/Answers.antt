@@ -1,7 +1,6 @@
 use Rattle.store_write.proofs.WriteLaws.{moved-sets, length_moved}
 use lib.ListN.{length}
 use mathlib.Core.Path.{sym, ap, ◌∙◌}
-use borrow.Author.Rules.{rules}
 use Rattle.store_write.proofs.removal.move_entry.Goals as goal
 
 pub shape_of-words : goal.shape_of-words

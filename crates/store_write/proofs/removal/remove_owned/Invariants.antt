@@ -1,11 +1,8 @@
 use Prim.Native.Nat.{◌-◌, ◌≤◌}
-use native.Mathlib.Nat.{sub-zero}
-use native.Mathlib.Omega.{arith}
-use mathlib.Core.Path.{◌≡◌, sym, ap, ◌∙◌}
-use lib.ListN.{length, length-set}
+use mathlib.Core.Path.{◌≡◌}
+use lib.ListN.{length}
 use Rattle.store.specs.Release.{is_owned_by}
 use Rattle.store.specs.Words.{swept, without_rows}
-use Rattle.store_write.proofs.WriteLaws.{length_moved, turn-hit, turn-miss, turn_end, owner-hit, owner-miss}
 use Rattle.store_write.proofs.removal.remove_owned.Given as goal
 
 abbrev pub invariant-loop-i : goal.invariant-loop-i

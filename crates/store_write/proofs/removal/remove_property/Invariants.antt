@@ -1,14 +1,10 @@
-use Rattle.store.proofs.WordLaws.{sized}
-use Rattle.store_write.proofs.WriteLaws.{length_moved, became, becomes-without, turn-hit, turn-miss, turn_end, key-hit, key-miss}
 use Rattle.store.specs.declared.Entry.{Entry}
 use Rattle.store.specs.Store.{is_at}
 use Rattle.store.specs.Words.{key_word, swept, without_row}
 use Rattle.value.specs.declared.PropertyKey.{PropertyKey}
-use lib.ListN.{length, length-set}
-use native.Mathlib.Nat.{sub-zero}
+use lib.ListN.{length}
 use Prim.Native.Nat.{◌-◌, ◌≤◌}
-use mathlib.Core.Path.{◌≡◌, sym, ap, ◌∙◌}
-use native.Mathlib.Omega.{arith}
+use mathlib.Core.Path.{◌≡◌}
 use Rattle.store_write.proofs.removal.remove_property.Given as goal
 
 abbrev pub invariant-loop-i : goal.invariant-loop-i

@@ -1,7 +1,6 @@
 use lib.ListN.{length}
 use mathlib.Core.Path.{ap, ◌∙◌}
 use Prim.Native.Nat.{◌<◌}
-use borrow.Author.Rules.{rules}
 use Rattle.store.proofs.WordLaws.{sized}
 use Rattle.store_write.proofs.WriteLaws.{became, becomes-new-object, new-object-stored, next-below, sized-live}
 use Rattle.store_write.proofs.write.add_object.Goals as goal

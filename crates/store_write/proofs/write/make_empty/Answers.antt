@@ -5,7 +5,6 @@ use mathlib.Core.Bool.{false≢true}
 use mathlib.Core.Path.{sym}
 use lib.ListN.{length-set}
 use native.Mathlib.Omega.{arith}
-use borrow.Author.Rules.{rules}
 use Rattle.store_write.proofs.write.make_empty.Goals as goal
 
 pub bounds-words-4 : goal.bounds-words-4

@@ -1,7 +1,6 @@
 use Rattle.store_write.proofs.WriteLaws.{head-ordinary, head-proxy, fits-words}
 use mathlib.Core.Path.{refl, ◌∙◌}
 use native.Mathlib.Omega.{arith}
-use borrow.Author.Rules.{rules}
 use Rattle.store_write.proofs.write.object_words.Goals as goal
 
 pub overflow_add-result : goal.overflow_add-result

@@ -1,7 +1,6 @@
 use Rattle.store_write.proofs.WriteLaws.{three-set}
 use lib.ListN.{length-set}
 use native.Mathlib.Omega.{arith}
-use borrow.Author.Rules.{rules}
 use Rattle.store_write.proofs.write.put_three.Goals as goal
 
 pub bounds-words-at-2 : goal.bounds-words-at-2

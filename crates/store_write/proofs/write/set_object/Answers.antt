@@ -1,7 +1,6 @@
 use Rattle.store.proofs.WordLaws.{sized}
 use Rattle.store_read.proofs.ReadLaws.{live_below}
 use Rattle.store_write.proofs.WriteLaws.{became, becomes-object}
-use borrow.Author.Rules.{rules}
 use Rattle.store_write.proofs.write.set_object.Goals as goal
 
 pub write_object-requires : goal.write_object-requires

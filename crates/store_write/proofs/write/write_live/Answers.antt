@@ -1,7 +1,6 @@
 use lib.ListN.{length, length-set}
 use mathlib.Core.Path.{ap}
 use native.Mathlib.Omega.{arith}
-use borrow.Author.Rules.{rules}
 use Rattle.store_write.proofs.WriteLaws.{length-object, live-stored}
 use Rattle.store_write.proofs.write.write_live.Goals as goal
 

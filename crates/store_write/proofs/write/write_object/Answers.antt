@@ -1,5 +1,4 @@
 use Rattle.store_write.proofs.WriteLaws.{object-stored}
-use borrow.Author.Rules.{rules}
 use Rattle.store_write.proofs.write.write_object.Goals as goal
 
 pub returns : goal.returns

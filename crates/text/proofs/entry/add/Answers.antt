@@ -1,6 +1,5 @@
 use native.Mathlib.Omega.{arith}
 use lib.ListN.{length-set}
-use borrow.Author.Rules.{rules}
 use Rattle.text.proofs.TableLaws.{added-by, length-by}
 use Rattle.text.proofs.entry.add.Goals as goal
 

@@ -1,6 +1,5 @@
 use native.Mathlib.Omega.{arith}
 use mathlib.Core.Path.{sym, ◌∙◌}
-use borrow.Author.Rules.{rules}
 use Rattle.text.proofs.TableLaws.{table-size}
 use Rattle.text.proofs.EntryLaws.{enter-known, enter-new, enter-full, enter-long, enter-malformed}
 use Rattle.text.proofs.entry.enter.Goals as goal

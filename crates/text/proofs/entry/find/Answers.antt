@@ -1,12 +1,9 @@
-use Prim.Native.Nat.{ℕ, ◌≤◌, ◌-◌}
+use Prim.Native.Nat.{ℕ, ◌-◌}
 use native.Mathlib.Omega.{arith}
-use mathlib.Core.Path.{◌≡◌, sym, ap, ◌∙◌}
+use mathlib.Core.Path.{sym, ap, ◌∙◌}
 use mathlib.Core.List.{List}
-use borrow.Author.Rules.{rules}
-use Rattle.text.specs.Strings.{same_text, number_of}
-use Rattle.text.specs.Table.{tabulate, text_at}
-use Rattle.text.specs.Answers.{read_table, found}
-use Rattle.text.proofs.TextLaws.{found_from}
+use Rattle.text.specs.Strings.{same_text}
+use Rattle.text.specs.Table.{text_at}
 use Rattle.text.proofs.TableLaws.{table-size, table-count, find-start, find-malformed, find-hit, find-step, find-end}
 use Rattle.text.proofs.entry.find.Goals as goal
 

@@ -1,13 +1,9 @@
-use Prim.Native.Nat.{ℕ, ◌≤◌, ◌-◌}
-use native.Mathlib.Omega.{arith}
-use mathlib.Core.Path.{◌≡◌, sym, ap, ◌∙◌}
-use mathlib.Core.List.{List}
-use borrow.Author.Rules.{rules}
-use Rattle.text.specs.Strings.{same_text, number_of}
+use Prim.Native.Nat.{◌≤◌, ◌-◌}
+use mathlib.Core.Path.{◌≡◌}
+use Rattle.text.specs.Strings.{number_of}
 use Rattle.text.specs.Table.{tabulate, text_at}
 use Rattle.text.specs.Answers.{read_table, found}
 use Rattle.text.proofs.TextLaws.{found_from}
-use Rattle.text.proofs.TableLaws.{table-size, table-count, find-start, find-malformed, find-hit, find-step, find-end}
 use Rattle.text.proofs.entry.find.Given as goal
 
 abbrev pub invariant-loop-n : goal.invariant-loop-n

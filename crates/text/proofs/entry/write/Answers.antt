@@ -1,7 +1,7 @@
-use Prim.Native.Nat.{ℕ, ◌≤◌, ◌+◌, ◌-◌}
+use Prim.Native.Nat.{ℕ, ◌+◌, ◌-◌}
 use native.Mathlib.Omega.{arith}
 use mathlib.Core.Path.{◌≡◌, refl, sym, ap, ◌∙◌}
-use lib.ListN.{length, drop, length-set}
+use lib.ListN.{length, length-set}
 use Rattle.text.specs.Table.{overwrite}
 use Rattle.text.proofs.TableLaws.{overwrite-step, overwrite-end}
 use Rattle.text.proofs.entry.write.Goals as goal

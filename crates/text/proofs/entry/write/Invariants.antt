@@ -1,9 +1,7 @@
-use Prim.Native.Nat.{ℕ, ◌≤◌, ◌+◌, ◌-◌}
-use native.Mathlib.Omega.{arith}
-use mathlib.Core.Path.{◌≡◌, refl, sym, ap, ◌∙◌}
-use lib.ListN.{length, drop, length-set}
+use Prim.Native.Nat.{◌≤◌, ◌+◌, ◌-◌}
+use mathlib.Core.Path.{◌≡◌}
+use lib.ListN.{length, drop}
 use Rattle.text.specs.Table.{overwrite}
-use Rattle.text.proofs.TableLaws.{overwrite-step, overwrite-end}
 use Rattle.text.proofs.entry.write.Given as goal
 
 abbrev pub invariant-loop-i : goal.invariant-loop-i

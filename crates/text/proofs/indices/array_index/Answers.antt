@@ -1,4 +1,3 @@
-use borrow.Author.Rules.{rules}
 use lib.ListN.{get_or}
 use native.Mathlib.Omega.{arith}
 use Rattle.text.proofs.IndexLaws.{is-empty, is_zero, is-padded, is_number, is-long, is-other, below, above}

@@ -1,10 +1,9 @@
-use Prim.Native.Nat.{◌≤◌, ◌<◌, ◌-◌, ◌^◌}
+use Prim.Native.Nat.{◌-◌}
 use borrow.Author.Rules.{rules}
 use borrow.Author.Tests.{le-leb, lt-leb}
-use lib.ListN.{get_or, length, drop}
-use mathlib.Core.Path.{◌≡◌, refl, ◌∙◌}
+use lib.ListN.{get_or}
+use mathlib.Core.Path.{refl, ◌∙◌}
 use native.Mathlib.Omega.{arith}
-use Rattle.property.specs.ArrayIndex.{decimal}
 use Rattle.text.proofs.IndexLaws.{bound, more, digit, below, above, next-digit, no_digit, at-end}
 use Rattle.text.proofs.indices.decimal_index.Goals as goal
 

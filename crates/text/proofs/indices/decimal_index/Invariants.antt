@@ -1,11 +1,7 @@
 use Prim.Native.Nat.{◌≤◌, ◌<◌, ◌-◌, ◌^◌}
-use borrow.Author.Rules.{rules}
-use borrow.Author.Tests.{le-leb, lt-leb}
-use lib.ListN.{get_or, length, drop}
-use mathlib.Core.Path.{◌≡◌, refl, ◌∙◌}
-use native.Mathlib.Omega.{arith}
+use lib.ListN.{length, drop}
+use mathlib.Core.Path.{◌≡◌}
 use Rattle.property.specs.ArrayIndex.{decimal}
-use Rattle.text.proofs.IndexLaws.{bound, more, digit, below, above, next-digit, no_digit, at-end}
 use Rattle.text.proofs.indices.decimal_index.Given as goal
 
 abbrev pub invariant-loop-i : goal.invariant-loop-i

@@ -1,5 +1,4 @@
 use native.Mathlib.Omega.{arith}
-use borrow.Author.Rules.{rules}
 use Rattle.text_cells.proofs.CellLaws.{bounds, cell-part}
 use Rattle.text_cells.proofs.cells.cell_in.Goals as goal
 

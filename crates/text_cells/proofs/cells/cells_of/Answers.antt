@@ -1,8 +1,8 @@
-use Prim.Native.Nat.{◌≤◌, ◌-◌}
+use Prim.Native.Nat.{◌-◌}
 use native.Mathlib.Omega.{arith}
 use mathlib.Core.Path.{refl}
 use mathlib.Core.Bool.{false≢true}
-use Rattle.text_cells.proofs.CellLaws.{Passed, passed_none, passed-one, passed-few, passed-seven, passed-located}
+use Rattle.text_cells.proofs.CellLaws.{passed_none, passed-one, passed-few, passed-seven, passed-located}
 use Rattle.text_cells.proofs.cells.cells_of.Goals as goal
 
 pub loop-i-init : goal.loop-i-init

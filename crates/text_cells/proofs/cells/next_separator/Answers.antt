@@ -1,7 +1,6 @@
-use Prim.Native.Nat.{◌≤◌, ◌+◌, ◌-◌}
+use Prim.Native.Nat.{◌-◌}
 use native.Mathlib.Omega.{arith}
-use mathlib.Core.Path.{◌≡◌, refl, sym, ◌∙◌}
-use lib.ListN.{length, drop}
+use mathlib.Core.Path.{refl, sym, ◌∙◌}
 use Rattle.text_form.specs.Cells.{until}
 use Rattle.text_cells.proofs.CellLaws.{until-hit, until-step, until_end}
 use Rattle.text_cells.proofs.cells.next_separator.Goals as goal

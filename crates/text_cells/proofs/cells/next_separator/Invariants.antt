@@ -1,9 +1,7 @@
 use Prim.Native.Nat.{◌≤◌, ◌+◌, ◌-◌}
-use native.Mathlib.Omega.{arith}
-use mathlib.Core.Path.{◌≡◌, refl, sym, ◌∙◌}
+use mathlib.Core.Path.{◌≡◌}
 use lib.ListN.{length, drop}
 use Rattle.text_form.specs.Cells.{until}
-use Rattle.text_cells.proofs.CellLaws.{until-hit, until-step, until_end}
 use Rattle.text_cells.proofs.cells.next_separator.Given as goal
 
 abbrev pub invariant-loop-i : goal.invariant-loop-i

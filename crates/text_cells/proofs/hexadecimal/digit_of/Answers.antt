@@ -1,4 +1,3 @@
-use borrow.Author.Rules.{rules}
 use native.Mathlib.Omega.{arith}
 use Rattle.text_cells.proofs.HexadecimalLaws.{is-decimal, is-letter, is_below, is-between, is-above}
 use Rattle.text_cells.proofs.hexadecimal.digit_of.Goals as goal

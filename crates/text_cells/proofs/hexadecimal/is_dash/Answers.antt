@@ -1,4 +1,3 @@
-use borrow.Author.Rules.{rules}
 use Rattle.text_cells.proofs.HexadecimalLaws.{dash-of-one, no-dash}
 use Rattle.text_cells.proofs.hexadecimal.is_dash.Goals as goal
 

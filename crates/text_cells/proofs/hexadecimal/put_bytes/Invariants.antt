@@ -1,13 +1,9 @@
 use Prim.Native.Nat.{◌*◌, ◌-◌, ◌≤◌}
-use native.Mathlib.Omega.{arith}
 use mathlib.Core.Option.{some}
-use mathlib.Core.Path.{◌≡◌, refl, sym, ◌∙◌}
-use lib.ListN.{length, take, drop, length-set}
-use borrow.Author.Rules.{rules}
+use mathlib.Core.Path.{◌≡◌}
+use lib.ListN.{length, take, drop}
 use Rattle.record.specs.Characters.{bytes_in}
 use Rattle.text_form.specs.Lines.{joined}
-use Rattle.text_cells.proofs.JoinLaws.{joined-nothing}
-use Rattle.text_cells.proofs.HexadecimalLaws.{told-digit, told_none, no-high, no-low, next-byte, bytes-end}
 use Rattle.text_cells.proofs.hexadecimal.put_bytes.Given as goal
 
 abbrev pub invariant-loop-i : goal.invariant-loop-i

@@ -5,7 +5,6 @@ use lib.ListN.{length, take}
 use lib.Seq.{length-take-le, take_at}
 use mathlib.Core.Option.{Option, some}
 use mathlib.Core.Path.{◌≡◌, ◌∙◌}
-use borrow.Author.Rules.{rules}
 use borrow.Author.Tests.{ne_eqb}
 use Rattle.text_form.specs.Cells.{some_bytes_in}
 use Rattle.text_cells.proofs.HexadecimalLaws.{odd-none}

@@ -1,16 +1,13 @@
 use Prim.Native.Nat.{ℕ, ◌≤◌, ◌-◌}
-use native.Mathlib.Omega.{arith}
-use mathlib.Core.Path.{◌≡◌, sym, ap, ◌∙◌}
+use mathlib.Core.Path.{◌≡◌}
 use mathlib.Core.List.{List, []}
 use lib.ListN.{get_or}
-use Rattle.text.specs.Strings.{same_text, number_of}
+use Rattle.text.specs.Strings.{number_of}
 use Rattle.text.specs.Table.{tabulate}
 use Rattle.text.specs.Answers.{found}
-use Rattle.text.proofs.TextLaws.{found_from, found_none}
-use Rattle.text.proofs.TableLaws.{find-hit, find-step, find-end}
+use Rattle.text.proofs.TextLaws.{found_from}
 use Rattle.text_form.specs.Cells.{cells_of}
 use Rattle.text_form.specs.Lines.{names}
-use Rattle.text_cells.proofs.NameLaws.{search-start, column-some}
 use Rattle.text_cells.proofs.names.column_of.Given as goal
 
 abbrev cell_in : List ℕ → ℕ → List ℕ

@@ -3,7 +3,6 @@ use native.Mathlib.Omega.{arith}
 use mathlib.Core.Path.{◌≡◌, sym, ap, ◌∙◌}
 use mathlib.Core.List.{List, []}
 use lib.ListN.{get_or}
-use borrow.Author.Rules.{rules}
 use Rattle.text.specs.Strings.{same_text}
 use Rattle.text_form.specs.Lines.{names}
 use Rattle.text_cells.proofs.names.is_name.Goals as goal

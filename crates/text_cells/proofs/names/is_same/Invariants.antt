@@ -1,9 +1,7 @@
 use Prim.Native.Nat.{◌≤◌, ◌-◌}
-use native.Mathlib.Omega.{arith}
-use mathlib.Core.Path.{◌≡◌, refl, sym, ◌∙◌}
+use mathlib.Core.Path.{◌≡◌}
 use lib.ListN.{length, drop}
 use Rattle.text.specs.Strings.{same_text}
-use Rattle.text.proofs.TextLaws.{lengths_differ, same_step, same_stop, same_end}
 use Rattle.text_cells.proofs.names.is_same.Given as goal
 
 abbrev pub invariant-loop-i : goal.invariant-loop-i

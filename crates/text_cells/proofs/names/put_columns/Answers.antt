@@ -1,13 +1,12 @@
-use Prim.Native.Nat.{◌≤◌, ◌-◌}
+use Prim.Native.Nat.{◌-◌}
 use native.Mathlib.Omega.{arith}
-use mathlib.Core.Path.{◌≡◌, sym, ◌∙◌}
-use mathlib.Core.List.{map}
+use mathlib.Core.Path.{sym, ◌∙◌}
 use lib.ListN.{length, length-set}
 use borrow.Author.Tests.{eqb-true}
 use Rattle.text.specs.Strings.{number_of}
 use Rattle.text_form.specs.Cells.{cells_of}
-use Rattle.text_form.specs.Lines.{names, all_of}
-use Rattle.text_cells.proofs.NameLaws.{columns_from, columns-start, columns-end, columns-none, columns-step, columns-seven, columns-other}
+use Rattle.text_form.specs.Lines.{names}
+use Rattle.text_cells.proofs.NameLaws.{columns-start, columns-end, columns-none, columns-step, columns-seven, columns-other}
 use Rattle.text_cells.proofs.names.put_columns.Goals as goal
 
 pub cells_of-found-requires : goal.cells_of-found-requires

@@ -1,13 +1,11 @@
 use Prim.Native.Nat.{◌≤◌, ◌-◌}
-use native.Mathlib.Omega.{arith}
-use mathlib.Core.Path.{◌≡◌, sym, ◌∙◌}
+use mathlib.Core.Path.{◌≡◌}
 use mathlib.Core.List.{map}
-use lib.ListN.{length, length-set}
-use borrow.Author.Tests.{eqb-true}
+use lib.ListN.{length}
 use Rattle.text.specs.Strings.{number_of}
 use Rattle.text_form.specs.Cells.{cells_of}
 use Rattle.text_form.specs.Lines.{names, all_of}
-use Rattle.text_cells.proofs.NameLaws.{columns_from, columns-start, columns-end, columns-none, columns-step, columns-seven, columns-other}
+use Rattle.text_cells.proofs.NameLaws.{columns_from}
 use Rattle.text_cells.proofs.names.put_columns.Given as goal
 
 abbrev pub invariant-loop-name : goal.invariant-loop-name

@@ -1,12 +1,8 @@
-use Prim.Native.Nat.{◌+◌, ◌-◌, ◌≤◌}
+use Prim.Native.Nat.{◌-◌}
 use native.Mathlib.Omega.{arith}
-use mathlib.Core.Option.{some}
-use mathlib.Core.Path.{◌≡◌, refl, sym, ◌∙◌}
-use lib.ListN.{length, take, drop}
-use borrow.Author.Rules.{rules}
-use Rattle.text_form.specs.Cells.{cells_of}
-use Rattle.text_form.specs.Lines.{joined, record_in}
-use Rattle.text_cells.proofs.RecordLaws.{part_sizes, total, parts_from, all-parts, size_fits, no_part, next-part, parts-end}
+use mathlib.Core.Path.{refl, sym, ◌∙◌}
+use lib.ListN.{take}
+use Rattle.text_cells.proofs.RecordLaws.{total, all-parts, size_fits, no_part, next-part, parts-end}
 use Rattle.text_cells.proofs.parts.put_record.Goals as goal
 
 pub loop-name-init : goal.loop-name-init

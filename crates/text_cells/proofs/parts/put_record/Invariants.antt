@@ -1,12 +1,10 @@
 use Prim.Native.Nat.{◌+◌, ◌-◌, ◌≤◌}
-use native.Mathlib.Omega.{arith}
 use mathlib.Core.Option.{some}
-use mathlib.Core.Path.{◌≡◌, refl, sym, ◌∙◌}
+use mathlib.Core.Path.{◌≡◌}
 use lib.ListN.{length, take, drop}
-use borrow.Author.Rules.{rules}
 use Rattle.text_form.specs.Cells.{cells_of}
 use Rattle.text_form.specs.Lines.{joined, record_in}
-use Rattle.text_cells.proofs.RecordLaws.{part_sizes, total, parts_from, all-parts, size_fits, no_part, next-part, parts-end}
+use Rattle.text_cells.proofs.RecordLaws.{part_sizes, total, parts_from}
 use Rattle.text_cells.proofs.parts.put_record.Given as goal
 
 abbrev pub invariant-loop-name : goal.invariant-loop-name

@@ -1,8 +1,7 @@
-use Prim.Native.Nat.{ℕ, ◌<◌, ◌/◌}
+use Prim.Native.Nat.{◌/◌}
 use native.Mathlib.Omega.{arith}
 use native.Mathlib.Numerals.{add-one}
 use mathlib.Core.Path.{refl, sym, ap}
-use borrow.Author.Rules.{rules}
 use lib.ListN.{length, length-set}
 use Rattle.record.specs.Characters.{decimal}
 use Rattle.byte_records.proofs.ByteLaws.{sets-append}

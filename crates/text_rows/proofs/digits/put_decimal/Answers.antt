@@ -1,6 +1,5 @@
 use native.Mathlib.Omega.{arith}
 use mathlib.Core.Path.{refl}
-use borrow.Author.Rules.{rules}
 use Rattle.text_rows.proofs.DigitLaws.{one-digit, decimal-fits}
 use Rattle.text_rows.proofs.digits.put_decimal.Goals as goal
 

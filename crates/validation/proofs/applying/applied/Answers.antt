@@ -1,4 +1,3 @@
-use borrow.Author.Rules.{rules}
 use mathlib.Core.Path.{sym, ◌∙◌}
 use Rattle.property.specs.Validate.{applied}
 use Rattle.validation.proofs.applying.applied.Goals as goal

@@ -1,4 +1,3 @@
-use borrow.Author.Rules.{rules}
 use Rattle.validation.proofs.merging.data_of.Goals as goal
 
 pub returns-in_default-configurable : goal.returns-in_default-configurable

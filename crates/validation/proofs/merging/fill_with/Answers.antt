@@ -1,4 +1,3 @@
-use borrow.Author.Rules.{rules}
 use mathlib.Core.Path.{sym, ◌∙◌}
 use Rattle.property.specs.Answers.{fill_with}
 use Rattle.validation.proofs.merging.fill_with.Goals as goal

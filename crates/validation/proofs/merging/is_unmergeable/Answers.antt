@@ -1,4 +1,3 @@
-use borrow.Author.Rules.{rules}
 use Rattle.validation.proofs.merging.is_unmergeable.Goals as goal
 
 pub returns-in-Data : goal.returns-in-Data

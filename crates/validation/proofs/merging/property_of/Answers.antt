@@ -1,4 +1,3 @@
-use borrow.Author.Rules.{rules}
 use Rattle.property.specs.Validate.{property_of}
 use Rattle.validation.proofs.merging.property_of.Goals as goal
 

@@ -1,4 +1,3 @@
-use borrow.Author.Rules.{rules}
 use Rattle.validation.proofs.outcome.settled.Goals as goal
 
 pub returns-in-Becomes : goal.returns-in-Becomes

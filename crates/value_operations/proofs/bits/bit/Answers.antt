@@ -1,4 +1,3 @@
-use borrow.Author.Rules.{rules}
 use Rattle.value.proofs.BitLaws.{bit-beyond}
 use mathlib.Core.Path.{sym}
 use Rattle.value_operations.proofs.bits.bit.Goals as goal

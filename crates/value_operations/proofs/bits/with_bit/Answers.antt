@@ -5,7 +5,6 @@ use native.Mathlib.Numerals.{add-one}
 use mathlib.Core.Bool.{Bool}
 use mathlib.Core.Path.{◌≡◌, ◌∙◌}
 use lib.Pow.{pow_pos, pow_mono, shl_exact, split}
-use borrow.Author.Rules.{rules}
 use Rattle.value.specs.Bits.{weight, with_bit}
 use Rattle.value.proofs.BitLaws.{with-below}
 use Rattle.value_operations.proofs.bits.with_bit.Goals as goal

@@ -1,5 +1,4 @@
 use mathlib.Core.Path.{sym, ◌∙◌}
-use borrow.Author.Rules.{rules}
 use Rattle.value_operations.proofs.FloatWords.{no_nan, zero_by_zero, nan-of}
 use Rattle.value_operations.proofs.encoding.float_of.Goals as goal
 

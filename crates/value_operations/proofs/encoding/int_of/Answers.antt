@@ -1,7 +1,6 @@
 use mathlib.Core.Path.{◌≡◌}
 use Prim.Native.Nat.{◌-◌}
 use native.Mathlib.Omega.{arith}
-use borrow.Author.Rules.{rules}
 use Rattle.value_operations.proofs.encoding.int_of.Goals as goal
 
 pub returns-else-n-lt2147483648 : goal.returns-else-n-lt2147483648

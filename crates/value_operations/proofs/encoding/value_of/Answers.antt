@@ -4,7 +4,6 @@ use borrow.Author.Tests.{lt-ltb, le-ltb, ne_eqb}
 use mir.Syntax.{w32}
 use mir.Val.{to_z, of_z}
 use mir.ValLaws.{of_z-to_z}
-use borrow.Author.Rules.{rules}
 use Rattle.value.specs.Words.{value_of}
 use Rattle.value.specs.declared.Value.TheVariants.{Integer32, Float64}
 use Rattle.value_operations.proofs.encoding.value_of.Goals as goal

@@ -1,6 +1,5 @@
 use mathlib.Core.Path.{sym, ◌∙◌}
 use borrow.Author.Tests.{eq-eqb, ne_eqb}
-use borrow.Author.Rules.{rules}
 use Rattle.value.specs.Value.{same_value}
 use Rattle.value_operations.proofs.equality.same_value.Goals as goal
 

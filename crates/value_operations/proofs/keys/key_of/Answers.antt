@@ -1,5 +1,3 @@
-use borrow.Author.Rules.{rules}
-use Rattle.value.proofs.Missing.{no_key}
 use Rattle.value_operations.proofs.keys.key_of.Goals as goal
 
 pub returns-in-String : goal.returns-in-String

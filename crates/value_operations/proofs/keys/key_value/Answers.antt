@@ -1,4 +1,3 @@
-use borrow.Author.Rules.{rules}
 use Rattle.value_operations.proofs.keys.key_value.Goals as goal
 
 pub returns-in-String : goal.returns-in-String
