@@ -1,4 +1,5 @@
 -- Laws of the exported functions. Assumes nothing.
+use Rattle.std.specs.Prelude.{Option, None, Some}
 use Prim.Native.Nat.{ℕ, ◌/◌, ◌%◌, ◌≤◌}
 use native.Mathlib.Omega.{arith}
 use mathlib.Core.Path.{◌≡◌, refl, sym, ap, ◌∙◌}
@@ -14,8 +15,6 @@ use Rattle.value.specs.Words.{pick}
 use Rattle.value.specs.PropertyKey.{key_number}
 use Rattle.value.proofs.Bools.{and-true}
 use Rattle.property.specs.declared.Property.{Property}
-use Rattle.property.specs.declared.OwnProperty.{OwnProperty}
-use Rattle.property.specs.declared.OwnProperty.TheVariants.{Absent, Present}
 use Rattle.text.specs.Table.{is_table, strings_of}
 use Rattle.store.specs.OwnKeys.{ordinary_own_property_keys}
 use Rattle.store.specs.Words.{is_store, store_of, word_at, with_new_row, without_row}
@@ -81,9 +80,9 @@ joined o key h =
     let (a, b) = and-true _ _ h in
     record { owner = ltb-true _ _ a; number = rw (number_by key (eqb (key % 2) 0)) (ltb-true _ _ b) }
 
-is-absent : (p : OwnProperty) → is_absent p ≡ true → p ≡ Absent
-is-absent Absent h = refl
-is-absent (Present p) h = let z : ◌≡◌ {A = ℕ} 0 1 = cc in absurd (omega arith)
+is-absent : (p : Option Property) → is_absent p ≡ true → p ≡ None
+is-absent None h = refl
+is-absent (Some p) h = let z : ◌≡◌ {A = ℕ} 0 1 = cc in absurd (omega arith)
 
 pub record Addable (words : List ℕ) (o key : ℕ) : Type 0 where
   pub store : is_store words ≡ true

@@ -1,15 +1,11 @@
 -- What the exported functions answer, and what they leave in the words that they were lent. Assumes nothing.
-use Rattle.std.specs.Prelude.{ℕ, ◌/◌, ◌^◌, Bool, true, false, ◌&&◌, List, ◌++◌, map, leb, ltb, length, drop}
+use Rattle.std.specs.Prelude.{ℕ, ◌/◌, ◌^◌, Bool, true, false, ◌&&◌, List, ◌++◌, map, leb, ltb, length, drop, Option, None, Some}
 use Rattle.value.specs.Words.{pick, value_of}
 use Rattle.property.specs.declared.Property.{Property}
-use Rattle.property.specs.declared.OwnProperty.{OwnProperty}
-use Rattle.property.specs.declared.OwnProperty.TheVariants.{Absent, Present}
 use Rattle.text.specs.Table.{is_table, strings_of}
 use Rattle.store.specs.Store.{own, maximum_objects, maximum_properties}
 use Rattle.store.specs.OwnKeys.{ordinary_own_property_keys}
 use Rattle.store.specs.Words.{word_at, property_of, store_of, is_store, with_new_row, without_row}
-use Rattle.store_read.specs.declared.Place.{Place}
-use Rattle.store_read.specs.declared.Place.TheVariants.{Nothing, At}
 use Rattle.store_read.specs.Answers.{find_place, key_from_word, key_to_word}
 
 -- no place, and a refusal: every other answer is a place or a count
@@ -21,9 +17,9 @@ refused = 257
 
 -- Finding --------------------------------------------------------------------------------
 
-abbrev pub place_number : Place → ℕ
-place_number (At i) = i
-place_number Nothing = nowhere
+abbrev pub place_number : Option ℕ → ℕ
+place_number (Some i) = i
+place_number None = nowhere
 
 unfoldable pub find_answer : List ℕ → ℕ → ℕ → ℕ
 find_answer words o key = pick (is_store words) (place_number (find_place (store_of words).properties o (key_from_word key))) refused
@@ -50,9 +46,9 @@ listed words cells o out =
 unfoldable pub is_joined : ℕ → ℕ → Bool
 is_joined o key = ltb o maximum_objects && ltb (key / 2) (2 ^ 58)
 
-abbrev pub is_absent : OwnProperty → Bool
-is_absent Absent = true
-is_absent (Present p) = false
+abbrev pub is_absent : Option Property → Bool
+is_absent None = true
+is_absent (Some p) = false
 
 unfoldable pub is_new : List ℕ → ℕ → ℕ → Bool
 is_new words o key = is_absent (own (store_of words) o (key_from_word key))

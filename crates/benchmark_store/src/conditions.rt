@@ -1,9 +1,8 @@
 // What the exported functions ask of what they are lent.
-ghost use Rattle.std.specs.Prelude.{◌≡◌, true};
-ghost use Rattle.store.specs.Words.{is_store};
+ghost use Rattle.std.specs.Prelude.{◌≡◌};
 ghost use Rattle.benchmark_store.specs.Export.{is_joined, is_new, is_listable, is_addable, is_removable};
 
-use store_read::{Place, finding};
+use store_read::{StoreWords, finding};
 
 pub fn is_listable(words: &[u64], strings: &[u16], size: usize) -> bool
     ensures { result ≡ is_listable words.now strings.now size }
@@ -26,13 +25,12 @@ fn is_joined(o: u64, key: u64) -> bool
     false
 }
 
-fn is_new(words: &[u64], o: u64, key: u64) -> bool
-    requires { is_store words.now ≡ true }
-    ensures { result ≡ is_new words.now o key }
+fn is_new(store: StoreWords<'_>, o: u64, key: u64) -> bool
+    ensures { result ≡ is_new store.entry.words.now o key }
 {
-    match finding::find(words, o, store_read::key_from_word(key)) {
-        Place::At(_) => false,
-        Place::Nothing => true,
+    match store.find(o, store_read::key_from_word(key)) {
+        Some(_) => false,
+        None => true,
     }
 }
 
@@ -42,7 +40,7 @@ pub fn is_addable(words: &[u64], o: u64, key: u64) -> bool
     if store_read::is_store(words) {
         if words[1] < 256 {
             if is_joined(o, key) {
-                return is_new(words, o, key);
+                return is_new(StoreWords { words }, o, key);
             }
             return false;
         }

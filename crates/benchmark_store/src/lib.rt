@@ -8,7 +8,7 @@ ghost use Rattle.std.specs.Prelude.{◌≡◌};
 ghost use Rattle.benchmark_store.specs.Export.{place_number, row_property, find_answer, listed, list_answer, added, add_answer, removed, remove_answer};
 
 use property::Property;
-use store_read::{Place, finding, own_key_order};
+use store_read::StoreWords;
 use store_write::{properties, removal};
 use value_operations::encoding;
 
@@ -18,12 +18,12 @@ const NOWHERE: u64 = 256;
 
 const REFUSED: u64 = 257;
 
-fn place_number(place: Place) -> u64
+fn place_number(place: Option<usize>) -> u64
     ensures { result ≡ place_number place }
 {
     match place {
-        Place::At(i) => i as u64,
-        Place::Nothing => NOWHERE,
+        Some(i) => i as u64,
+        None => NOWHERE,
     }
 }
 
@@ -32,10 +32,9 @@ fn place_number(place: Place) -> u64
 pub extern "C" fn benchmark_store_find(words: &[u64], o: u64, key: u64) -> u64
     ensures { result ≡ find_answer words.now o key }
 {
-    if store_read::is_store(words) {
-        place_number(finding::find(words, o, store_read::key_from_word(key)))
-    } else {
-        REFUSED
+    match StoreWords::new(words) {
+        Some(store) => place_number(store.find(o, store_read::key_from_word(key))),
+        None => REFUSED,
     }
 }
 
@@ -51,13 +50,14 @@ pub extern "C" fn benchmark_store_own_keys(
     ensures out_after { out.new ≡ listed words.now strings.now o out.old }
 {
     if conditions::is_listable(words, strings, out.len()) {
-        own_key_order::list_own_keys(words, strings, o, out) as u64
+        StoreWords { words }.list_own_keys(strings, o, out) as u64
     } else {
         REFUSED
     }
 }
 
 // The property of five words: flags, kind and payload of the value or getter, kind and payload of the setter.
+// (As a store's row is read, but of five words by themselves, as Rust hands them over.)
 fn property_of(row: &[u64; 5]) -> Property
     ensures { result ≡ row_property row.now }
 {

@@ -1,29 +1,44 @@
 -- Laws of numbers in bytes, of runs of zeros and of runs of stores. Assumes nothing.
-use Prim.Native.Nat.{ℕ, zero, suc, ◌+◌, ◌-◌, ◌*◌, ◌/◌, ◌%◌, ◌<◌, ◌≤◌}
+use Prim.Native.Nat.{ℕ, zero, suc, ◌+◌, ◌-◌, ◌*◌, ◌<◌, ◌≤◌}
 use native.Mathlib.Omega.{arith}
 use native.Mathlib.Numerals.{add-one}
+use Rattle.std.proofs.Common.{w64}
+use Rattle.std.proofs.Math.Nat.{add-zero, zero-add, add-suc, suc-add, div-div-eq-div-mul}
+use Rattle.std.proofs.lemmas.List.Edits.{get_or-between}
+use Rattle.std.specs.Int.{from_le_bytes, to_le_bytes}
+use borrow.Rule.Slice.PartMut.{put_mid}
+use Rattle.text.proofs.CopyLaws.{copied}
 use mathlib.Core.Path.{◌≡◌, refl, sym, ap, ◌∙◌}
 use mathlib.Core.Bool.{Bool, true, false, ◌&&◌, and_assoc}
 use mathlib.Core.List.{List, [], ◌∷◌, ◌++◌}
 use lib.Dec.{eqb}
-use lib.ListN.{length, set}
+use lib.ListN.{length, take, drop, set, length-set}
 use lib.Seq.{sets}
 use borrow.Author.Tests.{ne_eqb, eqb-true, eqb-false}
 use Rattle.value.specs.declared.Value.{Value}
 use Rattle.record.specs.Bytes.{byte_at, number_at, bytes_of, are_zero, value_bytes}
 use Rattle.record.proofs.RoundTrip.{length-value}
 
-pub short-of : (b : List ℕ) (i : ℕ) → number_at b i 2 ≡ byte_at b i + 256 * byte_at b (i + 1)
+pub short-of : (b : List ℕ) (i : ℕ) → number_at b i 2 ≡ byte_at b i + byte_at b (i + 1) * 256
 unfolding number_at
 short-of b i = rw add-one (omega arith)
 
-pub half_of : (b : List ℕ) (i : ℕ) → number_at b i 4 ≡ number_at b i 2 + 65536 * number_at b (i + 2) 2
+-- the same bytes at another place
+number-same : (b w : List ℕ) (i j n : ℕ) → ((k : ℕ) → k < n → byte_at w (j + k) ≡ byte_at b (i + k)) → number_at w j n ≡ number_at b i n
 unfolding number_at
-half_of b i = let e : i + 2 ≡ suc (suc i) = omega arith in rw e (omega arith)
+number-same b w i j zero h = refl
+number-same b w i j (suc n) h =
+    let e : byte_at w j ≡ byte_at b i = simp add-zero at (h 0 (omega arith)) in
+    let r = number-same b w (suc i) (suc j) n (λ k l. simp suc-add (simp add-suc at (h (suc k) (omega arith)))) in
+    rw (e, r)
 
-pub word_of : (b : List ℕ) (i : ℕ) → number_at b i 8 ≡ number_at b i 4 + 4294967296 * number_at b (i + 4) 4
+whole : (w : List ℕ) → from_le_bytes w64 w ≡ number_at w 0 8
 unfolding number_at
-word_of b i = let e : i + 4 ≡ suc (suc (suc (suc i))) = omega arith in rw e (omega arith)
+whole w = omega arith
+
+pub word-of : (b : List ℕ) (i : ℕ) → from_le_bytes w64 (take (i + 8 - i) (drop i b)) ≡ number_at b i 8
+word-of b i =
+    whole _ ∙ number-same b (take (i + 8 - i) (drop i b)) i 0 8 (λ k h. rw zero-add (get_or-between b i (i + 8) k 0 (omega arith)))
 
 -- bytes are zero exactly if their number is
 
@@ -48,20 +63,21 @@ zero-join b i (suc m) n =
     let f : suc m + n ≡ suc (m + n) = omega arith in
     rw (e, f) (ap (λ (t : Bool). eqb (byte_at b i) 0 && t) (zero-join b (suc i) m n) ∙ sym (and_assoc (eqb (byte_at b i) 0) (are_zero b (suc i) m) _))
 
-pub zero-value : (b : List ℕ) (i : ℕ) → are_zero b i 9 ≡ (eqb (byte_at b i) 0 && eqb (number_at b (i + 1) 8) 0)
+pub zero_value : (b : List ℕ) (i : ℕ) → are_zero b i 9 ≡ (eqb (byte_at b i) 0 && eqb (number_at b (i + 1) 8) 0)
 unfolding are_zero
-zero-value b i = rw (add-one i, ← zero_number b (suc i) 8)
+zero_value b i = rw (add-one i, ← zero_number b (suc i) 8)
 
-pub store_step : (l : List ℕ) (i k x : ℕ) → k < 8 → sets l (i + k) (bytes_of (8 - k) x) ≡ sets (set l (i + k) (x % 256)) (i + (k + 1)) (bytes_of (8 - (k + 1)) (x / 256))
+low-bytes : (x : ℕ) → to_le_bytes w64 x ≡ bytes_of 8 x
 unfolding bytes_of
-store_step l i k x h =
-    let z : 8 - k ≡ suc (8 - (k + 1)) = omega arith in
-    let e : i + (k + 1) ≡ suc (i + k) = omega arith in
-    rw (z, e)
+low-bytes x = simp div-div-eq-div-mul
 
-pub store-end : (l : List ℕ) (i k x : ℕ) → 8 ≤ k → sets l (i + k) (bytes_of (8 - k) x) ≡ l
+-- a kind and a payload, of which the bytes were copied
+pub store-words : (l now : List ℕ) (i k kind payload : ℕ) → now ≡ to_le_bytes w64 payload → k ≡ 8 → i + 9 ≤ length l
+    → put_mid (i + 1) k (set l i kind) now ≡ sets l i (kind ∷ bytes_of 8 payload)
 unfolding bytes_of
-store-end l i k x h = let z : 8 - k ≡ 0 = omega arith in rw z
+store-words l now i k kind payload e h s =
+    let z : i + 1 + 8 ≤ length (set l i kind) = rw length-set (omega arith) in
+    copied (set l i kind) (i + 1) k (bytes_of 8 payload) now (e ∙ low-bytes payload) h z ∙ rw add-one
 
 -- what is stored in two runs
 pub sets-append : (a l : List ℕ) (i : ℕ) (b : List ℕ) → sets l i (a ++ b) ≡ sets (sets l i a) (i + length a) b

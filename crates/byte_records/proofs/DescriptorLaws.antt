@@ -30,9 +30,9 @@ store-descriptor d l i =
     ∙ store-value (or_else d.get Undefined) _ (i + 11) (i + 20) _ (omega arith)))
 
 -- refusal 1 over a descriptor: its first two bytes, then its parts
-pub by-head : (b : List ℕ) (i : ℕ) → is_descriptor_at b i ≡ (is_head_at b i && are_parts_formed (byte_at b i) b i)
+pub by_head : (b : List ℕ) (i : ℕ) → is_descriptor_at b i ≡ (is_head_at b i && are_parts_formed (byte_at b i) b i)
 unfolding is_descriptor_at
-by-head b i = by (ltb (byte_at b i) 64) (ltb (byte_at b (i + 1)) 8) (are_flags_formed (byte_at b i) (byte_at b (i + 1))) _
+by_head b i = by (ltb (byte_at b i) 64) (ltb (byte_at b (i + 1)) 8) (are_flags_formed (byte_at b i) (byte_at b (i + 1))) _
   where
     by : (s t u v : Bool) → (s && (t && (u && v))) ≡ ((s && (t && u)) && v)
     by true true u v = refl

@@ -5,8 +5,8 @@ ghost use Rattle.record.specs.Descriptor.{flag_of, field_of, descriptor_at, are_
 ghost use Rattle.std.proofs.lemmas.List.Edits.{sets};
 
 use crate::value_record;
-use descriptors::{fields, flags};
-use property::{DescriptorObject, Field, Flag};
+use descriptors::fields;
+use property::DescriptorObject;
 use value::Value;
 use value_operations::bits;
 
@@ -18,29 +18,30 @@ pub fn has_bit(n: u64, w: u64) -> bool
     n / w % 2 == 1
 }
 
-fn flag_of(used: bool, b: bool) -> Flag
+fn flag_of(used: bool, b: bool) -> Option<bool>
     ensures { result ≡ flag_of used b }
 {
-    if used { Flag::Present(b) } else { Flag::Absent }
+    if used { Some(b) } else { None }
 }
 
-fn field_at(used: bool, bytes: &[u8], at: usize) -> Field
+fn field_at(used: bool, bytes: &[u8], at: usize) -> Option<Value>
     requires { at + 9 ≤ length bytes.now }
     ensures { result ≡ field_of used bytes.now at }
 {
     if used {
-        Field::Present(value_record::value_at(bytes, at))
+        Some(value_record::value_at(bytes, at))
     } else {
-        Field::Absent
+        None
     }
 }
 
+#[tactic(auto, unfolding(record::specs::Descriptor::descriptor_at))]
 pub fn descriptor_at(bytes: &[u8], at: usize) -> DescriptorObject
     requires { at + 29 ≤ length bytes.now }
     ensures { result ≡ descriptor_at bytes.now at }
 {
-    let mask = bits::wide(bytes[at]);
-    let flags = bits::wide(bytes[at + 1]);
+    let mask = u64::from(bytes[at]);
+    let flags = u64::from(bytes[at + 1]);
     DescriptorObject {
         enumerable: flag_of(has_bit(mask, 1), has_bit(flags, 1)),
         configurable: flag_of(has_bit(mask, 2), has_bit(flags, 2)),
@@ -55,33 +56,24 @@ pub fn descriptor_at(bytes: &[u8], at: usize) -> DescriptorObject
 fn is_flag_formed(used: bool, b: bool) -> bool
     ensures { result ≡ (used || not b) }
 {
-    if used {
-        return true;
-    }
-    !b
+    used || !b
 }
 
 fn are_flags_formed(mask: u64, flags: u64) -> bool
     ensures { result ≡ are_flags_formed mask flags }
 {
-    if is_flag_formed(has_bit(mask, 1), has_bit(flags, 1)) {
-        if is_flag_formed(has_bit(mask, 2), has_bit(flags, 2)) {
-            return is_flag_formed(has_bit(mask, 4), has_bit(flags, 4));
-        }
-    }
-    false
+    is_flag_formed(has_bit(mask, 1), has_bit(flags, 1))
+        && is_flag_formed(has_bit(mask, 2), has_bit(flags, 2))
+        && is_flag_formed(has_bit(mask, 4), has_bit(flags, 4))
 }
 
 fn are_parts_formed(mask: u64, bytes: &[u8], at: usize) -> bool
     requires { at + 29 ≤ length bytes.now }
     ensures { result ≡ are_parts_formed mask bytes.now at }
 {
-    if value_record::is_part_at(has_bit(mask, 8), bytes, at + 2) {
-        if value_record::is_part_at(has_bit(mask, 16), bytes, at + 11) {
-            return value_record::is_part_at(has_bit(mask, 32), bytes, at + 20);
-        }
-    }
-    false
+    value_record::is_part_at(has_bit(mask, 8), bytes, at + 2)
+        && value_record::is_part_at(has_bit(mask, 16), bytes, at + 11)
+        && value_record::is_part_at(has_bit(mask, 32), bytes, at + 20)
 }
 
 // Refusal 1 over a descriptor's mask and booleans.
@@ -89,53 +81,37 @@ pub fn is_head_at(bytes: &[u8], at: usize) -> bool
     requires { at + 29 ≤ length bytes.now }
     ensures { result ≡ is_head_at bytes.now at }
 {
-    let mask = bits::wide(bytes[at]);
-    let flags = bits::wide(bytes[at + 1]);
-    if mask < 64 {
-        if flags < 8 {
-            return are_flags_formed(mask, flags);
-        }
-    }
-    false
+    let mask = u64::from(bytes[at]);
+    let flags = u64::from(bytes[at + 1]);
+    mask < 64 && flags < 8 && are_flags_formed(mask, flags)
 }
 
 // Refusal 1 over a descriptor.
+#[tactic(auto, using(crate::proofs::DescriptorLaws::by_head))]
 pub fn is_descriptor_at(bytes: &[u8], at: usize) -> bool
     requires { at + 29 ≤ length bytes.now }
     ensures { result ≡ is_descriptor_at bytes.now at }
 {
-    if is_head_at(bytes, at) {
-        return are_parts_formed(bits::wide(bytes[at]), bytes, at);
-    }
-    false
+    is_head_at(bytes, at) && are_parts_formed(u64::from(bytes[at]), bytes, at)
 }
 
 fn mask_of(d: DescriptorObject) -> u64
     ensures { (result ≡ mask_of d) × (result < 64) }
 {
-    let enumerable = d.enumerable;
-    let configurable = d.configurable;
-    let writable = d.writable;
-    let value = d.value;
-    let get = d.get;
-    let set = d.set;
-    bits::weight(flags::has_flag(enumerable), 1)
-        + bits::weight(flags::has_flag(configurable), 2)
-        + bits::weight(flags::has_flag(writable), 4)
-        + bits::weight(fields::has_field(value), 8)
-        + bits::weight(fields::has_field(get), 16)
-        + bits::weight(fields::has_field(set), 32)
+    bits::weight(d.enumerable.is_some(), 1)
+        + bits::weight(d.configurable.is_some(), 2)
+        + bits::weight(d.writable.is_some(), 4)
+        + bits::weight(d.value.is_some(), 8)
+        + bits::weight(d.get.is_some(), 16)
+        + bits::weight(d.set.is_some(), 32)
 }
 
 fn flags_of(d: DescriptorObject) -> u64
     ensures { (result ≡ flags_of d) × (result < 8) }
 {
-    let enumerable = d.enumerable;
-    let configurable = d.configurable;
-    let writable = d.writable;
-    bits::weight(flags::is_true(enumerable), 1)
-        + bits::weight(flags::is_true(configurable), 2)
-        + bits::weight(flags::is_true(writable), 4)
+    bits::weight(fields::is_true(d.enumerable), 1)
+        + bits::weight(fields::is_true(d.configurable), 2)
+        + bits::weight(fields::is_true(d.writable), 4)
 }
 
 // The 29 bytes of d from `at` on; all others stay.
@@ -143,12 +119,9 @@ pub fn put_descriptor(out: &mut [u8], at: usize, d: DescriptorObject)
     requires { at + 29 ≤ length out.old }
     ensures { out.new ≡ sets out.old at (descriptor_bytes d) }
 {
-    let value = d.value;
-    let get = d.get;
-    let set = d.set;
     out[at] = mask_of(d) as u8;
     out[at + 1] = flags_of(d) as u8;
-    value_record::put_value(out, at + 2, fields::or_else(value, Value::Undefined));
-    value_record::put_value(out, at + 11, fields::or_else(get, Value::Undefined));
-    value_record::put_value(out, at + 20, fields::or_else(set, Value::Undefined));
+    value_record::put_value(out, at + 2, d.value.unwrap_or(Value::Undefined));
+    value_record::put_value(out, at + 11, d.get.unwrap_or(Value::Undefined));
+    value_record::put_value(out, at + 20, d.set.unwrap_or(Value::Undefined));
 }

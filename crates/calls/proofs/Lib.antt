@@ -1,3 +1,3 @@
+pub mod Steps
+pub mod Hops
 pub mod EnterLaws
-pub mod AnswerLaws
-pub mod Cycle

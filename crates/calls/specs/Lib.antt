@@ -1,2 +1,3 @@
-pub mod Entering
+pub mod Place
 pub mod Outs
+pub mod Entering

@@ -1,103 +1,78 @@
 // What each trap, getter and setter takes of the sheet. What cannot be read is refusal 9.
-ghost use Rattle.std.specs.Prelude.{◌≡◌, true, ℕ, ◌<◌, List};
-ghost use Rattle.text.specs.Table.{is_table, strings_of};
-ghost use Rattle.internal_methods.specs.Answers.{ask_value, ask_boolean, ask_prototype, ask_descriptor, as_prototype, undefined_descriptor};
-ghost use Rattle.calls.specs.Outs.{state_of, after_answer, text_length, out_value, out_boolean, out_descriptor};
+#![tactic(auto, using(crate::proofs::Steps::steps), unfolding(internal_methods::specs::Monad::ask, internal_methods::specs::Answers::ask_value, internal_methods::specs::Answers::as_value, internal_methods::specs::Answers::ask_boolean, internal_methods::specs::Answers::ask_prototype, internal_methods::specs::Answers::as_prototype, internal_methods::specs::Answers::ask_descriptor, internal_methods::specs::Answers::as_descriptor))]
 
-use crate::{BooleanOut, DescriptorOut, Progress, ValueOut};
+ghost use Rattle.std.specs.Prelude.{◌≡◌, true};
+ghost use Rattle.value.specs.Value.{to_boolean};
+ghost use Rattle.text.specs.Strings.{length_of};
+ghost use Rattle.text.specs.Table.{is_table, strings_of};
+ghost use Rattle.internal_methods.specs.Answers.{ask_value, ask_boolean, ask_prototype, ask_descriptor};
+ghost use Rattle.calls.specs.Outs.{out, state_of};
+
+use crate::Progress;
 use internal_methods::Failure;
-use sheet::NextAnswer;
+use property::DescriptorObject;
+use sheet::Answer;
 use value::Value;
 
-// Past the answer that ends at `end`.
-pub fn past(s: Progress, end: usize) -> Progress
-    requires { 0 < s.left }
-    ensures { result ≡ after_answer s end }
+pub fn next_value(sheet: &[u8], progress: &mut Progress) -> Result<Value, Failure>
+    ensures { out sheet.now result progress.new ≡ ask_value.run (state_of sheet.now progress.old) }
 {
-    Progress {
-        at: end,
-        left: s.left - 1,
-        calls: s.calls,
+    let next = sheet::next_answer(sheet, progress.at, progress.left).ok_or(Failure::Refused(8))?;
+    progress.pass(next.end);
+    match next.answer {
+        Answer::Value(v) => Ok(v),
+        Answer::Descriptor(_) | Answer::Keys(_, _) => Err(Failure::Refused(9)),
+        Answer::Throw(v) => Err(Failure::Thrown(v)),
     }
 }
 
-pub fn next_value(sheet: &[u8], s: Progress) -> ValueOut
-    ensures { out_value sheet.now result ≡ ask_value.run (state_of sheet.now s) }
-{
-    match sheet::next_answer(sheet, s.at, s.left) {
-        NextAnswer::NoAnswer => ValueOut::Failed(Failure::Refused(8), s),
-        NextAnswer::Value(v, end) => ValueOut::Done(v, past(s, end)),
-        NextAnswer::Descriptor(_, end) => ValueOut::Failed(Failure::Refused(9), past(s, end)),
-        NextAnswer::Keys(_, _, end) => ValueOut::Failed(Failure::Refused(9), past(s, end)),
-        NextAnswer::Throw(v, end) => ValueOut::Failed(Failure::Thrown(v), past(s, end)),
-    }
-}
-
-fn text_length(strings: &[u16], v: Value) -> usize
+// 7.1.2 ToBoolean
+#[tactic(auto, unfolding(text::specs::Answers::read_table, value::specs::Value::to_boolean))]
+fn to_boolean(strings: &[u16], v: Value) -> bool
     requires { is_table strings.now ≡ true }
-    ensures { result ≡ text_length (strings_of strings.now) v }
+    ensures { result ≡ to_boolean (length_of (strings_of strings.now)) v }
 {
     match v {
-        Value::String(n) => text::length_of(strings, n),
-        _ => 0,
+        Value::String(n) => text::length_of(strings, n) != 0,
+        _ => value_operations::to_boolean(v, 0),
     }
 }
 
 // ToBoolean of the next answer
-pub fn next_boolean(strings: &[u16], sheet: &[u8], s: Progress) -> BooleanOut
+pub fn next_boolean(strings: &[u16], sheet: &[u8], progress: &mut Progress) -> Result<bool, Failure>
     requires { is_table strings.now ≡ true }
-    ensures { out_boolean sheet.now result ≡ (ask_boolean (strings_of strings.now)).run (state_of sheet.now s) }
+    ensures { out sheet.now result progress.new ≡ (ask_boolean (strings_of strings.now)).run (state_of sheet.now progress.old) }
 {
-    match next_value(sheet, s) {
-        ValueOut::Failed(f, t) => BooleanOut::Failed(f, t),
-        ValueOut::Done(v, t) => BooleanOut::Done(
-            value_operations::to_boolean(v, text_length(strings, v)),
-            t,
-        ),
-    }
+    let v = next_value(sheet, progress)?;
+    Ok(to_boolean(strings, v))
 }
 
-// 10.5.1 step 8: an object or null
-fn as_prototype(v: Value, s: Progress) -> ValueOut
-    ensures { (bytes : List ℕ) → out_value bytes result ≡ (as_prototype v).run (state_of bytes s) }
+// 10.5.1 steps 7 and 8: an object or null
+pub fn next_prototype(sheet: &[u8], progress: &mut Progress) -> Result<Value, Failure>
+    ensures { out sheet.now result progress.new ≡ ask_prototype.run (state_of sheet.now progress.old) }
 {
+    let v = next_value(sheet, progress)?; // 7
     match v {
-        Value::Null => ValueOut::Done(v, s),
-        Value::Object(_) => ValueOut::Done(v, s),
-        Value::Function(_) => ValueOut::Done(v, s),
-        _ => ValueOut::Failed(Failure::TypeError(2), s),
+        Value::Null | Value::Object(_) | Value::Function(_) => Ok(v),
+        _ => Err(Failure::TypeError(2)), // 8
     }
 }
 
-pub fn next_prototype(sheet: &[u8], s: Progress) -> ValueOut
-    ensures { out_value sheet.now result ≡ ask_prototype.run (state_of sheet.now s) }
+// 10.5.5 steps 7 and 8: a descriptor, or none for undefined
+pub fn next_descriptor(
+    sheet: &[u8],
+    progress: &mut Progress,
+) -> Result<Option<DescriptorObject>, Failure>
+    ensures { out sheet.now result progress.new ≡ ask_descriptor.run (state_of sheet.now progress.old) }
 {
-    match next_value(sheet, s) {
-        ValueOut::Failed(f, t) => ValueOut::Failed(f, t),
-        ValueOut::Done(v, t) => as_prototype(v, t),
-    }
-}
-
-// 10.5.5 step 8: undefined, where a value is no descriptor
-fn as_undefined(v: Value, s: Progress) -> DescriptorOut
-    ensures { (bytes : List ℕ) → out_descriptor bytes result ≡ (undefined_descriptor v).run (state_of bytes s) }
-{
-    match v {
-        Value::Undefined => DescriptorOut::Undefined(s),
-        Value::Object(_) => DescriptorOut::Failed(Failure::Refused(9), s),
-        Value::Function(_) => DescriptorOut::Failed(Failure::Refused(9), s),
-        _ => DescriptorOut::Failed(Failure::TypeError(7), s),
-    }
-}
-
-pub fn next_descriptor(sheet: &[u8], s: Progress) -> DescriptorOut
-    ensures { out_descriptor sheet.now result ≡ ask_descriptor.run (state_of sheet.now s) }
-{
-    match sheet::next_answer(sheet, s.at, s.left) {
-        NextAnswer::NoAnswer => DescriptorOut::Failed(Failure::Refused(8), s),
-        NextAnswer::Value(v, end) => as_undefined(v, past(s, end)),
-        NextAnswer::Descriptor(d, end) => DescriptorOut::Done(d, past(s, end)),
-        NextAnswer::Keys(_, _, end) => DescriptorOut::Failed(Failure::Refused(9), past(s, end)),
-        NextAnswer::Throw(v, end) => DescriptorOut::Failed(Failure::Thrown(v), past(s, end)),
+    let next = sheet::next_answer(sheet, progress.at, progress.left).ok_or(Failure::Refused(8))?;
+    progress.pass(next.end);
+    match next.answer {
+        Answer::Value(Value::Undefined) => Ok(None),
+        Answer::Value(Value::Object(_) | Value::Function(_)) => Err(Failure::Refused(9)),
+        Answer::Value(_) => Err(Failure::TypeError(7)), // 8
+        Answer::Descriptor(d) => Ok(Some(d)),
+        Answer::Keys(_, _) => Err(Failure::Refused(9)),
+        Answer::Throw(v) => Err(Failure::Thrown(v)),
     }
 }

@@ -1,3 +1,2 @@
 pub mod DefineLaws
-pub mod TrapLaws
 pub mod PlaceLaws

@@ -1,2 +1,1 @@
 pub mod Define
-pub mod DefineMessages

@@ -1,105 +1,110 @@
 // 10.1.6 and 10.5.6 [[DefineOwnProperty]].
-// trap: 10.5.6 from step 7 on, by way of checks. writing: the write of 10.1.6.3.
-#![tactic(auto)]
+// checks: 10.5.6 step 15. writing: the write of 10.1.6.3.
+#![tactic(auto, using(calls::proofs::Steps::steps, calls::proofs::EnterLaws::define_own_property_goes_on, extensibility::proofs::WriteLaws::ordinary_below, crate::proofs::DefineLaws::ordinary_own), unfolding(internal_methods::specs::Ordinary::ordinary_define_own_property, internal_methods::specs::Proxy::proxy_define_own_property))]
 
-ghost use Rattle.std.specs.Prelude.{◌≡◌, true};
+ghost use Rattle.std.specs.Prelude.{◌≡◌};
+ghost use Rattle.store.specs.declared.Object.TheVariants.{Ordinary};
 ghost use Rattle.store.specs.Store.{lookup};
 ghost use Rattle.store.specs.Words.{store_of};
-ghost use Rattle.store_read.specs.Answers.{is_ordinary};
 ghost use Rattle.internal_methods.specs.Ordinary.{ordinary_define_own_property};
 ghost use Rattle.internal_methods.specs.Proxy.{proxy_define_own_property};
 ghost use Rattle.internal_methods.specs.Internal.{methods};
-ghost use Rattle.calls.specs.Outs.{context, state_of, out_write, Fitting};
+ghost use Rattle.calls.specs.Entering.{ordinary};
+ghost use Rattle.calls.specs.Outs.{Fitting, context_of, out_write, state_of};
 ghost use Rattle.definition.specs.Define.{Definable};
 
-use calls::{BooleanOut, Entered, OwnPropertyOut, Progress, WriteOut};
+use calls::{Entered, Progress, Run, Written, answers};
+use descriptors::fields;
+use internal_methods::Failure;
 use property::PropertyDescriptor;
 use store::ProxyObject;
 use value::PropertyKey;
 
 mod checks;
-pub mod trap;
 mod writing;
 
 // 10.1.6.1 OrdinaryDefineOwnProperty ( O, P, Desc )
 fn ordinary_define_own_property(
-    words: &[u64],
-    strings: &[u16],
-    allowance: usize,
-    sheet: &[u8],
+    run: &Run<'_>,
     o: u64,
     key: PropertyKey,
     d: PropertyDescriptor,
     depth: usize,
-    s: Progress,
-) -> WriteOut
-    requires { Definable words.now strings.now allowance key × (is_ordinary (lookup (store_of words.now) o) ≡ true) }
-    ensures result_value { out_write sheet.now (store_of words.now) result ≡ (ordinary_define_own_property (context words.now strings.now allowance) (methods depth (context words.now strings.now allowance)) o key d).run (state_of sheet.now s) }
-    ensures fitting { Fitting words.now result }
+    progress: &mut Progress,
+) -> Result<Written, Failure>
+    requires definable { Definable run.now.allowance key }
+    requires found { lookup (store_of run.now.store.words.now) o ≡ Some (Ordinary (ordinary (store_of run.now.store.words.now) o)) }
+    ensures result_value { out_write run.now.sheet.now (store_of run.now.store.words.now) result progress.new ≡ (ordinary_define_own_property (context_of run.now) (methods depth (context_of run.now)) o key d).run (state_of run.now.sheet.now progress.old) }
+    ensures fitting { Fitting run.now.store.words.now result }
 {
-    match own_property::get_own_property(words, strings, allowance, sheet, o, key, depth, s) {
-        OwnPropertyOut::Failed(f, t) => WriteOut::Failed(f, t), // 1
-        OwnPropertyOut::Done(current, t) => {
-            match extensibility::is_extensible(words, strings, allowance, sheet, o, depth, t) {
-                BooleanOut::Failed(f, u) => WriteOut::Failed(f, u), // 2
-                BooleanOut::Done(extensible, u) => {
-                    let v = validation::validate(extensible, d, current);
-                    writing::apply_validation(words, allowance, o, key, v, u) // 3
-                }
-            }
-        }
-    }
+    let current = own_property::get_own_property(run, o, key, depth, progress)?; // 1
+    let extensible = extensibility::is_extensible(run, o, depth, progress)?; // 2
+    let v = validation::validate(extensible, d, current);
+    writing::apply_validation(run.store, run.allowance, o, key, v) // 3
 }
 
 // 10.1.6 and 10.5.6 [[DefineOwnProperty]] ( P, Desc )
 #[cycle(define_own_property_proxy_exotic_define_own_property)]
 pub fn define_own_property(
-    words: &[u64],
-    strings: &[u16],
-    allowance: usize,
-    sheet: &[u8],
+    run: &Run<'_>,
     o: u64,
     key: PropertyKey,
     d: PropertyDescriptor,
     depth: usize,
-    s: Progress,
-) -> WriteOut
-    requires { Definable words.now strings.now allowance key }
-    ensures result_value { out_write sheet.now (store_of words.now) result ≡ ((methods depth (context words.now strings.now allowance)).define_own_property o key d).run (state_of sheet.now s) }
-    ensures fitting { Fitting words.now result }
+    progress: &mut Progress,
+) -> Result<Written, Failure>
+    requires { Definable run.now.allowance key }
+    ensures result_value { out_write run.now.sheet.now (store_of run.now.store.words.now) result progress.new ≡ ((methods depth (context_of run.now)).define_own_property o key d).run (state_of run.now.sheet.now progress.old) }
+    ensures fitting { Fitting run.now.store.words.now result }
 {
-    match calls::enter(words, o, 5, depth, s) {
-        Entered::Failed(f, t) => WriteOut::Failed(f, t),
-        Entered::Ordinary(q, n, t) => {
-            ordinary_define_own_property(words, strings, allowance, sheet, q, key, d, n, t)
-        }
-        Entered::Proxy(p, n, t) => {
-            proxy_exotic_define_own_property(words, strings, allowance, sheet, p, key, d, n, t)
-        }
+    match calls::enter(run.store, o, 5, depth, progress)? {
+        Entered::Ordinary(q, n) => ordinary_define_own_property(run, q, key, d, n, progress),
+        Entered::Proxy(p, n) => proxy_exotic_define_own_property(run, p, key, d, n, progress),
     }
 }
 
 // 10.5.6 [[DefineOwnProperty]] ( P, Desc )
 #[cycle(define_own_property_proxy_exotic_define_own_property)]
 fn proxy_exotic_define_own_property(
-    words: &[u64],
-    strings: &[u16],
-    allowance: usize,
-    sheet: &[u8],
+    run: &Run<'_>,
     p: ProxyObject,
     key: PropertyKey,
     d: PropertyDescriptor,
     depth: usize,
-    s: Progress,
-) -> WriteOut
-    requires { Definable words.now strings.now allowance key }
-    ensures result_value { out_write sheet.now (store_of words.now) result ≡ (proxy_define_own_property (context words.now strings.now allowance) (methods depth (context words.now strings.now allowance)) p key d).run (state_of sheet.now s) }
-    ensures fitting { Fitting words.now result }
+    progress: &mut Progress,
+) -> Result<Written, Failure>
+    requires { Definable run.now.allowance key }
+    ensures result_value { out_write run.now.sheet.now (store_of run.now.store.words.now) result progress.new ≡ (proxy_define_own_property (context_of run.now) (methods depth (context_of run.now)) p key d).run (state_of run.now.sheet.now progress.old) }
+    ensures fitting { Fitting run.now.store.words.now result }
 {
-    let target = p.target;
-    if calls::has_trap(p, 5) {
-        trap::define_own_property_trap(words, strings, allowance, sheet, target, key, d, depth, s) // 7 to 16
-    } else {
-        define_own_property(words, strings, allowance, sheet, target, key, d, depth, s) // 6
+    if !calls::has_trap(p, 5) {
+        return define_own_property(run, p.target, key, d, depth, progress); // 6
     }
+    if !answers::next_boolean(run.strings, run.sheet, progress)? {
+        return Ok(Written::nothing(false)); // 9
+    }
+    let current = own_property::get_own_property(run, p.target, key, depth, progress)?; // 10
+    let extensible = extensibility::is_extensible(run, p.target, depth, progress)?; // 11
+    match current {
+        None => {
+            if !extensible {
+                return Err(Failure::TypeError(13)); // 14.a
+            }
+            if fields::is_false(d.configurable) {
+                return Err(Failure::TypeError(13)); // 14.b
+            }
+        }
+        Some(target) => {
+            if !validation::is_compatible_property_descriptor(extensible, d, current) {
+                return Err(Failure::TypeError(14)); // 15.a
+            }
+            if checks::fixes_configurable(d, target) {
+                return Err(Failure::TypeError(15)); // 15.b
+            }
+            if checks::fixes_writable(d, target) {
+                return Err(Failure::TypeError(16)); // 15.c
+            }
+        }
+    }
+    Ok(Written::nothing(true)) // 16
 }

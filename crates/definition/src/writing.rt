@@ -1,38 +1,46 @@
 // 10.1.6.3 steps 2 and 6: the write of a validated definition.
-ghost use Rattle.std.specs.Prelude.{◌≡◌, true, List, ℕ, ◌≤◌};
+#![tactic(auto, using(calls::proofs::Steps::steps), unfolding(internal_methods::specs::Ordinary::apply_validation))]
+
+ghost use Rattle.std.specs.Prelude.{◌≡◌, List, ℕ, ◌≤◌};
 ghost use Rattle.store.specs.Store.{own, maximum_properties};
-ghost use Rattle.store.specs.Words.{is_store, store_of};
+ghost use Rattle.store.specs.Words.{store_of};
 ghost use Rattle.store_write.specs.Write.{Joins};
 ghost use Rattle.internal_methods.specs.Ordinary.{apply_validation};
-ghost use Rattle.calls.specs.Outs.{context, state_of, out_write, Fitting};
+ghost use Rattle.calls.specs.declared.progress.Progress.{Progress};
+ghost use Rattle.calls.specs.Outs.{Fitting, context, out_write, state_of};
 
-use calls::{Progress, WriteOut};
+use calls::Written;
 use internal_methods::Failure;
 use property::{Property, Validation};
-use store_read::{Place, finding};
+use store_read::StoreWords;
 use store_write::Write;
 use value::PropertyKey;
 
 // 10.1.6.3 steps 2.c, 2.d and 6: the property in its place, or a new one.
 fn write_property(
-    words: &[u64],
+    store: StoreWords<'_>,
     allowance: usize,
     o: u64,
     key: PropertyKey,
     p: Property,
-    s: Progress,
-) -> WriteOut
-    requires { (is_store words.now ≡ true) × (Joins o key × (allowance ≤ maximum_properties)) }
-    ensures by_index { (bytes cells : List ℕ) → out_write bytes (store_of words.now) result ≡ (apply_validation (context words.now cells allowance) o key (own (store_of words.now) o key) (Validation.Becomes p)).run (state_of bytes s) }
-    ensures fitting { Fitting words.now result }
+) -> Result<Written, Failure>
+    requires { Joins o key × (allowance ≤ maximum_properties) }
+    ensures result_value { (bytes cells : List ℕ) (s : Progress) → out_write bytes (store_of store.entry.words.now) result s ≡ (apply_validation (context store.entry.words.now cells allowance) o key (own (store_of store.entry.words.now) o key) (Validation.Becomes p)).run (state_of bytes s) }
+    ensures fitting { Fitting store.entry.words.now result }
 {
-    match finding::find(words, o, key) {
-        Place::At(i) => WriteOut::Done(true, Write::Change(i, p), s),
-        Place::Nothing => {
-            if store_write::room(words, allowance) {
-                WriteOut::Done(true, Write::Add(o, key, p), s)
+    match store.find(o, key) {
+        Some(i) => Ok(Written {
+            accepted: true,
+            write: Write::Change(i, p),
+        }),
+        None => {
+            if store_write::room(store, allowance) {
+                Ok(Written {
+                    accepted: true,
+                    write: Write::Add(o, key, p),
+                })
             } else {
-                WriteOut::Failed(Failure::Refused(7), s)
+                Err(Failure::Refused(7))
             }
         }
     }
@@ -40,20 +48,19 @@ fn write_property(
 
 // The write of 10.1.6.3, where the store has the property that was validated against.
 pub fn apply_validation(
-    words: &[u64],
+    store: StoreWords<'_>,
     allowance: usize,
     o: u64,
     key: PropertyKey,
     validation: Validation,
-    s: Progress,
-) -> WriteOut
-    requires { (is_store words.now ≡ true) × (Joins o key × (allowance ≤ maximum_properties)) }
-    ensures by_index { (bytes cells : List ℕ) → out_write bytes (store_of words.now) result ≡ (apply_validation (context words.now cells allowance) o key (own (store_of words.now) o key) validation).run (state_of bytes s) }
-    ensures fitting { Fitting words.now result }
+) -> Result<Written, Failure>
+    requires { Joins o key × (allowance ≤ maximum_properties) }
+    ensures result_value { (bytes cells : List ℕ) (s : Progress) → out_write bytes (store_of store.entry.words.now) result s ≡ (apply_validation (context store.entry.words.now cells allowance) o key (own (store_of store.entry.words.now) o key) validation).run (state_of bytes s) }
+    ensures fitting { Fitting store.entry.words.now result }
 {
     match validation {
-        Validation::Rejected(_) => WriteOut::Done(false, Write::Nothing, s),
-        Validation::Unchanged => WriteOut::Done(true, Write::Nothing, s),
-        Validation::Becomes(p) => write_property(words, allowance, o, key, p, s),
+        Validation::Rejected(_) => Ok(Written::nothing(false)),
+        Validation::Unchanged => Ok(Written::nothing(true)),
+        Validation::Becomes(p) => write_property(store, allowance, o, key, p),
     }
 }

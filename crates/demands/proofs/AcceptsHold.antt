@@ -1,4 +1,5 @@
 -- The steps of the proved rows are accepted, and those by every method over an ordinary object with room. Assumes nothing.
+use Rattle.std.specs.Prelude.{Option, None, Some}
 use Prim.Native.Nat.{ℕ, ◌*◌, ◌≤◌}
 use mathlib.Core.Path.{◌≡◌, refl, ap, subst}
 use mathlib.Core.Bool.{true, false, not}
@@ -6,8 +7,6 @@ use mathlib.Core.List.{List, []}
 use lib.ListN.{length}
 use borrow.Author.Tests.{lt-ltb, le-leb}
 use Rattle.value.specs.declared.PropertyKey.{PropertyKey}
-use Rattle.property.specs.declared.OwnProperty.{OwnProperty}
-use Rattle.property.specs.declared.OwnProperty.TheVariants.{Absent, Present}
 use Rattle.store.specs.Store.{Store, World, own}
 use Rattle.store.specs.OwnKeys.{ordinary_own_property_keys}
 use Rattle.internal_methods.specs.Monad.{Answer, State, state, Out, done, M, pure, next, ◌>>=◌}
@@ -25,6 +24,7 @@ use Rattle.demands.specs.Accepts.{row_runs, accepted_all, Plain, OnPlain, by-get
 use Rattle.steps.proofs.Sequences.{joined}
 use Rattle.steps.proofs.Lifted.{perform-longer}
 use Rattle.steps.proofs.Steps.{step-done}
+use Rattle.property.specs.declared.Property.{Property}
 
 -- The proved rows ---------------------------------------------------------------------------
 
@@ -61,9 +61,9 @@ module _ (output : List ℕ) where
     holds = refl;
   }
 
-  own-holds : (d : OwnProperty) → output_holds (own_result d) output ≡ true
-  own-holds Absent = refl
-  own-holds (Present p) = refl
+  own-holds : (d : Option Property) → output_holds (own_result d) output ≡ true
+  own-holds None = refl
+  own-holds (Some p) = refl
 
 module _ (ω : World) (o : ℕ) (k : PropertyKey) (plain : Plain ω o k) (output : List ℕ) (a : List Answer)
     (large : value_size * length (ordinary_own_property_keys ω.strings ω.store o) ≤ length output) where

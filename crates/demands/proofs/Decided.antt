@@ -1,10 +1,10 @@
 -- Demand 1 holds of every call of every list of calls. Assumes nothing.
-use Prim.Native.Nat.{ℕ, suc, ◌+◌, ◌-◌, ◌≤◌}
+use Rattle.std.specs.Prelude.{Option, None, Some}
+use Prim.Native.Nat.{ℕ, suc, ◌-◌, ◌≤◌}
 use native.Mathlib.Nat.{le_refl, le-suc, le_trans}
 use native.Mathlib.Omega.{arith}
 use mathlib.Core.Path.{◌≡◌, refl, sym, ap, ◌∙◌, subst}
 use mathlib.Core.Bool.{Bool, true, false, cond, false≢true}
-use mathlib.Core.Option.{Option, none, some}
 use mathlib.Core.List.{List, [], ◌∷◌, ◌++◌, map}
 use lib.Dec.{leb, ltb}
 use lib.ListN.{length}
@@ -55,11 +55,11 @@ not-accepted n e h (by-throw v) = false≢true cc
 pub occupied-counted : (xs : List (Option Object)) → occupied xs ≡ count (map is_live xs)
 unfolding occupied count
 occupied-counted [] = refl
-occupied-counted (none ∷ xs) = occupied-counted xs ∙ omega arith
-occupied-counted (some x ∷ xs) = ap suc (occupied-counted xs) ∙ omega arith
+occupied-counted (None ∷ xs) = occupied-counted xs ∙ omega arith
+occupied-counted (Some x ∷ xs) = ap suc (occupied-counted xs) ∙ omega arith
 
 -- what is known of the run once the records passed
-module _ (ω : World) (bytes sheet : List ℕ) (coherent : Coherent ω.store) (passes : first_failing (record_tests ω bytes sheet) ≡ none) where
+module _ (ω : World) (bytes sheet : List ℕ) (coherent : Coherent ω.store) (passes : first_failing (record_tests ω bytes sheet) ≡ None) where
   abbrev runs : Performs (context_of ω) maximum_calls (asked bytes)
   runs = performs (context_of ω) maximum_calls coherent.closed (numbered-fresh ω.store coherent.numbered) (asked bytes) (names-made ω bytes sheet passes).operation
 
@@ -121,12 +121,12 @@ module _ (ω : World) (bytes sheet output : List ℕ) (coherent : Coherent ω.st
   occupied-live : occupied ω.store.objects ≡ live_count ω.store
   occupied-live = occupied-counted ω.store.objects ∙ sym (live-counted ω.store coherent.numbered)
 
-  no_room : first_failing (record_tests ω bytes sheet) ≡ none → Crowded ω bytes sheet → Refusal ω bytes sheet output 7
+  no_room : first_failing (record_tests ω bytes sheet) ≡ None → Crowded ω bytes sheet → Refusal ω bytes sheet output 7
   no_room p (by-objects m h) = refusal.crowded p m (subst (λ (n : ℕ). maximum_objects ≤ n) (sym occupied-live) h)
   no_room p (by-properties l r h) = full p l r h
 
   -- a failure of the run is a refusal by its number, or is accepted
-  met-refusal : (n : ℕ) (s : State) → first_failing (record_tests ω bytes sheet) ≡ none → (ran ω bytes sheet).0 ≡ failed (Refused n) s → Fails (context_of ω) (Refused n) s → Refusal ω bytes sheet output n
+  met-refusal : (n : ℕ) (s : State) → first_failing (record_tests ω bytes sheet) ≡ None → (ran ω bytes sheet).0 ≡ failed (Refused n) s → Fails (context_of ω) (Refused n) s → Refusal ω bytes sheet output n
   met-refusal n s p e (crowded h) = no_room p (seven ω bytes sheet s e)
   met-refusal n s p e (method τ (met.full h)) = no_room p (seven ω bytes sheet s e)
   met-refusal n s p e (method τ (met.spent h)) = spent p e h
@@ -138,7 +138,7 @@ module _ (ω : World) (bytes sheet output : List ℕ) (coherent : Coherent ω.st
   errs n s rejected = by-type_error 32 (omega arith) (le_refl 32)
 
   -- an end with unread answers
-  unread-refusal : (a : Answer) (rest : List Answer) → first_failing (record_tests ω bytes sheet) ≡ none → Accepted (ending_of (ran ω bytes sheet).0) → left_in (ran ω bytes sheet).0 ≡ a ∷ rest
+  unread-refusal : (a : Answer) (rest : List Answer) → first_failing (record_tests ω bytes sheet) ≡ None → Accepted (ending_of (ran ω bytes sheet).0) → left_in (ran ω bytes sheet).0 ≡ a ∷ rest
       → Refusal ω bytes sheet output 13
   unfolding ran
   unread-refusal a rest p accepted e =
@@ -161,12 +161,12 @@ module _ (ω : World) (bytes sheet output : List ℕ) (coherent : Coherent ω.st
   abbrev Consumed : Effect → Type 0
   Consumed e = (left_in (ran ω bytes sheet).0 ≡ []) × (e.response.answers ≡ byte_at sheet 0)
 
-  consumed : (s : State) (e : Ending) → first_failing (record_tests ω bytes sheet) ≡ none → left_in (ran ω bytes sheet).0 ≡ s.answers → s.answers ≡ []
+  consumed : (s : State) (e : Ending) → first_failing (record_tests ω bytes sheet) ≡ None → left_in (ran ω bytes sheet).0 ≡ s.answers → s.answers ≡ []
       → (left_in (ran ω bytes sheet).0 ≡ []) × ((responding e (sheet_of sheet) s).answers ≡ byte_at sheet 0)
   consumed s e p l u = (l ∙ u, rw u (omega (arith, sheet-counted ω bytes sheet p)))
 
   -- how a run ended that left answers unread
-  ended-unread : (x : Out Result) (a : Answer) (rest : List Answer) → first_failing (record_tests ω bytes sheet) ≡ none → (ran ω bytes sheet).0 ≡ x → unread x ≡ a ∷ rest
+  ended-unread : (x : Out Result) (a : Answer) (rest : List Answer) → first_failing (record_tests ω bytes sheet) ≡ None → (ran ω bytes sheet).0 ≡ x → unread x ≡ a ∷ rest
       → Accepted (ending_of x) × (left_in x ≡ a ∷ rest)
   ended-unread (failed (Refused n) s) a rest p e u = absurd (false≢true cc)
   ended-unread (failed (TypeError n) s) a rest p e u = (errs n s (ran-fails ω bytes sheet coherent p _ s e), u)
@@ -205,8 +205,8 @@ module _ (ω : World) (bytes sheet output : List ℕ) (coherent : Coherent ω.st
   ended-in q = ap (λ (x : Effect). x.response.ending) q
 
   -- a run by its end
-  run_ends : (x : Out Result) → first_failing (record_tests ω bytes sheet) ≡ none → (ran ω bytes sheet).0 ≡ x → step ω bytes sheet output ≡ ended ω (sheet_of sheet) output (x, (ran ω bytes sheet).1)
-  run_ends x p e = step_is ω bytes sheet output none _ p refl ∙ ap (λ (y : Out Result). ended ω (sheet_of sheet) output (y, (ran ω bytes sheet).1)) e
+  run_ends : (x : Out Result) → first_failing (record_tests ω bytes sheet) ≡ None → (ran ω bytes sheet).0 ≡ x → step ω bytes sheet output ≡ ended ω (sheet_of sheet) output (x, (ran ω bytes sheet).1)
+  run_ends x p e = step_is ω bytes sheet output None _ p refl ∙ ap (λ (y : Out Result). ended ω (sheet_of sheet) output (y, (ran ω bytes sheet).1)) e
 
   unread-ended : (x : Out Result) (σ : Store) (a : Answer) (rest : List Answer) → unread x ≡ a ∷ rest → (ended ω (sheet_of sheet) output (x, σ)).response.ending ≡ refused 13
   unread-ended x σ a rest e = rw e
@@ -259,7 +259,7 @@ module _ (ω : World) (bytes sheet output : List ℕ) (coherent : Coherent ω.st
   abbrev later : List Answer → Ran Result
   later more = (perform maximum_calls (context_of ω) (asked bytes)).run (state (sheet_of sheet ++ more) maximum_calls)
 
-  all_read : {s : State} → (ran ω bytes sheet).0 ≡ failed (Refused 8) s → first_failing (record_tests ω bytes sheet) ≡ none → (more : List Answer)
+  all_read : {s : State} → (ran ω bytes sheet).0 ≡ failed (Refused 8) s → first_failing (record_tests ω bytes sheet) ≡ None → (more : List Answer)
       → LeftOf (left_in ((perform maximum_calls (context_of ω) (asked bytes)).run (state (sheet_of sheet ++ more) maximum_calls)).0) more
   unfolding ran
   all_read {s} e p more = subst (λ (l : List Answer). LeftOf l more) (left_is (later more).1 (later more).0) (suffix-left (spent-reads-all (settled (perform maximum_calls (context_of ω) (asked bytes))) (perform-longer maximum_calls (context_of ω) (asked bytes)) _ s (ap (joined (ran ω bytes sheet).1) e)
@@ -300,13 +300,13 @@ module _ (ω : World) (units : List ℕ) where
       refused-entry : {i j : ℕ} → entry.refused i ≡ entry.refused j → i ≡ j
       refused-entry q = cc
 
-      by-room : (b : Bool) → ltb (length ω.strings) maximum_strings ≡ b → length units ≤ maximum_length → number_of ω.strings units ≡ none → added b ≡ entry.refused n → EntryRefusal ω units n
+      by-room : (b : Bool) → ltb (length ω.strings) maximum_strings ≡ b → length units ≤ maximum_length → number_of ω.strings units ≡ None → added b ≡ entry.refused n → EntryRefusal ω units n
       by-room true e l q g = absurd (false≢true cc)
       by-room false e l q g = subst (EntryRefusal ω units) (refused-entry g) (refusal.EntryRefusal.full l q (ltb-false _ _ e))
 
       by_number : (x : Option ℕ) → number_of ω.strings units ≡ x → length units ≤ maximum_length → entering ω.strings units x ≡ entry.refused n → EntryRefusal ω units n
-      by_number (some m) e l g = absurd (false≢true cc)
-      by_number none e l g = by-room (ltb (length ω.strings) maximum_strings) refl l e g
+      by_number (Some m) e l g = absurd (false≢true cc)
+      by_number None e l g = by-room (ltb (length ω.strings) maximum_strings) refl l e g
 
       by_length : (b : Bool) → leb (length units) maximum_length ≡ b → cond b (entering ω.strings units (number_of ω.strings units)) (entry.refused 3) ≡ entry.refused n → EntryRefusal ω units n
       by_length true e g = by_number (number_of ω.strings units) refl (leb-true _ _ e) g

@@ -1,9 +1,9 @@
 -- Step 18 that answers true leaves an ordinary object sealed or frozen, and step 19 says so. Assumes nothing.
+use Rattle.std.specs.Prelude.{Option, None, Some}
 use Prim.Native.Nat.{ℕ, zero, suc, ◌+◌, ◌*◌, ◌-◌, ◌≤◌}
 use native.Mathlib.Omega.{arith}
 use mathlib.Core.Path.{◌≡◌, refl, sym, ap, ◌∙◌, subst}
 use mathlib.Core.Bool.{Bool, true, false, not, cond, ◌&&◌, ◌||◌, false≢true, true≢false}
-use mathlib.Core.Option.{some}
 use mathlib.Core.List.{List, [], ◌∷◌}
 use lib.ListN.{length}
 use borrow.Author.Tests.{eq-eqb}
@@ -12,8 +12,6 @@ use Rattle.value.specs.PropertyKey.{same_key}
 use Rattle.property.specs.declared.PropertyDescriptor.{PropertyDescriptor}
 use Rattle.property.specs.declared.Property.{Property}
 use Rattle.property.specs.declared.Property.TheVariants.{Data, Accessor}
-use Rattle.property.specs.declared.OwnProperty.{OwnProperty}
-use Rattle.property.specs.declared.OwnProperty.TheVariants.{Absent, Present}
 use Rattle.property.specs.declared.Validation.{Validation}
 use Rattle.property.specs.declared.Validation.TheVariants.{Rejected, Unchanged, Becomes}
 use Rattle.property.specs.Validate.{validate, applied}
@@ -46,7 +44,7 @@ use Rattle.steps.specs.SetIntegrityLevel
 use Rattle.steps.specs.TestIntegrityLevel.{is_loose, test_properties}
 use Rattle.steps.specs.TestIntegrityLevel
 use Rattle.steps.specs.Perform.{Result, boolean, once, in_turn, over, perform, maximum_calls}
-use Rattle.steps.specs.Step.{context_of, ran, step}
+use Rattle.steps.specs.Step.{context_of, ran}
 use Rattle.demands.specs.Integrity.{IsFixed, HasLevel, covers, IntegrityHolds}
 use Rattle.steps.proofs.Steps.{step-done, ends, resulted}
 use Rattle.steps.proofs.Performed.{boolean-is}
@@ -54,7 +52,7 @@ use Rattle.steps.proofs.Sequences.{Led, Leads, leads-pure, leads-fails, leads-re
 
 -- What the two descriptors make of a property ---------------------------------------------------
 
-sealed-becomes : (q : Property) → validate false sealed_descriptor (Present q) ≡ Becomes (applied sealed_descriptor q)
+sealed-becomes : (q : Property) → validate false sealed_descriptor (Some q) ≡ Becomes (applied sealed_descriptor q)
 unfolding validate Rattle.property.specs.Validate.reject_if Rattle.property.specs.Descriptor.is_generic_descriptor Rattle.property.specs.Descriptor.is_accessor_descriptor Rattle.property.specs.Descriptor.is_data_descriptor
 sealed-becomes (Data v true e true) = refl
 sealed-becomes (Data v true e false) = refl
@@ -63,7 +61,7 @@ sealed-becomes (Data v false e false) = refl
 sealed-becomes (Accessor g s e true) = refl
 sealed-becomes (Accessor g s e false) = refl
 
-frozen-becomes : (q : Property) → validate false (frozen_descriptor q) (Present q) ≡ Becomes (applied (frozen_descriptor q) q)
+frozen-becomes : (q : Property) → validate false (frozen_descriptor q) (Some q) ≡ Becomes (applied (frozen_descriptor q) q)
 unfolding validate Rattle.property.specs.Validate.reject_if Rattle.property.specs.Descriptor.is_generic_descriptor Rattle.property.specs.Descriptor.is_accessor_descriptor Rattle.property.specs.Descriptor.is_data_descriptor
 frozen-becomes (Data v true e true) = refl
 frozen-becomes (Data v true e false) = refl
@@ -77,21 +75,21 @@ abbrev descriptor_for : Level → Property → PropertyDescriptor
 descriptor_for sealed q = sealed_descriptor
 descriptor_for frozen q = frozen_descriptor q
 
-fixes : (level : Level) (q : Property) → is_loose level (Present (applied (descriptor_for level q) q)) ≡ false
+fixes : (level : Level) (q : Property) → is_loose level (Some (applied (descriptor_for level q) q)) ≡ false
 unfolding applied Rattle.property.specs.Descriptor.is_accessor_descriptor Rattle.property.specs.Descriptor.is_data_descriptor
 fixes sealed (Data v w e c) = refl
 fixes sealed (Accessor g s e c) = refl
 fixes frozen (Data v w e c) = refl
 fixes frozen (Accessor g s e c) = refl
 
-fixed-is : (level : Level) (p : Property) → is_loose level (Present p) ≡ false → IsFixed level p
+fixed-is : (level : Level) (p : Property) → is_loose level (Some p) ≡ false → IsFixed level p
 fixed-is sealed (Data v w e c) h = h
 fixed-is sealed (Accessor g s e c) h = h
 fixed-is frozen (Data v w e true) h = absurd (true≢false h)
 fixed-is frozen (Data v w e false) h = (refl, h)
 fixed-is frozen (Accessor g s e c) h = h
 
-fixed-tight : (level tested : Level) → covers level tested ≡ true → (p : Property) → IsFixed level p → is_loose tested (Present p) ≡ false
+fixed-tight : (level tested : Level) → covers level tested ≡ true → (p : Property) → IsFixed level p → is_loose tested (Some p) ≡ false
 fixed-tight sealed sealed h (Data v w e c) f = f
 fixed-tight sealed sealed h (Accessor g s e c) f = f
 fixed-tight sealed frozen h p f = absurd (false≢true h)
@@ -102,32 +100,32 @@ fixed-tight frozen frozen h (Accessor g s e c) f = f
 
 -- A definition on an ordinary object that is not extensible ---------------------------------------
 
-module _ (c : Context) (o : ℕ) (k : PropertyKey) (d : PropertyDescriptor) (becomes : (q : Property) → own c.store o k ≡ Present q → validate false d (Present q) ≡ Becomes (applied d q)) where
+module _ (c : Context) (o : ℕ) (k : PropertyKey) (d : PropertyDescriptor) (becomes : (q : Property) → own c.store o k ≡ Some q → validate false d (Some q) ≡ Becomes (applied d q)) where
   -- a true says that the property was there, and what it is now
   record Redefined (w : Written) : Type 0 where
     before : Property
-    there : own c.store o k ≡ Present before
+    there : own c.store o k ≡ Some before
     after : w.1 ≡ with_property c.store o k (applied d before)
 
-  apply-ordinary : (t : OwnProperty) → t ≡ own c.store o k → (v : Validation) → validate false d t ≡ v → Ensures (apply_validation c o k t v) (λ w. w.0 ≡ true → Redefined w)
+  apply-ordinary : (t : Option Property) → t ≡ own c.store o k → (v : Validation) → validate false d t ≡ v → Ensures (apply_validation c o k t v) (λ w. w.0 ≡ true → Redefined w)
   unfolding apply_validation validate Rattle.property.specs.Validate.reject_if
   apply-ordinary t f (Rejected n) h = ensures-pure _ (λ e. absurd (false≢true e))
-  apply-ordinary Absent f Unchanged h = absurd (false≢true cc)
-  apply-ordinary (Present q) f Unchanged h = let z : Unchanged ≡ Becomes (applied d q) = sym h ∙ becomes q (sym f) in absurd (false≢true cc)
-  apply-ordinary Absent f (Becomes p) h = absurd (false≢true cc)
-  apply-ordinary (Present q) f (Becomes p) h =
+  apply-ordinary None f Unchanged h = absurd (false≢true cc)
+  apply-ordinary (Some q) f Unchanged h = let z : Unchanged ≡ Becomes (applied d q) = sym h ∙ becomes q (sym f) in absurd (false≢true cc)
+  apply-ordinary None f (Becomes p) h = absurd (false≢true cc)
+  apply-ordinary (Some q) f (Becomes p) h =
       let z : Becomes p ≡ Becomes (applied d q) = sym h ∙ becomes q (sym f) in
       let y : p ≡ applied d q = cc in
       ensures-pure _ (λ _. record { before = q; there = sym f; after = ap (with_property c.store o k) y })
 
-  define-ordinary : (n : ℕ) (r : OrdinaryObject) → lookup c.store o ≡ some (Ordinary r) → r.extensible ≡ false → Ensures ((methods n c).define_own_property o k d) (λ w. w.0 ≡ true → Redefined w)
+  define-ordinary : (n : ℕ) (r : OrdinaryObject) → lookup c.store o ≡ Some (Ordinary r) → r.extensible ≡ false → Ensures ((methods n c).define_own_property o k d) (λ w. w.0 ≡ true → Redefined w)
   unfolding methods ordinary_define_own_property
   define-ordinary zero r e shut = ensures-fails _
   define-ordinary (suc n) r e shut = ensures-dispatch c.store o
       (λ s f. ensures-bind (get_own_property-exact n c o k r e) λ t g.
       ensures-bind (is_extensible-exact n c o r e) λ x i.
       subst (λ (b : Bool). Ensures (apply_validation c o k t (validate b d t)) (λ w. w.0 ≡ true → Redefined w)) (sym (i ∙ shut)) (apply-ordinary t g _ refl))
-      (λ p f. let z : some (Ordinary r) ≡ some (Proxy p) = sym e ∙ f.found in absurd (false≢true cc))
+      (λ p f. let z : Some (Ordinary r) ≡ Some (Proxy p) = sym e ∙ f.found in absurd (false≢true cc))
 
 -- The turns -----------------------------------------------------------------------------------------
 
@@ -138,9 +136,9 @@ module _ (n : ℕ) (c : Context) (o : ℕ) (level : Level) where
   -- what is not fixed yet is still to come
   record Pending (ks : List PropertyKey) (σ : Store) : Type 0 where
     object : OrdinaryObject
-    found : lookup σ o ≡ some (Ordinary object)
+    found : lookup σ o ≡ Some (Ordinary object)
     shut : object.extensible ≡ false
-    listed : (k : PropertyKey) (p : Property) → own σ o k ≡ Present p → is_loose level (Present p) ≡ true → has_key k ks ≡ true
+    listed : (k : PropertyKey) (p : Property) → own σ o k ≡ Some p → is_loose level (Some p) ≡ true → has_key k ks ≡ true
 
   abbrev Whatever : Failure → Store → Type 0
   Whatever f σ = Unit {0}
@@ -157,7 +155,7 @@ module _ (n : ℕ) (c : Context) (o : ℕ) (level : Level) where
       go true e g = absurd (true≢false (sym e ∙ apart))
       go false e g = g
 
-  turned : (k : PropertyKey) (ks : List PropertyKey) (σ : Store) → Pending (k ∷ ks) σ → (d : OwnProperty) (τ : Store) → is_loose level d ≡ false
+  turned : (k : PropertyKey) (ks : List PropertyKey) (σ : Store) → Pending (k ∷ ks) σ → (d : Option Property) (τ : Store) → is_loose level d ≡ false
       → ((b : ℕ) → lookup τ b ≡ lookup σ b) → ((l : PropertyKey) → own τ o l ≡ cond (same_place o k o l) d (own σ o l)) → Pending ks τ
   turned k ks σ h d τ tight objects properties = record {
     object = h.object;
@@ -166,12 +164,12 @@ module _ (n : ℕ) (c : Context) (o : ℕ) (level : Level) where
     listed = λ l p e loose. go l p loose (same_place o k o l) refl (sym (properties l) ∙ e);
   }
     where
-      go : (l : PropertyKey) (p : Property) → is_loose level (Present p) ≡ true → (b : Bool) → same_place o k o l ≡ b → cond b d (own σ o l) ≡ Present p → has_key l ks ≡ true
+      go : (l : PropertyKey) (p : Property) → is_loose level (Some p) ≡ true → (b : Bool) → same_place o k o l ≡ b → cond b d (own σ o l) ≡ Some p → has_key l ks ≡ true
       go l p loose true a e = absurd (false≢true (sym tight ∙ (ap (is_loose level) e ∙ loose)))
       go l p loose false a e = passed k ks l (h.listed l p e loose) a
 
   redefined : (k : PropertyKey) (ks : List PropertyKey) (σ : Store) → Pending (k ∷ ks) σ → (q : Property) (τ : Store) → τ ≡ with_property σ o k (applied (descriptor_for level q) q) → Pending ks τ
-  redefined k ks σ h q τ e = subst (Pending ks) (sym e) (turned k ks σ h (Present (applied (descriptor_for level q) q)) _ (fixes level q) (lookup-with σ o k _) (λ l. own-with σ o k _ o l))
+  redefined k ks σ h q τ e = subst (Pending ks) (sym e) (turned k ks σ h (Some (applied (descriptor_for level q) q)) _ (fixes level q) (lookup-with σ o k _) (λ l. own-with σ o k _ o l))
 
   throws : (b : Bool) {P : Store → Type 0} → Leads (λ σ. b ≡ true → P σ) (throw_if 32 (not b)) (λ _. P) Whatever
   unfolding throw_if
@@ -182,7 +180,7 @@ module _ (n : ℕ) (c : Context) (o : ℕ) (level : Level) where
   unfolding turn freeze_property define_property_or_throw
   turn-pends k ks = go level refl
     where
-      defines : (σ : Store) → Pending (k ∷ ks) σ → (d : PropertyDescriptor) → ((q : Property) → own σ o k ≡ Present q → (d ≡ descriptor_for level q) × (validate false d (Present q) ≡ Becomes (applied d q)))
+      defines : (σ : Store) → Pending (k ∷ ks) σ → (d : PropertyDescriptor) → ((q : Property) → own σ o k ≡ Some q → (d ≡ descriptor_for level q) × (validate false d (Some q) ≡ Becomes (applied d q)))
           → Ensures ((call σ).define_own_property o k d) (λ w. w.0 ≡ true → Pending ks w.1)
       defines σ h d is = ensures-weaken (define-ordinary (over c σ) o k d (λ q e. (is q e).1) n h.object h.found h.shut)
           (λ w f t. let r = f t in redefined k ks σ h r.before w.1 (r.after ∙ ap (λ (x : PropertyDescriptor). with_property σ o k (applied x r.before)) (is r.before r.there).0))
@@ -194,19 +192,19 @@ module _ (n : ℕ) (c : Context) (o : ℕ) (level : Level) where
       go frozen e = leads-bind {R = λ d τ. Pending (k ∷ ks) τ × (d ≡ own τ o k)}
           (leads-reads (λ σ h. meets-ensured (ensures-weaken (get_own_property-exact n (over c σ) o k h.object h.found) (λ d f. (h, f))) (λ _. tt)))
           (elim [
-            | Absent ↦ leads-pure tt (λ σ h. absent σ h.0 (sym h.1))
-            | Present p ↦ leads-bind {R = λ b τ. b ≡ true → Pending ks τ}
+            | None ↦ leads-pure tt (λ σ h. absent σ h.0 (sym h.1))
+            | Some p ↦ leads-bind {R = λ b τ. b ≡ true → Pending ks τ}
                 (leads-writes (λ σ h. meets-ensured (defines σ h.0 (frozen_descriptor p) (λ q f.
-                let z : Present p ≡ Present q = h.1 ∙ f in
+                let z : Some p ≡ Some q = h.1 ∙ f in
                 let y : p ≡ q = cc in
-                (ap frozen_descriptor y ∙ ap (λ (x : Level). descriptor_for x q) (sym e), subst (λ (x : Property). validate false (frozen_descriptor x) (Present q) ≡ Becomes (applied (frozen_descriptor x) q)) (sym y) (frozen-becomes q)))) (λ _. tt)))
+                (ap frozen_descriptor y ∙ ap (λ (x : Level). descriptor_for x q) (sym e), subst (λ (x : Property). validate false (frozen_descriptor x) (Some q) ≡ Becomes (applied (frozen_descriptor x) q)) (sym y) (frozen-becomes q)))) (λ _. tt)))
                 (λ b. throws b)
           ])
         where
-          absent : (σ : Store) → Pending (k ∷ ks) σ → own σ o k ≡ Absent → Pending ks σ
-          absent σ h a = turned k ks σ h Absent σ refl (λ b. refl) (λ l. same l (same_place o k o l) refl)
+          absent : (σ : Store) → Pending (k ∷ ks) σ → own σ o k ≡ None → Pending ks σ
+          absent σ h a = turned k ks σ h None σ refl (λ b. refl) (λ l. same l (same_place o k o l) refl)
             where
-              same : (l : PropertyKey) (b : Bool) → same_place o k o l ≡ b → own σ o l ≡ cond b Absent (own σ o l)
+              same : (l : PropertyKey) (b : Bool) → same_place o k o l ≡ b → own σ o l ≡ cond b None (own σ o l)
               same l true q = let (i, j) = place-eq o k o l q in sym (ap (own σ o) j) ∙ a
               same l false q = refl
 
@@ -218,25 +216,25 @@ module _ (n : ℕ) (c : Context) (o : ℕ) (level : Level) where
   -- 7.3.15 as a whole
   record Solid (σ : Store) : Type 0 where
     object : OrdinaryObject
-    found : lookup σ o ≡ some (Ordinary object)
+    found : lookup σ o ≡ Some (Ordinary object)
     shut : object.extensible ≡ false
 
-  prevents : (d : ℕ) (σ : Store) (r : OrdinaryObject) → lookup σ o ≡ some (Ordinary r) → Ensures ((methods d (over c σ)).prevent_extensions o) (λ w. Solid w.1)
+  prevents : (d : ℕ) (σ : Store) (r : OrdinaryObject) → lookup σ o ≡ Some (Ordinary r) → Ensures ((methods d (over c σ)).prevent_extensions o) (λ w. Solid w.1)
   unfolding methods
   prevents zero σ r e = ensures-fails _
   prevents (suc d) σ r e = ensures-dispatch σ o
       (λ s f. ensures-pure _ (record { object = record { prototype = s.prototype; extensible = false }; found = lookup-put σ o (Ordinary s) _ f; shut = refl }))
-      (λ p f. let z : some (Ordinary r) ≡ some (Proxy p) = sym e ∙ f.found in absurd (false≢true cc))
+      (λ p f. let z : Some (Ordinary r) ≡ Some (Proxy p) = sym e ∙ f.found in absurd (false≢true cc))
 
   lists : (σ : Store) → Solid σ → Ensures ((call σ).own_property_keys o) (λ ks. Pending ks σ)
   lists σ h = ensures-weaken (own_property_keys-report n (over c σ) o) (λ ks u. record {
     object = h.object;
     found = h.found;
     shut = h.shut;
-    listed = λ k p e _. (at_base (here h.found) u).shown h.shut k ∙ ap (λ (d : OwnProperty). not (is_absent d)) e;
+    listed = λ k p e _. (at_base (here h.found) u).shown h.shut k ∙ ap (λ (d : Option Property). not (is_absent d)) e;
   })
 
-  sets : (σ₀ : Store) (r : OrdinaryObject) → lookup σ₀ o ≡ some (Ordinary r)
+  sets : (σ₀ : Store) (r : OrdinaryObject) → lookup σ₀ o ≡ Some (Ordinary r)
       → Leads (λ σ. σ ≡ σ₀) (SetIntegrityLevel.set_integrity_level call o level) (λ b τ. b ≡ true → Pending [] τ) Whatever
   unfolding SetIntegrityLevel.set_integrity_level
   sets σ₀ r e = leads-bind {R = λ b τ. Solid τ}
@@ -252,14 +250,14 @@ module _ (n : ℕ) (c : Context) (o : ℕ) (level : Level) where
     object = h.object;
     found = h.found;
     non_extensible = h.shut;
-    fixed = λ k p e. fixed-is level p (go k p e (is_loose level (Present p)) refl);
+    fixed = λ k p e. fixed-is level p (go k p e (is_loose level (Some p)) refl);
   }
     where
-      go : (k : PropertyKey) (p : Property) → own σ o k ≡ Present p → (b : Bool) → is_loose level (Present p) ≡ b → is_loose level (Present p) ≡ false
+      go : (k : PropertyKey) (p : Property) → own σ o k ≡ Some p → (b : Bool) → is_loose level (Some p) ≡ b → is_loose level (Some p) ≡ false
       go k p e true q = absurd (false≢true (h.listed k p e q))
       go k p e false q = q
 
-  perform-sets : (r : OrdinaryObject) → lookup c.store o ≡ some (Ordinary r) → (s t : State) (τ : Store)
+  perform-sets : (r : OrdinaryObject) → lookup c.store o ≡ Some (Ordinary r) → (s t : State) (τ : Store)
       → (perform n c (set_integrity_level o level)).run s ≡ (Out.done (boolean true) t, τ) → HasLevel level τ o
   unfolding perform in_turn
   perform-sets r e s t τ is = go ((leads-bind (sets c.store r e) (λ b. leads-pure {Q = λ x υ. x ≡ boolean true → Pending [] υ} (boolean b) (λ σ h f. h (boolean-is b true f)))).from c.store refl s)
@@ -272,13 +270,13 @@ module _ (n : ℕ) (c : Context) (o : ℕ) (level : Level) where
 -- 7.3.16 ------------------------------------------------------------------------------------------------
 
 module _ (c : Context) (o : ℕ) (level tested : Level) (h : HasLevel level c.store o) (covered : covers level tested ≡ true) (a : List Answer) where
-  tight : (d : OwnProperty) (k : PropertyKey) → own c.store o k ≡ d → is_loose tested d ≡ false
-  tight Absent k e = absents tested
+  tight : (d : Option Property) (k : PropertyKey) → own c.store o k ≡ d → is_loose tested d ≡ false
+  tight None k e = absents tested
     where
-      absents : (l : Level) → is_loose l Absent ≡ false
+      absents : (l : Level) → is_loose l None ≡ false
       absents sealed = refl
       absents frozen = refl
-  tight (Present p) k e = fixed-tight level tested covered p (h.fixed k p e)
+  tight (Some p) k e = fixed-tight level tested covered p (h.fixed k p e)
 
   tests-run : (n : ℕ) (ks : List PropertyKey) (m : ℕ) → (test_properties (methods (suc n) c) o tested ks).run (state a (length ks + m)) ≡ Out.done true (state a m)
   unfolding test_properties ◌>>=◌ next pure when◌then◌else◌
@@ -304,7 +302,7 @@ module _ (c : Context) (o : ℕ) (level tested : Level) (h : HasLevel level c.st
 
 -- What a true of it says ---------------------------------------------------------------------------------
 
-module _ (n : ℕ) (c : Context) (o : ℕ) (level : Level) (r : OrdinaryObject) (found : lookup c.store o ≡ some (Ordinary r)) where
+module _ (n : ℕ) (c : Context) (o : ℕ) (level : Level) (r : OrdinaryObject) (found : lookup c.store o ≡ Some (Ordinary r)) where
   -- no property of a listed key is loose
   abbrev AllTight : List PropertyKey → Type 0
   AllTight ks = (k : PropertyKey) → has_key k ks ≡ true → is_loose level (own c.store o k) ≡ false
@@ -328,7 +326,7 @@ module _ (n : ℕ) (c : Context) (o : ℕ) (level : Level) (r : OrdinaryObject) 
         object = r;
         found = found;
         non_extensible = sym e ∙ shut;
-        fixed = λ k p is. fixed-is level p (sym (ap (is_loose level) is) ∙ h t k ((at_base (here found) u).shown (sym e ∙ shut) k ∙ ap (λ (d : OwnProperty). not (is_absent d)) is));
+        fixed = λ k p is. fixed-is level p (sym (ap (is_loose level) is) ∙ h t k ((at_base (here found) u).shown (sym e ∙ shut) k ∙ ap (λ (d : Option Property). not (is_absent d)) is));
       }))))
 
   perform-means : (s t : State) (τ : Store) → (perform n c (test_integrity_level o level)).run s ≡ (Out.done (boolean true) t, τ) → HasLevel level c.store o
@@ -356,21 +354,21 @@ module _ (c : Context) (o : ℕ) (level : Level) (a : List Answer) (n : ℕ) whe
   cost sealed = 3
   cost frozen = 4
 
-  module _ (σ : Store) (r : OrdinaryObject) (found : lookup σ o ≡ some (Ordinary r)) (shut : r.extensible ≡ false) (k : PropertyKey) (q : Property) (there : own σ o k ≡ Present q) where
-    define-run : (d : PropertyDescriptor) → validate false d (Present q) ≡ Becomes (applied d q) → (m : ℕ)
+  module _ (σ : Store) (r : OrdinaryObject) (found : lookup σ o ≡ Some (Ordinary r)) (shut : r.extensible ≡ false) (k : PropertyKey) (q : Property) (there : own σ o k ≡ Some q) where
+    define-run : (d : PropertyDescriptor) → validate false d (Some q) ≡ Becomes (applied d q) → (m : ℕ)
         → ((calls σ).define_own_property o k d).run (state a (suc (suc (suc m)))) ≡ Out.done (true, with_property σ o k (applied d q)) (state a m)
     unfolding methods ordinary_define_own_property apply_validation ◌>>=◌ next pure
     define-run d becomes m =
         ordinary-run σ o _ _ r found a (suc (suc m))
         ∙ (ap (next (λ t. (methods (suc n) (over c σ)).is_extensible o >>= λ x. apply_validation (over c σ) o k t (validate x d t))) (own-run (over c σ) o r found a n (suc m) k _ there)
-        ∙ (ap (next (λ x. apply_validation (over c σ) o k (Present q) (validate x d (Present q)))) (extensible-run (over c σ) o r found a n m)
-        ∙ (ap (λ (x : Bool). (apply_validation (over c σ) o k (Present q) (validate x d (Present q))).run (state a m)) shut
+        ∙ (ap (next (λ x. apply_validation (over c σ) o k (Some q) (validate x d (Some q)))) (extensible-run (over c σ) o r found a n m)
+        ∙ (ap (λ (x : Bool). (apply_validation (over c σ) o k (Some q) (validate x d (Some q))).run (state a m)) shut
         ∙ applies)))
       where
-        applies : (apply_validation (over c σ) o k (Present q) (validate false d (Present q))).run (state a m) ≡ Out.done (true, with_property σ o k (applied d q)) (state a m)
-        applies = ap (λ (v : Validation). (apply_validation (over c σ) o k (Present q) v).run (state a m)) becomes
+        applies : (apply_validation (over c σ) o k (Some q) (validate false d (Some q))).run (state a m) ≡ Out.done (true, with_property σ o k (applied d q)) (state a m)
+        applies = ap (λ (v : Validation). (apply_validation (over c σ) o k (Some q) v).run (state a m)) becomes
 
-    or-throw-run : (d : PropertyDescriptor) → validate false d (Present q) ≡ Becomes (applied d q) → (m : ℕ)
+    or-throw-run : (d : PropertyDescriptor) → validate false d (Some q) ≡ Becomes (applied d q) → (m : ℕ)
         → (define_property_or_throw calls o k d).run σ (state a (suc (suc (suc m)))) ≡ (Out.done tt (state a m), with_property σ o k (applied d q))
     unfolding define_property_or_throw sequence.◌>>=◌ sequence.next sequence.writes throw_if sequence.pure
     or-throw-run d becomes m = ap (λ (x : Out Written). sequence.next (λ b. throw_if 32 (not b)) (written σ x).0 (written σ x).1) (define-run d becomes m)
@@ -378,13 +376,13 @@ module _ (c : Context) (o : ℕ) (level : Level) (a : List Answer) (n : ℕ) whe
     turn-run : (l : Level) (m : ℕ) → (turn calls o l k).run σ (state a (cost l + m)) ≡ (Out.done tt (state a m), with_property σ o k (applied (descriptor_for l q) q))
     unfolding turn freeze_property sequence.◌>>=◌ sequence.next sequence.reads
     turn-run sealed m = rw (let z : 3 + m ≡ suc (suc (suc m)) = omega arith in z) (or-throw-run sealed_descriptor (sealed-becomes q) m)
-    turn-run frozen m = rw (let z : 4 + m ≡ suc (suc (suc (suc m))) = omega arith in z) (ap (λ (x : Out OwnProperty). sequence.next (λ d. elim d [ Absent ↦ sequence.pure (tt {0}) | Present p ↦ define_property_or_throw calls o k (frozen_descriptor p) ]) x σ) (own-run (over c σ) o r found a (suc n) (suc (suc (suc m))) k _ there)
+    turn-run frozen m = rw (let z : 4 + m ≡ suc (suc (suc (suc m))) = omega arith in z) (ap (λ (x : Out (Option Property)). sequence.next (λ d. elim d [ None ↦ sequence.pure (tt {0}) | Some p ↦ define_property_or_throw calls o k (frozen_descriptor p) ]) x σ) (own-run (over c σ) o r found a (suc n) (suc (suc (suc m))) k _ there)
         ∙ or-throw-run (frozen_descriptor q) (frozen-becomes q) m)
 
   -- each key of the list has a property
   record Ready (ks : List PropertyKey) (σ : Store) : Type 0 where
     object : OrdinaryObject
-    found : lookup σ o ≡ some (Ordinary object)
+    found : lookup σ o ≡ Some (Ordinary object)
     shut : object.extensible ≡ false
     there : (k : PropertyKey) → has_key k ks ≡ true → is_absent (own σ o k) ≡ false
 
@@ -408,7 +406,7 @@ module _ (c : Context) (o : ℕ) (level : Level) (a : List Answer) (n : ℕ) whe
     there = λ l e. ap is_absent (own-with σ o k p o l) ∙ go (same_place o k o l) l (h.there l (later-there k l ks e));
   }
     where
-      go : (b : Bool) (l : PropertyKey) → is_absent (own σ o l) ≡ false → is_absent (cond b (Present p) (own σ o l)) ≡ false
+      go : (b : Bool) (l : PropertyKey) → is_absent (own σ o l) ≡ false → is_absent (cond b (Some p) (own σ o l)) ≡ false
       go true l e = refl
       go false l e = e
 
@@ -434,11 +432,11 @@ module _ (c : Context) (o : ℕ) (level : Level) (a : List Answer) (n : ℕ) whe
       counts : (cost level + spent ks) + m ≡ cost level + (spent ks + m)
       counts = omega arith
 
-      go : (d : OwnProperty) → own σ o k ≡ d → is_absent (own σ o k) ≡ false
+      go : (d : Option Property) → own σ o k ≡ d → is_absent (own σ o k) ≡ false
           → ((p : Property) → (τ : Store) × ((for_each (turn calls o level) ks).run (with_property σ o k p) (state a (spent ks + m)) ≡ (Out.done tt (state a m), τ)))
           → (τ : Store) × ((for_each (turn calls o level) (k ∷ ks)).run σ (state a ((cost level + spent ks) + m)) ≡ (Out.done tt (state a m), τ))
-      go Absent e f others = absurd (true≢false (sym (ap is_absent e) ∙ f))
-      go (Present q) e f others =
+      go None e f others = absurd (true≢false (sym (ap is_absent e) ∙ f))
+      go (Some q) e f others =
           let rest = others (applied (descriptor_for level q) q) in
           (rest.0, rw counts (ap (λ (x : Ran (Unit {0})). sequence.next (λ _. for_each (turn calls o level) ks) x.0 x.1) (turn-run σ h.object h.found h.shut k q e level (spent ks + m)) ∙ rest.1))
 
@@ -449,7 +447,7 @@ module _ (c : Context) (o : ℕ) (level : Level) (a : List Answer) (n : ℕ) whe
   abbrev listing : Store → List PropertyKey
   listing σ = ordinary_own_property_keys c.strings σ o
 
-  ready : (σ : Store) (r : OrdinaryObject) → lookup σ o ≡ some (Ordinary r) → Ready (listing (prevented r σ)) (prevented r σ)
+  ready : (σ : Store) (r : OrdinaryObject) → lookup σ o ≡ Some (Ordinary r) → Ready (listing (prevented r σ)) (prevented r σ)
   ready σ r e = record {
     object = record { prototype = r.prototype; extensible = false };
     found = lookup-put σ o (Ordinary r) _ e;
@@ -461,7 +459,7 @@ module _ (c : Context) (o : ℕ) (level : Level) (a : List Answer) (n : ℕ) whe
       gone true f = absurd (false≢true f)
       gone false f = refl
 
-  set-run : (σ : Store) (r : OrdinaryObject) → lookup σ o ≡ some (Ordinary r) → (m : ℕ)
+  set-run : (σ : Store) (r : OrdinaryObject) → lookup σ o ≡ Some (Ordinary r) → (m : ℕ)
       → (τ : Store) × ((SetIntegrityLevel.set_integrity_level calls o level).run σ (state a (suc (suc (spent (listing (prevented r σ)) + m)))) ≡ (Out.done true (state a m), τ))
   unfolding SetIntegrityLevel.set_integrity_level sequence.◌>>=◌ sequence.next sequence.writes sequence.reads sequence.when◌then◌else◌ sequence.pure methods pure
   set-run σ r e m =
@@ -475,7 +473,7 @@ module _ (c : Context) (o : ℕ) (level : Level) (a : List Answer) (n : ℕ) whe
             ∙ ap (λ (x : Ran (Unit {0})). sequence.next (λ _. sequence.pure true) x.0 x.1) rest.1),
       )
 
-  perform-succeeds : (r : OrdinaryObject) → lookup c.store o ≡ some (Ordinary r) → (m : ℕ)
+  perform-succeeds : (r : OrdinaryObject) → lookup c.store o ≡ Some (Ordinary r) → (m : ℕ)
       → (τ : Store) × ((perform (suc (suc n)) c (set_integrity_level o level)).run (state a (suc (suc (spent (listing c.store) + m)))) ≡ (Out.done (boolean true) (state a m), τ))
   unfolding perform in_turn sequence.◌>>=◌ sequence.next sequence.pure
   perform-succeeds r e m =

@@ -1,4 +1,5 @@
 -- Demand 3 holds of every list of calls. Assumes nothing.
+use Rattle.std.specs.Prelude.{Option, None, Some}
 use Prim.Native.Nat.{ℕ, suc, ◌≤◌, ◌<◌}
 use native.Mathlib.Nat.{le_refl, le_trans, le-suc, le_of_lt}
 use mathlib.Core.Path.{◌≡◌, refl, sym, ap, ◌∙◌, subst}
@@ -12,8 +13,6 @@ use Rattle.value.specs.Value.{same_value}
 use Rattle.value.proofs.SameValue.{same_refl, same-sym}
 use Rattle.property.specs.declared.Property.{Property}
 use Rattle.property.specs.declared.Property.TheVariants.{Data, Accessor}
-use Rattle.property.specs.declared.OwnProperty.{OwnProperty}
-use Rattle.property.specs.declared.OwnProperty.TheVariants.{Absent, Present}
 use Rattle.store.specs.Store.{Store, World, own}
 use Rattle.internal_methods.specs.KeyList.{has_key}
 use Rattle.internal_methods.proofs.StoreClosed.{Made}
@@ -26,7 +25,6 @@ use Rattle.steps.specs.Perform.{Result, value, descriptor, absent, keys, own_res
 use Rattle.steps.specs.Response.{Effect}
 use Rattle.steps.specs.Run.{Call, Event, At, run, world_at}
 use Rattle.demands.specs.Lasting.{Tells, ReportsFixed, ReportsNonExtensible, by-is_extensible, by-prevent_extensions, ReportsAbsent, ShowsOwn, IsDataWith, Unreleased, StaysFixed, StaysNonExtensible, Lasting}
-use Rattle.demands.specs.Lasting
 use Rattle.steps.proofs.Steps.{Resulted}
 use Rattle.steps.proofs.Performed.{Says, boolean-is}
 use Rattle.steps.proofs.Places.{ran-said}
@@ -53,20 +51,20 @@ value-is v w h = cc
 keys-is : (ks ls : List PropertyKey) → keys ks ≡ keys ls → ks ≡ ls
 keys-is ks ls h = cc
 
-own_is : (p : Property) (d : OwnProperty) → descriptor p ≡ own_result d → Present p ≡ d
-own_is p Absent h = absurd (false≢true cc)
-own_is p (Present q) h = cc
+own_is : (p : Property) (d : Option Property) → descriptor p ≡ own_result d → Some p ≡ d
+own_is p None h = absurd (false≢true cc)
+own_is p (Some q) h = cc
 
-absent-is : (d : OwnProperty) → absent ≡ own_result d → Absent ≡ d
-absent-is Absent h = refl
-absent-is (Present q) h = absurd (false≢true cc)
+absent-is : (d : Option Property) → absent ≡ own_result d → None ≡ d
+absent-is None h = refl
+absent-is (Some q) h = absurd (false≢true cc)
 
-frozen-data : (d : OwnProperty) (v : Value) → frozen_as v d ≡ true → IsDataWith v (own_result d)
-frozen-data Absent v h = absurd (false≢true h)
-frozen-data (Present (Accessor g s e c)) v h = absurd (false≢true h)
-frozen-data (Present (Data w true e c)) v h = absurd (false≢true h)
-frozen-data (Present (Data w false e true)) v h = absurd (false≢true h)
-frozen-data (Present (Data w false e false)) v h = record { current = w; writable = false; enumerable = e; configurable = false; is = refl; same = h }
+frozen-data : (d : Option Property) (v : Value) → frozen_as v d ≡ true → IsDataWith v (own_result d)
+frozen-data None v h = absurd (false≢true h)
+frozen-data (Some (Accessor g s e c)) v h = absurd (false≢true h)
+frozen-data (Some (Data w true e c)) v h = absurd (false≢true h)
+frozen-data (Some (Data w false e true)) v h = absurd (false≢true h)
+frozen-data (Some (Data w false e false)) v h = record { current = w; writable = false; enumerable = e; configurable = false; is = refl; same = h }
 
 module _ (calls : List Call) where
   -- the store that the call at place i finds
@@ -78,9 +76,9 @@ module _ (calls : List Call) where
   pub fixed-learnt : (i : ℕ) (e : Event) (o : ℕ) (k : PropertyKey) (v : Value) → At (run calls) i e → ReportsFixed o k v e → (j : ℕ) → i < j → Unreleased (run calls) (suc i) j o → Frozen (σ j) o k v
   fixed-learnt i e o k v h t j l u =
       let (d, q, f) = says_at calls i e _ _ h t.told in
-      let p : Present (Data v false t.enumerable false) ≡ d = own_is _ d q in
+      let p : Some (Data v false t.enumerable false) ≡ d = own_is _ d q in
       let m = followed calls i e _ _ o j h t.told (made_at calls i e _ _ h t.told) (λ x. false≢true cc) l u in
-      frozen-lasts k v m.before.held (frozen-learnt k d v f (subst (λ (x : OwnProperty). frozen_as v x ≡ true) p (same_refl v)))
+      frozen-lasts k v m.before.held (frozen-learnt k d v f (subst (λ (x : Option Property). frozen_as v x ≡ true) p (same_refl v)))
 
   pub shut-learnt : (i : ℕ) (e : Event) (o : ℕ) → At (run calls) i e → ReportsNonExtensible o e → (j : ℕ) → i < j → Unreleased (run calls) (suc i) j o → Shut (σ j) o
   shut-learnt i e o h (by-is_extensible t) j l w =
@@ -95,7 +93,7 @@ module _ (calls : List Call) where
   absent-learnt i e o k h s (ReportsAbsent.by-get_own_property t) j l w =
       let (d, q, f) = says_at calls i e _ _ h t in
       let m = followed calls i e _ _ o j h t (made_at calls i e _ _ h t) (λ y. false≢true cc) l w in
-      lacking-lasts k m.before.held (lacking-learnt k (subst (λ (x : OwnProperty). Faithful (σ i) o k x) (sym (absent-is d q)) f) s)
+      lacking-lasts k m.before.held (lacking-learnt k (subst (λ (x : Option Property). Faithful (σ i) o k x) (sym (absent-is d q)) f) s)
   absent-learnt i e o k h s (ReportsAbsent.by-has_property t) j l w =
       let (x, q, f) = says_at calls i e _ _ h t in
       let m = followed calls i e _ _ o j h t (made_at calls i e _ _ h t) (λ y. false≢true cc) l w in
@@ -159,7 +157,7 @@ module _ (calls : List Call) where
   pub not-shown : (m : ℕ) (g : Event) (o : ℕ) (k : PropertyKey) → At (run calls) m g → Lacking (σ m) o k → ShowsOwn o k g → ⊥
   not-shown m g o k h a (ShowsOwn.by-get_own_property p t) =
       let (d, q, u) = says_at calls m g _ _ h t in
-      false≢true (subst (λ (x : OwnProperty). is_absent x ≡ true) (sym (own_is p d q)) (lacking-told k d u a))
+      false≢true (subst (λ (x : Option Property). is_absent x ≡ true) (sym (own_is p d q)) (lacking-told k d u a))
   not-shown m g o k h a (ShowsOwn.by-own_property_keys ks t n) =
       let (ls, q, u) = says_at calls m g _ _ h t in
       let b = a.at u.base in

@@ -1,8 +1,8 @@
 -- Every object has one name, which its making answers, which refusals 2 and 3 let pass, and which it keeps. Assumes nothing.
+use Rattle.std.specs.Prelude.{Option, None, Some}
 use Prim.Native.Nat.{ℕ, ◌<◌}
 use mathlib.Core.Path.{◌≡◌, refl, sym, ap, ◌∙◌, subst}
 use mathlib.Core.Bool.{Bool, true, false, not, ◌&&◌, beq, false≢true}
-use mathlib.Core.Option.{Option, none, some}
 use mathlib.Core.List.{List, []}
 use lib.Dec.{ltb}
 use borrow.Author.Tests.{ltb-true, lt-ltb}
@@ -41,7 +41,7 @@ use Rattle.demands.specs.Names.{NamesDecided, IsFunction, ObjectMade, NamesLast}
 
 -- What refusals 2 and 3 let pass -----------------------------------------------------------------
 
-is-named : (v : Value) (o : ℕ) → object_of v ≡ some o → (b : Bool) × (v ≡ named b o)
+is-named : (v : Value) (o : ℕ) → object_of v ≡ Some o → (b : Bool) × (v ≡ named b o)
 is-named value.Undefined o e = absurd (false≢true cc)
 is-named value.Null o e = absurd (false≢true cc)
 is-named (value.Boolean b) o e = absurd (false≢true cc)
@@ -81,9 +81,9 @@ live-bit : (ω : World) (o : ℕ) → bit (counts_of ω).live o ≡ is_live (loo
 unfolding lookup
 live-bit ω o = live-mark ω.store.objects o
 
-live-is : {y : Option Object} (x : Option Object) → y ≡ x → is_live y ≡ true → (z : Object) × (y ≡ some z)
-live-is none e h = absurd (false≢true (sym (ap is_live e) ∙ h))
-live-is (some x) e h = (x, e)
+live-is : {y : Option Object} (x : Option Object) → y ≡ x → is_live y ≡ true → (z : Object) × (y ≡ Some z)
+live-is None e h = absurd (false≢true (sym (ap is_live e) ∙ h))
+live-is (Some x) e h = (x, e)
 
 pub names-decided : (ω : World) (o : ℕ) → NamesDecided ω o
 names-decided ω o = record {
@@ -137,7 +137,7 @@ unfolding ran
 object-made ω numbered bytes sheet output = record {
   succeeds = λ m p u h.
       let (r, e) = made_ends ω numbered (sheet_of sheet) output u (perform-makes (context_of ω) maximum_calls maximum_properties (asked bytes) m (state (sheet_of sheet) maximum_calls)) (subst (λ (n : ℕ). n < maximum_objects) (occupied-counted ω.store.objects ∙ sym (live-counted ω.store numbered)) h) in
-      (r, ap (λ (x : Effect). x.response.ending) (step_is ω bytes sheet output none _ p refl) ∙ e);
+      (r, ap (λ (x : Effect). x.response.ending) (step_is ω bytes sheet output None _ p refl) ∙ e);
   named = λ r m e.
       let d = resulted r (ends ω bytes sheet output) e in
       object-named ω numbered r d.rest d.store (perform-makes (context_of ω) maximum_calls maximum_properties (asked bytes) m _) d.runs
@@ -152,14 +152,14 @@ object-made ω numbered bytes sheet output = record {
 
 -- only an ordinary object is callable
 record Callable (σ : Store) : Type 0 where
-  ordinary : (o : ℕ) (x : Object) → lookup σ o ≡ some x → is_function σ o ≡ true → IsOrdinary x
+  ordinary : (o : ℕ) (x : Object) → lookup σ o ≡ Some x → is_function σ o ≡ true → IsOrdinary x
 
 callable-grows : {σ τ : Store} → Grows σ τ → Callable σ → Callable τ
 callable-grows {σ} {τ} g h = record { ordinary = λ o y e f. go o y e f (lookup σ o) refl }
   where
-    go : (o : ℕ) (y : Object) → lookup τ o ≡ some y → is_function τ o ≡ true → (x : Option Object) → lookup σ o ≡ x → IsOrdinary y
-    go o y e f none i = g.added o y i e f
-    go o y e f (some x) i =
+    go : (o : ℕ) (y : Object) → lookup τ o ≡ Some y → is_function τ o ≡ true → (x : Option Object) → lookup σ o ≡ x → IsOrdinary y
+    go o y e f None i = g.added o y i e f
+    go o y e f (Some x) i =
         let (z, j, l) = g.lasts o x i in
         let q : z ≡ y = cc in
         subst IsOrdinary q (lasts-ordinary l (h.ordinary o x i (sym (g.named o x i) ∙ f)))
@@ -173,7 +173,7 @@ callable-given : (ω : World) → Coherent ω.store → Callable ω.store → (�
 callable-given ω c h σ (gives bytes sheet p) = callable-moves c.numbered h (ran-said ω bytes sheet).moves
 
 callable-empty : Callable empty.store
-callable-empty = record { ordinary = λ o x e _. let p : none ≡ some x = sym (lookup-empty o) ∙ e in absurd (false≢true cc) }
+callable-empty = record { ordinary = λ o x e _. let p : None ≡ Some x = sym (lookup-empty o) ∙ e in absurd (false≢true cc) }
 
 pub names-last : (calls : List Call) → NamesLast calls
 names-last calls = record {

@@ -1,11 +1,11 @@
 -- Refusal 14 asks for just that an object is named. Assumes nothing.
+use Rattle.std.specs.Prelude.{Option, None, Some, slice_get}
 use Prim.Native.Nat.{ℕ, zero, suc}
 use mathlib.Core.Path.{◌≡◌, refl, ap, ◌∙◌}
-use mathlib.Core.Bool.{true, false, not, false≢true}
-use mathlib.Core.Option.{Option, none, some}
+use mathlib.Core.Bool.{true, not, false≢true}
 use mathlib.Core.List.{List, [], ◌∷◌}
 use lib.Dec.{eqb}
-use lib.ListN.{get_or, get_elem?}
+use lib.ListN.{get_or}
 use borrow.Author.Tests.{eqb-true, eq-eqb, not-true}
 use Rattle.value.specs.declared.Value.{Value}
 use Rattle.value.specs.Value.{object_of}
@@ -19,28 +19,28 @@ use Rattle.store.specs.Store.{Store, lookup}
 use Rattle.store.specs.Release.{is_number, value_names, object_names, property_names, objects_name, properties_name, is_named}
 use Rattle.demands.specs.Releases.{Holds, by_value, by-getter, by-setter, Named, by-prototype, by-target, by-property, NamingDecided}
 
-value-named : (v : Value) (o : ℕ) → value_names v o ≡ true → object_of v ≡ some o
+value-named : (v : Value) (o : ℕ) → value_names v o ≡ true → object_of v ≡ Some o
 value-named v o h = go (object_of v) h
   where
-    go : (x : Option ℕ) → is_number o x ≡ true → x ≡ some o
-    go none e = absurd (false≢true e)
-    go (some p) e = ap (λ (n : ℕ). some n) (eqb-true p o e)
+    go : (x : Option ℕ) → is_number o x ≡ true → x ≡ Some o
+    go None e = absurd (false≢true e)
+    go (Some p) e = ap (λ (n : ℕ). Some n) (eqb-true p o e)
 
-names-value : (v : Value) (o : ℕ) → object_of v ≡ some o → value_names v o ≡ true
+names-value : (v : Value) (o : ℕ) → object_of v ≡ Some o → value_names v o ≡ true
 names-value v o e = ap (is_number o) e ∙ eq-eqb o o refl
 
 -- Objects -------------------------------------------------------------------------------
 
-object-named : (xs : List (Option Object)) (o : ℕ) → objects_name xs o ≡ true → (q : ℕ) × (x : Object) × (get_or xs q none ≡ some x) × (object_names (some x) o ≡ true)
+object-named : (xs : List (Option Object)) (o : ℕ) → objects_name xs o ≡ true → (q : ℕ) × (x : Object) × (get_or xs q None ≡ Some x) × (object_names (Some x) o ≡ true)
 unfolding objects_name
 object-named [] o h = absurd (false≢true h)
 object-named (x ∷ xs) o h = or_cases (object_names x o) (objects_name xs o) h (λ e. first x e) (λ e. let (q, y, f, g) = object-named xs o e in (suc q, y, f, g))
   where
-    first : (z : Option Object) → object_names z o ≡ true → (q : ℕ) × (y : Object) × (get_or (z ∷ xs) q none ≡ some y) × (object_names (some y) o ≡ true)
-    first none e = absurd (false≢true e)
-    first (some y) e = (zero, y, refl, e)
+    first : (z : Option Object) → object_names z o ≡ true → (q : ℕ) × (y : Object) × (get_or (z ∷ xs) q None ≡ Some y) × (object_names (Some y) o ≡ true)
+    first None e = absurd (false≢true e)
+    first (Some y) e = (zero, y, refl, e)
 
-names-object : (xs : List (Option Object)) (o q : ℕ) (x : Object) → get_or xs q none ≡ some x → object_names (some x) o ≡ true → objects_name xs o ≡ true
+names-object : (xs : List (Option Object)) (o q : ℕ) (x : Object) → get_or xs q None ≡ Some x → object_names (Some x) o ≡ true → objects_name xs o ≡ true
 unfolding objects_name
 names-object [] o q x e h = absurd (false≢true cc)
 names-object (y ∷ xs) o zero x e h = rw (e, h)
@@ -48,21 +48,21 @@ names-object (y ∷ xs) o (suc q) x e h = or_true_right (object_names y o) (obje
 
 -- Properties ----------------------------------------------------------------------------
 
-property-holds : (e : Entry) (p : Property) (o : ℕ) → e.property ≡ p → property_names p o ≡ true → (v : Value) × Holds e v × (object_of v ≡ some o)
+property-holds : (e : Entry) (p : Property) (o : ℕ) → e.property ≡ p → property_names p o ≡ true → (v : Value) × Holds e v × (object_of v ≡ Some o)
 property-holds e (Data v w n c) o f h = (v, by_value f, value-named v o h)
 property-holds e (Accessor g s n c) o f h = or_cases (value_names g o) (value_names s o) h (λ i. (g, by-getter f, value-named g o i)) (λ i. (s, by-setter f, value-named s o i))
 
-holds-property : (e : Entry) (v : Value) (o : ℕ) → Holds e v → object_of v ≡ some o → property_names e.property o ≡ true
+holds-property : (e : Entry) (v : Value) (o : ℕ) → Holds e v → object_of v ≡ Some o → property_names e.property o ≡ true
 holds-property e v o (by_value f) h = rw (f, names-value v o h)
 holds-property e v o (by-getter f) h = rw (f, names-value v o h)
 holds-property e v o (by-setter {g = g} f) h = ap (λ (p : Property). property_names p o) f ∙ or_true_right (value_names g o) (value_names v o) (names-value v o h)
 
-property-named : (es : List Entry) (o : ℕ) → properties_name es o ≡ true → (i : ℕ) × (e : Entry) × (get_elem? es i ≡ some e) × (property_names e.property o ≡ true)
+property-named : (es : List Entry) (o : ℕ) → properties_name es o ≡ true → (i : ℕ) × (e : Entry) × (slice_get es i ≡ Some e) × (property_names e.property o ≡ true)
 unfolding properties_name
 property-named [] o h = absurd (false≢true h)
 property-named (e ∷ es) o h = or_cases (property_names e.property o) (properties_name es o) h (λ f. (zero, e, refl, f)) (λ f. let (i, d, g, j) = property-named es o f in (suc i, d, g, j))
 
-names-property : (es : List Entry) (o i : ℕ) (e : Entry) → get_elem? es i ≡ some e → property_names e.property o ≡ true → properties_name es o ≡ true
+names-property : (es : List Entry) (o i : ℕ) (e : Entry) → slice_get es i ≡ Some e → property_names e.property o ≡ true → properties_name es o ≡ true
 unfolding properties_name
 names-property [] o i e f h = absurd (false≢true cc)
 names-property (d ∷ es) o zero e f h = let q : d ≡ e = cc in rw (q, h)
@@ -80,7 +80,7 @@ module _ (σ : Store) (o : ℕ) where
       let (v, a, b) = property-holds d d.property o refl g in
       by-property i d v f a b)
     where
-      by-object : (q : ℕ) (x : Object) → lookup σ q ≡ some x → object_names (some x) o ≡ true → Named σ o
+      by-object : (q : ℕ) (x : Object) → lookup σ q ≡ Some x → object_names (Some x) o ≡ true → Named σ o
       by-object q (Ordinary r) f g = by-prototype q r f (value-named r.prototype o g)
       by-object q (Proxy p) f g = let (a, b) = and-true (not p.revoked) (eqb p.target o) g in by-target q p f (not-true p.revoked a) (eqb-true p.target o b)
 

@@ -1,17 +1,15 @@
 -- Over every list of calls: what an object names is live, a new object has a free number, and numbers come back in the order in which they were released. Assumes nothing.
+use Rattle.std.specs.Prelude.{Option, None, Some}
 use Prim.Native.Nat.{ℕ, zero, suc, ◌≤◌, ◌<◌}
 use native.Mathlib.Omega.{arith}
 use mathlib.Core.Path.{◌≡◌, refl, sym, ap, ◌∙◌, subst}
 use mathlib.Core.Bool.{Bool, true, false, not, false≢true, true≢false}
-use mathlib.Core.Option.{Option, none, some}
 use mathlib.Core.List.{List, [], ◌∷◌, ◌++◌}
 use lib.Dec.{eqb, leb}
 use borrow.Author.Tests.{eq-eqb, ltb-true, leb-true, leb-false}
 use Rattle.value.specs.declared.Value.{Value}
 use Rattle.value.specs.declared.PropertyKey.{PropertyKey}
 use Rattle.value.specs.Value.{object_of}
-use Rattle.property.specs.declared.OwnProperty.{OwnProperty}
-use Rattle.property.specs.declared.OwnProperty.TheVariants.{Absent, Present}
 use Rattle.store.specs.declared.Object.{Object}
 use Rattle.store.specs.declared.Entry.{Entry}
 use Rattle.store.specs.Store.{Store, World, empty, lookup, own, add, first_or, rest, next_number, live_count, named, maximum_objects, maximum_properties}
@@ -31,7 +29,6 @@ use Rattle.steps.specs.Sequence.{Ran}
 use Rattle.steps.specs.Perform.{Result, value, boolean, maximum_calls}
 use Rattle.steps.specs.Response.{Effect, result}
 use Rattle.steps.specs.Step.{context_of, record_tests, ran}
-use Rattle.steps.specs.Step as step
 use Rattle.steps.specs.Run.{Call, Event, At, effect, run, world_at}
 use Rattle.steps.specs.Run as call
 use Rattle.steps.proofs.Made.{MadeOperation, names-made}
@@ -44,6 +41,7 @@ use Rattle.demands.specs.Lasting.{Tells}
 use Rattle.demands.specs.Releases.{Holds, by_value, by-getter, by-setter, Named, by-prototype, by-target, by-property, Makes, ReleasesHold}
 use Rattle.demands.proofs.Carrying.{told_is, told_at, made_at}
 use Rattle.demands.proofs.ReleasesHold.{done-is, release-gives}
+use Rattle.property.specs.declared.Property.{Property}
 
 -- What is named is live ---------------------------------------------------------------------
 
@@ -70,23 +68,23 @@ named_live σ o c d (by-prototype q r e h) = (c.ordinary q r e).made o h
 named_live σ o c d (by-target q p e f h) = subst (Made σ) h (c.proxy q p e f)
 named_live σ o c d (by-property i e v f h g) = (held-made σ e v (c.named e.owner e.key e.property (found-entry σ.properties d i e f)) h).made o g
 
-unowned : (σ : Store) → Closed σ → (o : ℕ) (k : PropertyKey) → lookup σ o ≡ none → own σ o k ≡ Absent
+unowned : (σ : Store) → Closed σ → (o : ℕ) (k : PropertyKey) → lookup σ o ≡ None → own σ o k ≡ None
 unowned σ c o k e = go (own σ o k) refl
   where
-    go : (x : OwnProperty) → own σ o k ≡ x → own σ o k ≡ Absent
-    go Absent f = f
-    go (Present p) f = let (x, g) = c.owned o k p f in absurd (false≢true cc)
+    go : (x : Option Property) → own σ o k ≡ x → own σ o k ≡ None
+    go None f = f
+    go (Some p) f = let (x, g) = c.owned o k p f in absurd (false≢true cc)
 
 -- Events --------------------------------------------------------------------------------------
 
-object_of_lem : (b : Bool) (o : ℕ) → object_of (named b o) ≡ some o
+object_of_lem : (b : Bool) (o : ℕ) → object_of (named b o) ≡ Some o
 object_of_lem true o = refl
 object_of_lem false o = refl
 
-same_object : (v : Value) (b : Bool) (o q : ℕ) → value v ≡ value (named b q) → object_of v ≡ some o → q ≡ o
+same_object : (v : Value) (b : Bool) (o q : ℕ) → value v ≡ value (named b q) → object_of v ≡ Some o → q ≡ o
 same_object v b o q e f =
     let g : v ≡ named b q = cc in
-    let h : some q ≡ some o = sym (object_of_lem b q) ∙ (ap object_of (sym g) ∙ f) in
+    let h : Some q ≡ Some o = sym (object_of_lem b q) ∙ (ap object_of (sym g) ∙ f) in
     cc
 
 module _ (calls : List Call) where
@@ -151,12 +149,12 @@ module _ (calls : List Call) where
     ran-moves e = subst (λ (y : Ran Result). Moves (σ i) (asked bytes) (result_of y.0) y.1) e (ran-said ω bytes sheet).moves
 
     -- an end without a result
-    failed-turn : {τ : Store} → σ (suc i) ≡ τ → Moves (σ i) (asked bytes) none τ → Turn i
+    failed-turn : {τ : Store} → σ (suc i) ≡ τ → Moves (σ i) (asked bytes) None τ → Turn i
     failed-turn w (Moves.remains g) = keeps (ap (λ (υ : Store). υ.released) w ∙ same-released g.numbers)
     failed-turn w (Moves.makes x b _ e _ _ _) = absurd (false≢true cc)
     failed-turn w (Moves.releases o _ e _) = absurd (false≢true cc)
 
-    done-turn : {r : Result} {τ : Store} → At (run calls) i event → (effect ω c).response.ending ≡ result r → first_failing (record_tests ω bytes sheet) ≡ none → σ (suc i) ≡ τ → Moves (σ i) (asked bytes) (some r) τ → Turn i
+    done-turn : {r : Result} {τ : Store} → At (run calls) i event → (effect ω c).response.ending ≡ result r → first_failing (record_tests ω bytes sheet) ≡ None → σ (suc i) ≡ τ → Moves (σ i) (asked bytes) (Some r) τ → Turn i
     unfolding add
     done-turn h a p w (Moves.remains g) = keeps (ap (λ (υ : Store). υ.released) w ∙ same-released g.numbers)
     done-turn {r} h a p w (Moves.makes x b m e _ _ f) =
@@ -268,11 +266,11 @@ module _ (calls : List Call) where
           end (follow j l (omega (arith, jl)) (waits-ahead w (live-outside (world_at calls j).store (coherent-at calls j).numbered q x live)))
 
   new-made : (i : ℕ) (e : Event) (o : ℕ) → At (run calls) i e → Makes e o
-      → (lookup (world_at calls i).store o ≡ none) × ((k : PropertyKey) → own (world_at calls (suc i)).store o k ≡ Absent)
+      → (lookup (world_at calls i).store o ≡ None) × ((k : PropertyKey) → own (world_at calls (suc i)).store o k ≡ None)
   new-made i e o h m =
       let a = makes-adds calls i e o h m in
       let c = coherent-at calls i in
-      let n = subst (λ (p : ℕ). lookup (world_at calls i).store p ≡ none) a.next (numbered-fresh (world_at calls i).store c.numbered a.room).free in
+      let n = subst (λ (p : ℕ). lookup (world_at calls i).store p ≡ None) a.next (numbered-fresh (world_at calls i).store c.numbered a.room).free in
       (n, λ k. ap (λ (τ : Store). own τ o k) a.store ∙ (own-add (world_at calls i).store a.object a.callable o k ∙ unowned (world_at calls i).store c.closed o k n))
 
   pub releases-hold : ReleasesHold calls

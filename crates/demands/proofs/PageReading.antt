@@ -1,12 +1,12 @@
 -- The lines of a page are read back. Assumes nothing.
+use Rattle.std.specs.Prelude.{Some, slice_get}
 use Prim.Native.Nat.{ℕ, suc, ◌+◌, ◌-◌, ◌*◌, ◌/◌, ◌%◌, ◌<◌}
 use native.Mathlib.Omega.{arith}
 use mathlib.Core.Path.{◌≡◌, refl, sym, ap, ◌∙◌}
 use mathlib.Core.Bool.{Bool, true, false}
-use mathlib.Core.Option.{some}
 use mathlib.Core.List.{List, [], ◌∷◌, ◌++◌, map}
 use lib.Dec.{eqb}
-use lib.ListN.{length, get_elem?, take, drop, length-append}
+use lib.ListN.{length, take, drop, length-append}
 use Rattle.value.specs.declared.Value.{Value}
 use Rattle.value.specs.declared.PropertyKey.{PropertyKey}
 use Rattle.value.specs.declared.PropertyKey.TheVariants.{String, Symbol}
@@ -85,13 +85,13 @@ lines-tell k l p q = record {
 
 -- Pages -------------------------------------------------------------------------------------
 
-lines-read : (xs : List (PropertyKey × Property)) → ((n : ℕ) (k : PropertyKey) (p : Property) → get_elem? xs n ≡ some (k, p) → key_number k < 1000) → lines_read (length xs) (lines xs) ≡ map as_shown xs
+lines-read : (xs : List (PropertyKey × Property)) → ((n : ℕ) (k : PropertyKey) (p : Property) → slice_get xs n ≡ Some (k, p) → key_number k < 1000) → lines_read (length xs) (lines xs) ≡ map as_shown xs
 unfolding lines_read lines
 lines-read [] h = refl
 lines-read ((k, p) ∷ xs) h =
     rw (front 47 (line k p) (lines xs) (length-line k p), behind 47 0 (line k p) (lines xs) (length-line k p), key-read k p (h 0 k p refl), property-read k p, lines-read xs (λ n l q e. h (suc n) l q e))
 
-page-read : (ω : World) (o : ℕ) → ((n : ℕ) (k : PropertyKey) (p : Property) → get_elem? (shown_on ω o) n ≡ some (k, p) → key_number k < 1000) → page_read (page ω o) ≡ map as_shown (shown_on ω o)
+page-read : (ω : World) (o : ℕ) → ((n : ℕ) (k : PropertyKey) (p : Property) → slice_get (shown_on ω o) n ≡ Some (k, p) → key_number k < 1000) → page_read (page ω o) ≡ map as_shown (shown_on ω o)
 unfolding page
 page-read ω o h =
     let n : length (names ++ lines (shown_on ω o)) / 47 - 1 ≡ length (shown_on ω o) = omega (arith, length-names, length-append names (lines (shown_on ω o)), length-lines (shown_on ω o)) in

@@ -1,12 +1,12 @@
 -- What is said of pages holds. Assumes nothing.
+use Rattle.std.specs.Prelude.{Option, None, Some, slice_get}
 use Prim.Native.Nat.{ℕ, zero, suc, ◌+◌, ◌*◌, ◌/◌, ◌%◌, ◌≤◌, ◌<◌}
 use native.Mathlib.Nat.{le_refl, le_trans, le-suc, le_of_lt}
 use native.Mathlib.Omega.{arith}
 use mathlib.Core.Path.{◌≡◌, refl, sym, ap, ◌∙◌, subst}
 use mathlib.Core.Bool.{Bool, true, false, ◌||◌, false≢true}
-use mathlib.Core.Option.{Option, none, some}
 use mathlib.Core.List.{List, [], ◌∷◌, map}
-use lib.ListN.{length, get_or, get_elem?, take, drop, drop_of_length-le}
+use lib.ListN.{length, get_or, take, drop, drop_of_length-le}
 use borrow.Author.Tests.{leb-false, lt-leb}
 use Rattle.value.specs.declared.Value.{Value}
 use Rattle.value.specs.declared.PropertyKey.{PropertyKey}
@@ -15,8 +15,6 @@ use Rattle.value.specs.PropertyKey.{same_key, key_number}
 use Rattle.value.proofs.SameKey.{key-eq}
 use Rattle.property.specs.declared.Property.{Property}
 use Rattle.property.specs.declared.Property.TheVariants.{Data, Accessor}
-use Rattle.property.specs.declared.OwnProperty.{OwnProperty}
-use Rattle.property.specs.declared.OwnProperty.TheVariants.{Absent, Present}
 use Rattle.store.specs.declared.OrdinaryObject.{OrdinaryObject}
 use Rattle.store.specs.declared.Object.TheVariants.{Ordinary}
 use Rattle.store.specs.Store.{Store, World, empty, lookup, own}
@@ -48,12 +46,12 @@ use Rattle.demands.proofs.LastingHolds.{fixed-learnt, shut-learnt, absent-learnt
 
 -- Demand 1 ----------------------------------------------------------------------------------
 
-element-below : {A : Type 0} (l : List A) (i : ℕ) → i < length l → (x : A) × (get_elem? l i ≡ some x)
+element-below : {A : Type 0} (l : List A) (i : ℕ) → i < length l → (x : A) × (slice_get l i ≡ Some x)
 element-below [] i h = absurd (omega (arith, h))
 element-below (x ∷ l) zero h = (x, refl)
 element-below (x ∷ l) (suc i) h = element-below l i (omega (arith, h))
 
-above-none : {A : Type 0} (l : List A) (i : ℕ) → get_elem? l i ≡ none → length l ≤ i
+above-none : {A : Type 0} (l : List A) (i : ℕ) → slice_get l i ≡ None → length l ≤ i
 above-none [] i h = omega arith
 above-none (x ∷ l) zero h = absurd (false≢true cc)
 above-none (x ∷ l) (suc i) h = omega (arith, above-none l i h)
@@ -91,10 +89,10 @@ module _ (ω : World) (o : ℕ) (output : List ℕ) where
 
 -- Lines ---------------------------------------------------------------------------------------
 
-pair_is : (x y : PropertyKey × Property) → some x ≡ some y → (x.0 ≡ y.0) × (x.1 ≡ y.1)
+pair_is : (x y : PropertyKey × Property) → Some x ≡ Some y → (x.0 ≡ y.0) × (x.1 ≡ y.1)
 pair_is x y e = let i : x ≡ y = cc in (ap (λ (z : PropertyKey × Property). z.0) i, ap (λ (z : PropertyKey × Property). z.1) i)
 
-line-stands : (xs : List (PropertyKey × Property)) (n : ℕ) (k : PropertyKey) (p : Property) → get_elem? xs n ≡ some (k, p) → take 47 (drop (47 * n) (lines xs)) ≡ line k p
+line-stands : (xs : List (PropertyKey × Property)) (n : ℕ) (k : PropertyKey) (p : Property) → slice_get xs n ≡ Some (k, p) → take 47 (drop (47 * n) (lines xs)) ≡ line k p
 unfolding lines
 line-stands [] n k p e = absurd (false≢true cc)
 line-stands ((l, q) ∷ xs) zero k p e =
@@ -104,7 +102,7 @@ line-stands ((l, q) ∷ xs) (suc n) k p e =
     let z : 47 * suc n ≡ 47 + 47 * n = omega arith in
     rw z (ap (take 47) (behind 47 (47 * n) (line l q) (lines xs) (length-line l q)) ∙ line-stands xs n k p e)
 
-line-none : (xs : List (PropertyKey × Property)) (n : ℕ) → get_elem? xs n ≡ none → take 47 (drop (47 * n) (lines xs)) ≡ []
+line-none : (xs : List (PropertyKey × Property)) (n : ℕ) → slice_get xs n ≡ None → take 47 (drop (47 * n) (lines xs)) ≡ []
 line-none xs n e = rw (drop_of_length-le (lines xs) {i = 47 * n} (omega (arith, length-lines xs, above-none xs n e)))
 
 -- the key's column stands first, and tells a key whose number has at most three digits
@@ -133,34 +131,34 @@ key-told (Symbol a) (Symbol b) h i e = ap Symbol (digits-told a b h i (ap (drop 
 
 module _ (σ : Store) (o : ℕ) where
   -- is what is there
-  pub shown-own : (ks : List PropertyKey) (n : ℕ) (k : PropertyKey) (p : Property) → get_elem? (own_of σ o ks) n ≡ some (k, p) → own σ o k ≡ Present p
+  pub shown-own : (ks : List PropertyKey) (n : ℕ) (k : PropertyKey) (p : Property) → slice_get (own_of σ o ks) n ≡ Some (k, p) → own σ o k ≡ Some p
   unfolding own_of
   shown-own [] n k p e = absurd (false≢true cc)
   shown-own (l ∷ ks) n k p e = go (own σ o l) refl n e (λ m. shown-own ks m k p)
     where
-      go : (x : OwnProperty) → own σ o l ≡ x → (m : ℕ) → get_elem? (with_own l x (own_of σ o ks)) m ≡ some (k, p)
-          → ((i : ℕ) → get_elem? (own_of σ o ks) i ≡ some (k, p) → own σ o k ≡ Present p) → own σ o k ≡ Present p
-      go Absent q m f rest = rest m f
-      go (Present r) q zero f rest = let (a, b) = pair_is (l, r) (k, p) f in rw (← a, q, b)
-      go (Present r) q (suc m) f rest = rest m f
+      go : (x : Option Property) → own σ o l ≡ x → (m : ℕ) → slice_get (with_own l x (own_of σ o ks)) m ≡ Some (k, p)
+          → ((i : ℕ) → slice_get (own_of σ o ks) i ≡ Some (k, p) → own σ o k ≡ Some p) → own σ o k ≡ Some p
+      go None q m f rest = rest m f
+      go (Some r) q zero f rest = let (a, b) = pair_is (l, r) (k, p) f in rw (← a, q, b)
+      go (Some r) q (suc m) f rest = rest m f
 
   -- every key that is there is shown
-  shown-has : (ks : List PropertyKey) (k : PropertyKey) (p : Property) → has_key k ks ≡ true → own σ o k ≡ Present p → (n : ℕ) × (get_elem? (own_of σ o ks) n ≡ some (k, p))
+  shown-has : (ks : List PropertyKey) (k : PropertyKey) (p : Property) → has_key k ks ≡ true → own σ o k ≡ Some p → (n : ℕ) × (slice_get (own_of σ o ks) n ≡ Some (k, p))
   unfolding own_of has_key
   shown-has [] k p h e = absurd (false≢true h)
   shown-has (l ∷ ks) k p h e = go (same_key l k) refl h (λ f. shown-has ks k p f e)
     where
-      later : (x : OwnProperty) → (n : ℕ) × (get_elem? (own_of σ o ks) n ≡ some (k, p)) → (n : ℕ) × (get_elem? (with_own l x (own_of σ o ks)) n ≡ some (k, p))
-      later Absent (n, f) = (n, f)
-      later (Present r) (n, f) = (suc n, f)
+      later : (x : Option Property) → (n : ℕ) × (slice_get (own_of σ o ks) n ≡ Some (k, p)) → (n : ℕ) × (slice_get (with_own l x (own_of σ o ks)) n ≡ Some (k, p))
+      later None (n, f) = (n, f)
+      later (Some r) (n, f) = (suc n, f)
 
-      go : (b : Bool) → same_key l k ≡ b → (b || has_key k ks) ≡ true → (has_key k ks ≡ true → (n : ℕ) × (get_elem? (own_of σ o ks) n ≡ some (k, p)))
-          → (n : ℕ) × (get_elem? (with_own l (own σ o l) (own_of σ o ks)) n ≡ some (k, p))
+      go : (b : Bool) → same_key l k ≡ b → (b || has_key k ks) ≡ true → (has_key k ks ≡ true → (n : ℕ) × (slice_get (own_of σ o ks) n ≡ Some (k, p)))
+          → (n : ℕ) × (slice_get (with_own l (own σ o l) (own_of σ o ks)) n ≡ Some (k, p))
       go true q f rest = let a : l ≡ k = key-eq l k q in rw (a, e) (0, refl)
       go false q f rest = later (own σ o l) (rest f)
 
 -- a key that is shown has its property beside it
-key-paired : (xs : List (PropertyKey × Property)) (n : ℕ) (k : PropertyKey) → get_elem? (map shown_key xs) n ≡ some k → (p : Property) × (get_elem? xs n ≡ some (k, p))
+key-paired : (xs : List (PropertyKey × Property)) (n : ℕ) (k : PropertyKey) → slice_get (map shown_key xs) n ≡ Some k → (p : Property) × (slice_get xs n ≡ Some (k, p))
 key-paired [] n k e = absurd (false≢true cc)
 key-paired ((l, p) ∷ xs) zero k e = let a : l ≡ k = cc in rw a (p, refl)
 key-paired (x ∷ xs) (suc n) k e = key-paired xs n k e
@@ -176,8 +174,8 @@ module _ (ω : World) (o : ℕ) where
   unfolding page
   page-names = front 47 names (lines (shown_on ω o)) length-names
 
-  shown-at-key : (n : ℕ) (k : PropertyKey) → get_elem? (ordinary_own_property_keys ω.strings ω.store o) n ≡ some k → (p : Property) × (get_elem? (shown_on ω o) n ≡ some (k, p))
-  shown-at-key n k e = key-paired (shown_on ω o) n k (ap (λ (ks : List PropertyKey). get_elem? ks n) (keys-shown ω o) ∙ e)
+  shown-at-key : (n : ℕ) (k : PropertyKey) → slice_get (ordinary_own_property_keys ω.strings ω.store o) n ≡ Some k → (p : Property) × (slice_get (shown_on ω o) n ≡ Some (k, p))
+  shown-at-key n k e = key-paired (shown_on ω o) n k (ap (λ (ks : List PropertyKey). slice_get ks n) (keys-shown ω o) ∙ e)
 
   page-lists : Lists (page ω o) (ordinary_own_property_keys ω.strings ω.store o)
   page-lists = record {
@@ -197,22 +195,22 @@ module _ (ω : World) (o : ℕ) where
 
   module _ (known : KnownKeys ω) where
     -- a line that has the key has its property
-    same_line : (k : PropertyKey) → key_number k < 1000 → (m : ℕ) → key_at (page ω o) m ≡ key_column k → (p : Property) × (own ω.store o k ≡ Present p) × (line_at (page ω o) (suc m) ≡ line k p)
-    same_line k small m h = go (get_elem? (shown_on ω o) m) refl
+    same_line : (k : PropertyKey) → key_number k < 1000 → (m : ℕ) → key_at (page ω o) m ≡ key_column k → (p : Property) × (own ω.store o k ≡ Some p) × (line_at (page ω o) (suc m) ≡ line k p)
+    same_line k small m h = go (slice_get (shown_on ω o) m) refl
       where
-        go : (x : Option (PropertyKey × Property)) → get_elem? (shown_on ω o) m ≡ x → (p : Property) × (own ω.store o k ≡ Present p) × (line_at (page ω o) (suc m) ≡ line k p)
-        go none e =
+        go : (x : Option (PropertyKey × Property)) → slice_get (shown_on ω o) m ≡ x → (p : Property) × (own ω.store o k ≡ Some p) × (line_at (page ω o) (suc m) ≡ line k p)
+        go None e =
             let z : take 4 (line_at (page ω o) (suc m)) ≡ [] = ap (take 4) (page-line m ∙ line-none (shown_on ω o) m e) in
             absurd (omega (arith, ap length (sym z ∙ h), length-key k))
-        go (some (l, q)) e =
+        go (Some (l, q)) e =
             let there = shown-own ω.store o _ m l q e in
             let stands = page-line m ∙ line-stands (shown_on ω o) m l q e in
             let same : l ≡ k = key-told l k (omega (arith, known.keys o l q there)) small (sym (ap (take 4) stands ∙ key-first l q) ∙ h) in
-            subst (λ (j : PropertyKey). (p : Property) × (own ω.store o j ≡ Present p) × (line_at (page ω o) (suc m) ≡ line j p)) same (q, there, stands)
+            subst (λ (j : PropertyKey). (p : Property) × (own ω.store o j ≡ Some p) × (line_at (page ω o) (suc m) ≡ line j p)) same (q, there, stands)
 
-    says : (k : PropertyKey) → key_number k < 1000 → (x : OwnProperty) → own ω.store o k ≡ x → Says (page ω o) k (own_result x)
-    says k small Absent e = lacks (λ n h. let (p, there, stands) = same_line k small n h in false≢true cc)
-    says k small (Present p) e =
+    says : (k : PropertyKey) → key_number k < 1000 → (x : Option Property) → own ω.store o k ≡ x → Says (page ω o) k (own_result x)
+    says k small None e = lacks (λ n h. let (p, there, stands) = same_line k small n h in false≢true cc)
+    says k small (Some p) e =
         let (n, f) = shown-has ω.store o _ k p (own-keys-has ω.strings ω.store o k ∙ rw e) e in
         has p n (page-line n ∙ line-stands (shown_on ω o) n k p f) (λ m h.
         let (q, there, stands) = same_line k small m h in
@@ -221,7 +219,7 @@ module _ (ω : World) (o : ℕ) where
 
 -- What steps answer -----------------------------------------------------------------------------
 
-module _ (ω : World) (bytes sheet output : List ℕ) (o : ℕ) (r : OrdinaryObject) (found : lookup ω.store o ≡ some (Ordinary r)) where
+module _ (ω : World) (bytes sheet output : List ℕ) (o : ℕ) (r : OrdinaryObject) (found : lookup ω.store o ≡ Some (Ordinary r)) where
   answers : (asks : Operation) (x y : Result) → asked bytes ≡ asks → (perform maximum_calls (context_of ω) asks).run (state (sheet_of sheet) maximum_calls) ≡ (done y (state (sheet_of sheet) 2047), ω.store)
       → (step ω bytes sheet output).response.ending ≡ result x → x ≡ y
   unfolding ran
@@ -252,7 +250,7 @@ pages-say calls = record {
 -- a page that is shown is the object's
 record Shown (ω : World) (o : ℕ) (text : List ℕ) : Type 0 where
   object : OrdinaryObject
-  found : lookup ω.store o ≡ some (Ordinary object)
+  found : lookup ω.store o ≡ Some (Ordinary object)
   is : text ≡ page ω o
 
 page-shown : {ω : World} {o : ℕ} {output : List ℕ} {x : Effect} (text : List ℕ) → PageEnds ω o output x → x.response.ending ≡ result (result.page text) → Shown ω o text
@@ -271,18 +269,18 @@ module _ (calls : List Call) where
       let q = ap (λ (c : Call). effect (world_at calls j) c) s.call in
       page-shown text (page-ends (world_at calls j) o s.output) (ap (λ (x : Effect). x.response.ending) (sym q) ∙ (ap (λ (x : Response). x.ending) (sym p.response) ∙ s.ending))
 
-  fixed-says : (j o : ℕ) (k : PropertyKey) (v : Value) (d : OwnProperty) → own (world_at calls j).store o k ≡ d → frozen_as v d ≡ true → SaysFixed (page (world_at calls j) o) k v
-  fixed-says j o k v Absent e h = absurd (false≢true h)
-  fixed-says j o k v (Present (Accessor g s n c)) e h = absurd (false≢true h)
-  fixed-says j o k v (Present (Data w true n c)) e h = absurd (false≢true h)
-  fixed-says j o k v (Present (Data w false n true)) e h = absurd (false≢true h)
-  fixed-says j o k v (Present (Data w false n false)) e h =
+  fixed-says : (j o : ℕ) (k : PropertyKey) (v : Value) (d : Option Property) → own (world_at calls j).store o k ≡ d → frozen_as v d ≡ true → SaysFixed (page (world_at calls j) o) k v
+  fixed-says j o k v None e h = absurd (false≢true h)
+  fixed-says j o k v (Some (Accessor g s n c)) e h = absurd (false≢true h)
+  fixed-says j o k v (Some (Data w true n c)) e h = absurd (false≢true h)
+  fixed-says j o k v (Some (Data w false n true)) e h = absurd (false≢true h)
+  fixed-says j o k v (Some (Data w false n false)) e h =
       let known = known_at calls j in
       record { current = w; enumerable = n; same = h; says = says (world_at calls j) o known k (omega (arith, known.keys o k _ e)) _ e }
 
-  absent-says : (j o : ℕ) (k : PropertyKey) → key_number k < 1000 → (d : OwnProperty) → own (world_at calls j).store o k ≡ d → is_absent d ≡ true → Says (page (world_at calls j) o) k absent
-  absent-says j o k small Absent e h = says (world_at calls j) o (known_at calls j) k small Absent e
-  absent-says j o k small (Present p) e h = absurd (false≢true h)
+  absent-says : (j o : ℕ) (k : PropertyKey) → key_number k < 1000 → (d : Option Property) → own (world_at calls j).store o k ≡ d → is_absent d ≡ true → Says (page (world_at calls j) o) k absent
+  absent-says j o k small None e h = says (world_at calls j) o (known_at calls j) k small None e
+  absent-says j o k small (Some p) e h = absurd (false≢true h)
 
   pub pages-last : PagesLast (run calls)
   pages-last = record {

@@ -1,13 +1,11 @@
 -- Steps that demand 1 accepts: those of the proved rows, and every method over an ordinary object with room. Assumes nothing.
-use Rattle.std.specs.Prelude.{ℕ, ◌*◌, ◌≤◌, ◌<◌, ◌≡◌, Bool, true, false, not, ◌&&◌, List, [], ◌∷◌, length}
-use Rattle.std.proofs.Math.Option.{none, some}
+use Rattle.std.specs.Prelude.{ℕ, ◌*◌, ◌≤◌, ◌<◌, ◌≡◌, Bool, true, false, not, ◌&&◌, List, [], ◌∷◌, length, None, Some}
 use Rattle.value.specs.declared.Value.{Value}
 use Rattle.value.specs.declared.Value.TheVariants.{Null}
 use Rattle.value.specs.declared.PropertyKey.{PropertyKey}
 use Rattle.value.specs.Value.{object_of}
 use Rattle.property.specs.declared.PropertyDescriptor.{PropertyDescriptor}
 use Rattle.property.specs.declared.Property.{Property}
-use Rattle.property.specs.declared.OwnProperty.TheVariants.{Present}
 use Rattle.property.specs.Fields.{is_accessor}
 use Rattle.store.specs.declared.OrdinaryObject.{OrdinaryObject}
 use Rattle.store.specs.declared.Object.TheVariants.{Ordinary}
@@ -49,9 +47,9 @@ accepted_all (calls ∷ others) = none_refused (run calls) && accepted_all other
 -- o is an ordinary object without a prototype, its own property k is no accessor, and the store has room for one property more
 pub record Plain (ω : World) (o : ℕ) (k : PropertyKey) : Type 0 where
   pub object : OrdinaryObject
-  pub found : lookup ω.store o ≡ some (Ordinary object)
+  pub found : lookup ω.store o ≡ Some (Ordinary object)
   pub alone : object.prototype ≡ Null
-  pub is_data : (p : Property) → own ω.store o k ≡ Present p → is_accessor p ≡ false
+  pub is_data : (p : Property) → own ω.store o k ≡ Some p → is_accessor p ≡ false
   pub room : length ω.store.properties < maximum_properties
 
 -- the eleven methods on o, with the key k where there is one; [[Set]] is for o itself
@@ -64,11 +62,11 @@ pub data OnPlain (o : ℕ) (k : PropertyKey) : Operation → Type 0 where
   by-define_own_property : (d : PropertyDescriptor) → OnPlain o k (define_own_property o k d)
   by-has_property : OnPlain o k (has_property o k)
   by-get : (receiver : Value) → OnPlain o k (get o k receiver)
-  by-set : (v receiver : Value) → object_of receiver ≡ some o → OnPlain o k (set o k v receiver)
+  by-set : (v receiver : Value) → object_of receiver ≡ Some o → OnPlain o k (set o k v receiver)
   by-delete : OnPlain o k (delete o k)
   by-own_property_keys : OnPlain o k (own_property_keys o)
 
 -- a step by one of them, whose records pass their tests, whose sheet is empty and whose output holds the object's keys, ends in a result
 pub record PlainAccepted (ω : World) (bytes sheet output : List ℕ) : Type 0 where
-  pub accepts : (o : ℕ) (k : PropertyKey) → first_failing (record_tests ω bytes sheet) ≡ none → sheet_of sheet ≡ [] → Plain ω o k → OnPlain o k (asked bytes)
+  pub accepts : (o : ℕ) (k : PropertyKey) → first_failing (record_tests ω bytes sheet) ≡ None → sheet_of sheet ≡ [] → Plain ω o k → OnPlain o k (asked bytes)
       → value_size * length (ordinary_own_property_keys ω.strings ω.store o) ≤ length output → (r : Result) × ((step ω bytes sheet output).response.ending ≡ result r)

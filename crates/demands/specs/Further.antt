@@ -1,9 +1,8 @@
 -- Further lasting reports, beyond demand 3: what a true from a writing method and from steps 18 and 19 says. Assumes nothing.
-use Rattle.std.specs.Prelude.{ℕ, suc, ◌<◌, ◌≡◌, true, false, List}
+use Rattle.std.specs.Prelude.{ℕ, suc, ◌<◌, ◌≡◌, true, List, Some}
 use Rattle.value.specs.declared.Value.{Value}
 use Rattle.value.specs.declared.PropertyKey.{PropertyKey}
 use Rattle.value.specs.Value.{same_value}
-use Rattle.property.specs.declared.Field.TheVariants.{Present}
 use Rattle.property.specs.declared.PropertyDescriptor.{PropertyDescriptor}
 use Rattle.property.specs.Fields.{is_false, value_field, writable_field}
 use Rattle.steps.specs.Operation.{Level, get_prototype_of, set_prototype_of, define_own_property, set, delete, set_integrity_level, test_integrity_level}
@@ -13,7 +12,7 @@ use Rattle.demands.specs.Lasting.{Tells, ReportsFixed, ReportsNonExtensible, Rep
 
 -- the descriptor has this value, and writable and configurable false
 pub record AsksFixed (d : PropertyDescriptor) (v : Value) : Type 0 where
-  pub value : value_field d.kind ≡ Present v
+  pub value : value_field d.kind ≡ Some v
   pub writable : is_false (writable_field d.kind) ≡ true
   pub configurable : is_false d.configurable ≡ true
 

@@ -1,6 +1,5 @@
 -- Kinds 7 and 8: every live object has one name, a value that only refusals 2 and 3 tell from others, and keeps it. Assumes nothing.
-use Rattle.std.specs.Prelude.{ℕ, ◌≤◌, ◌<◌, ◌≡◌, ◌↔◌, true, ◌&&◌, List, []}
-use Rattle.std.proofs.Math.Option.{none, some}
+use Rattle.std.specs.Prelude.{ℕ, ◌≤◌, ◌<◌, ◌≡◌, ◌↔◌, true, ◌&&◌, List, [], None, Some}
 use Rattle.value.specs.declared.Value.{Value}
 use Rattle.value.specs.declared.Value.TheVariants.{Function}
 use Rattle.value.specs.Value.{object_of}
@@ -20,17 +19,17 @@ use Rattle.demands.specs.Lasting.{Unreleased}
 
 -- of the values that name the object o, refusals 2 and 3 let pass exactly its name, while it is live
 pub record NamesDecided (ω : World) (o : ℕ) : Type 0 where
-  pub admits : (v : Value) → object_of v ≡ some o → ((is_made (counts_of ω) v && is_known (counts_of ω) v) ≡ true) ↔ (((x : Object) × (lookup ω.store o ≡ some x)) × (v ≡ name_of ω.store o))
+  pub admits : (v : Value) → object_of v ≡ Some o → ((is_made (counts_of ω) v && is_known (counts_of ω) v) ≡ true) ↔ (((x : Object) × (lookup ω.store o ≡ Some x)) × (v ≡ name_of ω.store o))
 
 -- n is a function with this prototype, extensible
 pub record IsFunction (σ : Store) (n : ℕ) (prototype : Value) : Type 0 where
-  pub found : lookup σ n ≡ some (Ordinary (record { prototype = prototype; extensible = true }))
+  pub found : lookup σ n ≡ Some (Ordinary (record { prototype = prototype; extensible = true }))
   pub callable : is_function σ n ≡ true
 
 -- a step that makes an object, from any world
 pub record ObjectMade (ω : World) (bytes sheet output : List ℕ) : Type 0 where
   -- it ends in a result, if its records pass, its sheet is empty and fewer than 32 objects are live
-  pub succeeds : makes_object (asked bytes) ≡ true → first_failing (record_tests ω bytes sheet) ≡ none → sheet_of sheet ≡ [] → occupied ω.store.objects < maximum_objects
+  pub succeeds : makes_object (asked bytes) ≡ true → first_failing (record_tests ω bytes sheet) ≡ None → sheet_of sheet ≡ [] → occupied ω.store.objects < maximum_objects
       → (r : Result) × ((step ω bytes sheet output).response.ending ≡ result r)
   -- its result is the name of the next number
   pub named : (r : Result) → makes_object (asked bytes) ≡ true → (step ω bytes sheet output).response.ending ≡ result r
@@ -42,6 +41,6 @@ pub record ObjectMade (ω : World) (bytes sheet output : List ℕ) : Type 0 wher
 -- over a list of calls
 pub record NamesLast (calls : List Call) : Type 0 where
   -- only an ordinary object is callable
-  pub ordinary : (i o : ℕ) (x : Object) → lookup (world_at calls i).store o ≡ some x → is_function (world_at calls i).store o ≡ true → (r : OrdinaryObject) × (x ≡ Ordinary r)
+  pub ordinary : (i o : ℕ) (x : Object) → lookup (world_at calls i).store o ≡ Some x → is_function (world_at calls i).store o ≡ true → (r : OrdinaryObject) × (x ≡ Ordinary r)
   -- an object keeps its name, until it is released
-  pub keeps : (i j o : ℕ) (x : Object) → i ≤ j → Unreleased (run calls) i j o → lookup (world_at calls i).store o ≡ some x → name_of (world_at calls j).store o ≡ name_of (world_at calls i).store o
+  pub keeps : (i j o : ℕ) (x : Object) → i ≤ j → Unreleased (run calls) i j o → lookup (world_at calls i).store o ≡ Some x → name_of (world_at calls j).store o ≡ name_of (world_at calls i).store o

@@ -1,7 +1,5 @@
 -- Pages: which calls for one are refused, what its lines say, for how long, and that they can be read back. Assumes nothing.
-use Rattle.std.specs.Prelude.{ℕ, zero, suc, ◌+◌, ◌-◌, ◌*◌, ◌/◌, ◌≤◌, ◌<◌, ◌≡◌, ◌↔◌, Bool, true, false, List, [], ◌∷◌, map, eqb, length, take, drop}
-use Rattle.std.proofs.Math.Option.{Option, none, some}
-use Rattle.std.proofs.Math.ListN.{get_elem?}
+use Rattle.std.specs.Prelude.{ℕ, zero, suc, ◌+◌, ◌-◌, ◌*◌, ◌/◌, ◌≤◌, ◌<◌, ◌≡◌, ◌↔◌, Bool, true, false, List, [], ◌∷◌, map, eqb, length, take, drop, Option, None, Some, slice_get}
 use Rattle.value.specs.declared.Value.{Value}
 use Rattle.value.specs.declared.PropertyKey.{PropertyKey}
 use Rattle.value.specs.declared.PropertyKey.TheVariants.{String, Symbol}
@@ -36,11 +34,11 @@ line_size = 47
 -- the conditions under which there is no page
 pub data PageRefusal (ω : World) (o : ℕ) (output : List ℕ) : ℕ → Type 0 where
   -- 2: no live object has the number
-  missing : lookup ω.store o ≡ none → PageRefusal ω o output 2
+  missing : lookup ω.store o ≡ None → PageRefusal ω o output 2
   -- 3: it is a proxy
-  proxied : {p : ProxyObject} → lookup ω.store o ≡ some (Proxy p) → PageRefusal ω o output 3
+  proxied : {p : ProxyObject} → lookup ω.store o ≡ Some (Proxy p) → PageRefusal ω o output 3
   -- 11: the names and each own key take a line, and the output has fewer bytes
-  short : {r : OrdinaryObject} → lookup ω.store o ≡ some (Ordinary r) → length output < line_size * suc (length (ordinary_own_property_keys ω.strings ω.store o)) → PageRefusal ω o output 11
+  short : {r : OrdinaryObject} → lookup ω.store o ≡ Some (Ordinary r) → length output < line_size * suc (length (ordinary_own_property_keys ω.strings ω.store o)) → PageRefusal ω o output 11
 
 -- what demand 1 says of a call for a page
 pub record PageDecided (ω : World) (o : ℕ) (output : List ℕ) : Type 0 where
@@ -65,7 +63,7 @@ pub record Lists (text : List ℕ) (ks : List PropertyKey) : Type 0 where
   pub sized : length text ≡ line_size * suc (length ks)
   pub formed : (n : ℕ) → n ≤ length ks → LineFormed (line_at text n)
   pub headed : line_at text 0 ≡ names
-  pub keyed : (n : ℕ) (k : PropertyKey) → get_elem? ks n ≡ some k → key_at text n ≡ key_column k
+  pub keyed : (n : ℕ) (k : PropertyKey) → slice_get ks n ≡ Some k → key_at text n ≡ key_column k
 
 -- what a text says of a key: no line has it; or a line has it with the property, and so has every line that has the key
 pub data Says (text : List ℕ) (k : PropertyKey) : Result → Type 0 where
@@ -75,10 +73,10 @@ pub data Says (text : List ℕ) (k : PropertyKey) : Result → Type 0 where
 -- the pages of ordinary objects, in each world of a list of calls
 pub record PagesSay (calls : List Call) : Type 0 where
   -- a page lists the keys that [[OwnPropertyKeys]] answers in that world
-  pub listed : (i o : ℕ) (r : OrdinaryObject) (bytes sheet output : List ℕ) (ks : List PropertyKey) → lookup (world_at calls i).store o ≡ some (Ordinary r)
+  pub listed : (i o : ℕ) (r : OrdinaryObject) (bytes sheet output : List ℕ) (ks : List PropertyKey) → lookup (world_at calls i).store o ≡ Some (Ordinary r)
       → asked bytes ≡ own_property_keys o → (step (world_at calls i) bytes sheet output).response.ending ≡ result (keys ks) → Lists (page (world_at calls i) o) ks
   -- and says of a key what [[GetOwnProperty]] answers in that world; every key that refusal 3 lets pass has a number below 1,000
-  pub told : (i o : ℕ) (r : OrdinaryObject) (bytes sheet output : List ℕ) (k : PropertyKey) (x : Result) → lookup (world_at calls i).store o ≡ some (Ordinary r)
+  pub told : (i o : ℕ) (r : OrdinaryObject) (bytes sheet output : List ℕ) (k : PropertyKey) (x : Result) → lookup (world_at calls i).store o ≡ Some (Ordinary r)
       → asked bytes ≡ get_own_property o k → key_number k < 1000 → (step (world_at calls i) bytes sheet output).response.ending ≡ result x → Says (page (world_at calls i) o) k x
 
 -- Lasting reports -----------------------------------------------------------------------------
@@ -114,8 +112,8 @@ unfoldable pub key_read : List ℕ → PropertyKey
 key_read l = pick (eqb (byte_at l 0) 115) (String (decimal_at l 1)) (Symbol (decimal_at l 1))
 
 abbrev pub bytes_or : Option (List ℕ) → List ℕ
-bytes_or none = []
-bytes_or (some bytes) = bytes
+bytes_or None = []
+bytes_or (Some bytes) = bytes
 
 -- the value of the 18 digits from i on
 unfoldable pub value_read : List ℕ → ℕ → Value

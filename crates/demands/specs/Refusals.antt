@@ -1,6 +1,5 @@
 -- Demand 1: which calls are refused, with which number, and what a call may change. Assumes nothing.
-use Rattle.std.specs.Prelude.{ℕ, suc, ◌+◌, ◌-◌, ◌≤◌, ◌<◌, ◌≡◌, ◌↔◌, true, false, List, [], ◌∷◌, ◌++◌, length}
-use Rattle.std.proofs.Math.Option.{Option, none, some}
+use Rattle.std.specs.Prelude.{ℕ, suc, ◌+◌, ◌≤◌, ◌<◌, ◌≡◌, ◌↔◌, true, false, List, [], ◌∷◌, ◌++◌, length, Option, None, Some}
 use Rattle.value.specs.declared.Value.{Value}
 use Rattle.text.specs.Strings.{number_of, maximum_length, maximum_strings}
 use Rattle.store.specs.declared.Object.{Object}
@@ -42,34 +41,34 @@ leaving rest (done r s) = done r (state rest s.calls)
 -- how many numbers have a live object
 unfoldable pub occupied : List (Option Object) → ℕ
 occupied [] = 0
-occupied (none ∷ xs) = occupied xs
-occupied (some x ∷ xs) = suc (occupied xs)
+occupied (None ∷ xs) = occupied xs
+occupied (Some x ∷ xs) = suc (occupied xs)
 
 -- the refusals of docs/REFERENCE.md, by their numbers: each condition says why
 pub data Refusal (ω : World) (bytes sheet output : List ℕ) : ℕ → Type 0 where
   -- 1 to 3, 14 and 4 over the step, then 1 to 3 over the sheet: the first test that fails
-  inadmissible : {n : ℕ} → first_failing (record_tests ω bytes sheet) ≡ some n → Refusal ω bytes sheet output n
+  inadmissible : {n : ℕ} → first_failing (record_tests ω bytes sheet) ≡ Some n → Refusal ω bytes sheet output n
   -- 7: an object is to be made, and 32 are live
-  crowded : first_failing (record_tests ω bytes sheet) ≡ none → makes_object (asked bytes) ≡ true → maximum_objects ≤ occupied ω.store.objects → Refusal ω bytes sheet output 7
+  crowded : first_failing (record_tests ω bytes sheet) ≡ None → makes_object (asked bytes) ≡ true → maximum_objects ≤ occupied ω.store.objects → Refusal ω bytes sheet output 7
   -- 7: 256 properties are there, and with room for one more the same step ends in true, with one property more
-  full : {τ : Store} {s : State} → first_failing (record_tests ω bytes sheet) ≡ none → maximum_properties ≤ length ω.store.properties
+  full : {τ : Store} {s : State} → first_failing (record_tests ω bytes sheet) ≡ None → maximum_properties ≤ length ω.store.properties
       → run_with ω bytes (suc (length ω.store.properties)) (sheet_of sheet) maximum_calls ≡ (done (boolean true) s, τ)
       → length τ.properties ≡ suc (length ω.store.properties) → Refusal ω bytes sheet output 7
   -- 8: there is no next answer; all were taken
-  spent : {s : State} → first_failing (record_tests ω bytes sheet) ≡ none → (ran ω bytes sheet).0 ≡ failed (Refused 8) s → s.answers ≡ [] → Refusal ω bytes sheet output 8
+  spent : {s : State} → first_failing (record_tests ω bytes sheet) ≡ None → (ran ω bytes sheet).0 ≡ failed (Refused 8) s → s.answers ≡ [] → Refusal ω bytes sheet output 8
   -- 9: the last answer taken cannot be read as what was asked for; with a throw in its place the same step ends in that throw, as many answers used
-  unreadable : {rest : List Answer} {calls : ℕ} (used : List Answer) (a : Answer) (r : Reading) → first_failing (record_tests ω bytes sheet) ≡ none → sheet_of sheet ≡ used ++ (a ∷ rest)
+  unreadable : {rest : List Answer} {calls : ℕ} (used : List Answer) (a : Answer) (r : Reading) → first_failing (record_tests ω bytes sheet) ≡ None → sheet_of sheet ≡ used ++ (a ∷ rest)
       → is_unreadable r a ≡ true → (ran ω bytes sheet).0 ≡ failed (Refused 9) (state rest calls)
       → ((v : Value) → (run_with ω bytes maximum_properties (used ++ (throw v ∷ rest)) maximum_calls).0 ≡ failed (Thrown v) (state rest calls)) → Refusal ω bytes sheet output 9
   -- 10: no call is left, and with any larger budget the same step makes more than 2,048
-  exhausted : first_failing (record_tests ω bytes sheet) ≡ none → calls_made maximum_calls (ran ω bytes sheet).0 ≡ maximum_calls
+  exhausted : first_failing (record_tests ω bytes sheet) ≡ None → calls_made maximum_calls (ran ω bytes sheet).0 ≡ maximum_calls
       → ((more : ℕ) → 0 < more → maximum_calls < calls_made (maximum_calls + more) (run_with ω bytes maximum_properties (sheet_of sheet) (maximum_calls + more)).0) → Refusal ω bytes sheet output 10
   -- 13: the run ends, and answers remain unread: whatever stands in their place, or nothing, the same step ends the same
-  unread : (used : List Answer) (a : Answer) (rest : List Answer) → first_failing (record_tests ω bytes sheet) ≡ none → sheet_of sheet ≡ used ++ (a ∷ rest)
+  unread : (used : List Answer) (a : Answer) (rest : List Answer) → first_failing (record_tests ω bytes sheet) ≡ None → sheet_of sheet ≡ used ++ (a ∷ rest)
       → Accepted (ending_of (ran ω bytes sheet).0)
       → ((others : List Answer) → (run_with ω bytes maximum_properties (used ++ others) maximum_calls).0 ≡ leaving others (ran ω bytes sheet).0) → Refusal ω bytes sheet output 13
   -- 11: every answer was read, the keys take 9 bytes each, and the output has fewer
-  short : {r : Result} {s : State} → first_failing (record_tests ω bytes sheet) ≡ none → (ran ω bytes sheet).0 ≡ done r s → s.answers ≡ [] → output_holds r output ≡ false
+  short : {r : Result} {s : State} → first_failing (record_tests ω bytes sheet) ≡ None → (ran ω bytes sheet).0 ≡ done r s → s.answers ≡ [] → output_holds r output ≡ false
       → Refusal ω bytes sheet output 11
 
 -- what changes the store: a result, or a TypeError or a throw of step 18, which wrote before it
@@ -105,10 +104,10 @@ pub record StepDecided (ω : World) (bytes sheet output : List ℕ) : Type 0 whe
   -- an accepted step has read every answer, and reports as many as the sheet counts in its first byte
   pub consumes : Accepted (step ω bytes sheet output).response.ending → (left_in (ran ω bytes sheet).0 ≡ []) × ((step ω bytes sheet output).response.answers ≡ byte_at sheet 0)
   -- the sheet is spent only once all of it is read: with a longer one, whatever comes, all these answers are used
-  pub reads : {s : State} → (ran ω bytes sheet).0 ≡ failed (Refused 8) s → first_failing (record_tests ω bytes sheet) ≡ none → (more : List Answer)
+  pub reads : {s : State} → (ran ω bytes sheet).0 ≡ failed (Refused 8) s → first_failing (record_tests ω bytes sheet) ≡ None → (more : List Answer)
       → LeftOf (left_in ((perform maximum_calls (context_of ω) (asked bytes)).run (state (sheet_of sheet ++ more) maximum_calls)).0) more
   -- the bound on depth never decides: the 2,048 calls do
-  pub depth : first_failing (record_tests ω bytes sheet) ≡ none → (n : ℕ) → maximum_calls ≤ n
+  pub depth : first_failing (record_tests ω bytes sheet) ≡ None → (n : ℕ) → maximum_calls ≤ n
       → (perform n (context_of ω) (asked bytes)).run (state (sheet_of sheet) maximum_calls) ≡ ran ω bytes sheet
 
 -- the conditions under which a string is not entered
@@ -116,7 +115,7 @@ pub data EntryRefusal (ω : World) (units : List ℕ) : ℕ → Type 0 where
   -- 3: it exceeds 32 code units
   long : maximum_length < length units → EntryRefusal ω units 3
   -- 7: it would be the 257th string
-  full : length units ≤ maximum_length → number_of ω.strings units ≡ none → maximum_strings ≤ length ω.strings → EntryRefusal ω units 7
+  full : length units ≤ maximum_length → number_of ω.strings units ≡ None → maximum_strings ≤ length ω.strings → EntryRefusal ω units 7
 
 -- what demand 1 says of entering a string
 pub record EntryDecided (ω : World) (units : List ℕ) : Type 0 where

@@ -1,25 +1,21 @@
 -- The proved rows of docs/REFERENCE.md: one table, each row with what the definitions compute and what it must be. Assumes nothing.
-use Rattle.std.specs.Prelude.{ℕ, zero, suc, Bool, true, false, List, [], ◌∷◌, ◌++◌, pos, replicate}
-use Rattle.std.proofs.Math.Option.{Option, none, some}
+use Rattle.std.specs.Prelude.{ℕ, Bool, true, false, List, [], ◌∷◌, ◌++◌, pos, replicate, None, Some}
 use Rattle.std.specs.Float.{binary64}
 use Rattle.std.specs.Float.Ieee.{of_bits}
 use Rattle.value.specs.declared.Value.{Value}
 use Rattle.value.specs.declared.Value.TheVariants.{Undefined, Integer32, Float64}
 use Rattle.value.specs.Value.{same_value}
-use Rattle.property.specs.declared.Flag.TheVariants as flag
-use Rattle.property.specs.declared.Field.TheVariants as field
 use Rattle.property.specs.declared.DescriptorKind.TheVariants as kind
 use Rattle.property.specs.declared.PropertyDescriptor.{PropertyDescriptor}
 use Rattle.property.specs.declared.Property.{Property}
 use Rattle.property.specs.declared.Property.TheVariants.{Data}
-use Rattle.property.specs.declared.OwnProperty.TheVariants.{Absent, Present}
 use Rattle.property.specs.Descriptor.{complete}
 use Rattle.property.specs.Validate.{validate, is_accepted}
 use Rattle.property.specs.ArrayIndex.{array_index}
 use Rattle.internal_methods.specs.Messages.{codes}
 use Rattle.record.specs.Step.{is_some}
-use Rattle.steps.specs.Perform.{Result, absent}
-use Rattle.steps.specs.Response.{Ending, refused, result, type_error, Response, refusal}
+use Rattle.steps.specs.Perform.{absent}
+use Rattle.steps.specs.Response.{Ending, result, type_error, Response, refusal}
 use Rattle.steps.specs.Run.{Call, step, enter, Event, run}
 
 pub data Cell : Type 0 where
@@ -141,13 +137,13 @@ abbrev pub float : ℕ → Value
 float bits = Float64 (of_bits binary64 bits)
 
 abbrev pub empty_descriptor : PropertyDescriptor
-empty_descriptor = record { enumerable = flag.Absent; configurable = flag.Absent; kind = kind.Generic }
+empty_descriptor = record { enumerable = None; configurable = None; kind = kind.Generic }
 
 abbrev pub value_descriptor : ℕ → PropertyDescriptor
 value_descriptor n = record {
-  enumerable = flag.Absent;
-  configurable = flag.Absent;
-  kind = kind.Data (field.Present (integer n)) flag.Absent;
+  enumerable = None;
+  configurable = None;
+  kind = kind.Data (Some (integer n)) None;
 }
 
 abbrev pub is_index : List ℕ → Cell
@@ -155,7 +151,7 @@ is_index text = test (is_some (array_index text))
 
 -- validated over 70000, neither writable nor configurable
 abbrev pub over_sealed : ℕ → Cell
-over_sealed n = test (is_accepted (validate true (value_descriptor n) (Present (Data (integer 70000) false true false))))
+over_sealed n = test (is_accepted (validate true (value_descriptor n) (Some (Data (integer 70000) false true false))))
 
 -- The table -------------------------------------------------------------------------
 
@@ -184,7 +180,7 @@ rows =
     -- empty descriptor completed: data, undefined, all false
     ∷ one (property (complete empty_descriptor)) (property (Data Undefined false false false))
     -- current absent, not extensible: false
-    ∷ one (test (is_accepted (validate false (value_descriptor 1) Absent))) (test false)
+    ∷ one (test (is_accepted (validate false (value_descriptor 1) None))) (test false)
     -- sealed 70000, value 4464 / 70000: false / true
     ∷ two (over_sealed 4464) (over_sealed 70000) (test false) (test true)
     -- get answers 4464, sealed 70000: message 17, 2 calls

@@ -1,2 +1,1 @@
-pub mod OperationLaws
 pub mod DecidedHolds

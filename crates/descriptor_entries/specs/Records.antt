@@ -1,14 +1,10 @@
 -- A descriptor by itself as a record: what it reads as, and refusals 1 to 4 over one and over two. Assumes nothing.
-use Rattle.std.specs.Prelude.{ℕ, Bool, ◌&&◌, cond, List, [], ◌∷◌, eqb, length}
-use Rattle.std.proofs.Math.Option.{Option}
-use Rattle.property.specs.declared.DescriptorObject.{DescriptorObject}
+use Rattle.std.specs.Prelude.{ℕ, Bool, ◌&&◌, List, [], ◌∷◌, eqb, length, Option, None, Some, Result, Ok, Err}
 use Rattle.property.specs.declared.PropertyDescriptor.{PropertyDescriptor}
 use Rattle.property.specs.Descriptor.{to_property_descriptor}
 use Rattle.record.specs.declared.Counts.{Counts}
 use Rattle.record.specs.Descriptor.{descriptor_size, descriptor_at, is_descriptor_at}
 use Rattle.record.specs.Tests.{is_made, is_known, descriptor_passes, is_descriptor, first_failing}
-use Rattle.descriptor_entries.specs.declared.records.Reading.{Reading}
-use Rattle.descriptor_entries.specs.declared.records.Reading.TheVariants.{Malformed, Record}
 
 -- refusal 1 over one record, and 2 to 4
 abbrev pub is_record : List ℕ → Bool
@@ -33,19 +29,13 @@ one_refusal n a = first_failing ((1, is_record a) ∷ (2, are_made n a) ∷ (3, 
 abbrev pub two_refusal : Counts → List ℕ → List ℕ → Option ℕ
 two_refusal n a b = first_failing ((1, is_record a && is_record b) ∷ (2, are_made n a && are_made n b) ∷ (3, are_known n a && are_known n b) ∷ (4, is_usable a && is_usable b) ∷ [])
 
--- what the code reads and tests in steps: a record, and the tests after the first
-unfoldable pub read_of : List ℕ → Reading
-read_of bytes = cond (is_record bytes) (Record (descriptor_at bytes 0)) Malformed
+-- the value, unless it is refused
+abbrev pub unless : {A : Type 0} → Option ℕ → A → Result A ℕ
+unless (Some i) x = Err i
+unless None x = Ok x
 
-unfoldable pub later : Bool → Bool → Bool → Option ℕ
-later made known usable = first_failing ((2, made) ∷ (3, known) ∷ (4, usable) ∷ [])
+unfoldable pub one_descriptor : Counts → List ℕ → Result PropertyDescriptor ℕ
+one_descriptor n bytes = unless (one_refusal n bytes) (descriptor_of bytes)
 
-unfoldable pub later_one : Counts → DescriptorObject → Option ℕ
-later_one n d = later (descriptor_passes (is_made n) d) (descriptor_passes (is_known n) d) (is_descriptor d)
-
-unfoldable pub later_two : Counts → DescriptorObject → DescriptorObject → Option ℕ
-later_two n a b =
-    later
-    (descriptor_passes (is_made n) a && descriptor_passes (is_made n) b)
-    (descriptor_passes (is_known n) a && descriptor_passes (is_known n) b)
-    (is_descriptor a && is_descriptor b)
+unfoldable pub two_descriptors : Counts → List ℕ → List ℕ → Result (PropertyDescriptor × PropertyDescriptor) ℕ
+two_descriptors n a b = unless (two_refusal n a b) (descriptor_of a, descriptor_of b)

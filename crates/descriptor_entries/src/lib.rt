@@ -3,124 +3,97 @@
 #![tactic(auto)]
 
 ghost use Rattle.std.specs.Prelude.{◌≡◌};
-ghost use Rattle.descriptor_entries.specs.Entries.{counts_in, answer_report, after_report, verdict_report, is_accepted, failed_test, complete_over, validate_over, merge_over};
+ghost use Rattle.descriptor_entries.specs.Entries.{counts_in, completed_report, answer_report, verdict_report, is_accepted, failed_test, complete_over, validate_over, merge_over};
 
-use crate::operations::{DescriptorAnswer, Verdict};
-use property::OwnProperty;
+use crate::operations::Verdict;
+use property::Property;
 use record::Counts;
 use steps::{Completion, Outcome, Report};
+use store_read::StoreWords;
 
 pub mod operations;
 mod records;
 
-// How many objects and strings the memory holds, and which objects are callable, if it is a store and a table.
-#[derive(Clone, Copy)]
-pub enum Held {
-    Counts(Counts),
-    Malformed,
-}
-
-fn counts_in(words: &[u64], strings: &[u16]) -> Held
+#[tactic(auto, unfolding(crate::specs::Entries::counts_in, reporting::specs::Memory::is_memory))]
+fn counts_in(words: &[u64], strings: &[u16]) -> Result<Counts, u64>
     ensures { result ≡ counts_in words.now strings.now }
 {
     if reporting::is_memory(words, strings) {
-        return Held::Counts(step_records::counts_of(words, strings));
+        Ok(step_records::counts_of(StoreWords { words }, strings))
+    } else {
+        Err(1)
     }
-    Held::Malformed
 }
 
-fn answer_report(answer: DescriptorAnswer) -> Report
+fn completed_report(completion: Completion) -> Report
+    ensures { result ≡ completed_report completion }
+{
+    Report {
+        outcome: Outcome::Result(completion),
+        answers: 0,
+        calls: 0,
+    }
+}
+
+fn answer_report(answer: Result<Property, u64>) -> Report
     ensures { result ≡ answer_report answer }
 {
     match answer {
-        DescriptorAnswer::Refused(n) => reporting::refused(n),
-        DescriptorAnswer::Property(p) => Report {
-            outcome: Outcome::Result(Completion::Descriptor(p)),
-            answers: 0,
-            calls: 0,
-        },
-    }
-}
-
-fn after_report(after: OwnProperty) -> Report
-    ensures { result ≡ after_report after }
-{
-    match after {
-        OwnProperty::Absent => Report {
-            outcome: Outcome::Result(Completion::Absent),
-            answers: 0,
-            calls: 0,
-        },
-        OwnProperty::Present(p) => Report {
-            outcome: Outcome::Result(Completion::Descriptor(p)),
-            answers: 0,
-            calls: 0,
-        },
+        Ok(p) => completed_report(Completion::Descriptor(p)),
+        Err(n) => reporting::refused(n),
     }
 }
 
 // The report of a verdict: the property after it.
-pub fn verdict_report(verdict: Verdict) -> Report
+pub fn verdict_report(verdict: Result<Verdict, u64>) -> Report
     ensures { result ≡ verdict_report verdict }
 {
     match verdict {
-        Verdict::Refused(n) => reporting::refused(n),
-        Verdict::Verdict(_, _, after) => after_report(after),
+        Ok(v) => completed_report(v.after.map_or(Completion::Absent, Completion::Descriptor)),
+        Err(n) => reporting::refused(n),
     }
 }
 
 // Yes; a refusal is none.
-pub fn is_accepted(verdict: Verdict) -> bool
+pub fn is_accepted(verdict: Result<Verdict, u64>) -> bool
     ensures { result ≡ is_accepted verdict }
 {
-    match verdict {
-        Verdict::Refused(_) => false,
-        Verdict::Verdict(accepted, _, _) => accepted,
-    }
+    verdict.is_ok_and(|v| v.accepted)
 }
 
 // The first test that fails; 0 where there is none, and for a refusal.
-pub fn failed_test(verdict: Verdict) -> u64
+pub fn failed_test(verdict: Result<Verdict, u64>) -> u64
     ensures { result ≡ failed_test verdict }
 {
-    match verdict {
-        Verdict::Refused(_) => 0,
-        Verdict::Verdict(_, test, _) => test,
-    }
+    verdict.map_or(0, |v| v.failed_test)
 }
 
+#[tactic(auto, unfolding(crate::specs::Entries::complete_over))]
 pub fn complete(words: &[u64], strings: &[u16], bytes: &[u8]) -> Report
     ensures { result ≡ complete_over words.now strings.now bytes.now }
 {
-    let held = counts_in(words, strings);
-    match held {
-        Held::Malformed => reporting::refused(1),
-        Held::Counts(n) => answer_report(operations::complete_record(n, bytes)),
-    }
+    let counts = counts_in(words, strings);
+    answer_report(counts.and_then(|n| operations::complete_record(n, bytes)))
 }
 
+#[tactic(auto, unfolding(crate::specs::Entries::validate_over))]
 pub fn validate(
     words: &[u64],
     strings: &[u16],
     extensible: bool,
     bytes: &[u8],
     current: &[u8],
-) -> Verdict
+) -> Result<Verdict, u64>
     ensures { result ≡ validate_over words.now strings.now extensible bytes.now current.now }
 {
-    let held = counts_in(words, strings);
-    match held {
-        Held::Malformed => Verdict::Refused(1),
-        Held::Counts(n) => operations::validate_records(n, extensible, bytes, current),
-    }
+    let n = counts_in(words, strings)?;
+    operations::validate_records(n, extensible, bytes, current)
 }
 
+#[tactic(auto, unfolding(crate::specs::Entries::merge_over))]
 pub fn merge(words: &[u64], strings: &[u16], current: &[u8], bytes: &[u8]) -> Report
     ensures { result ≡ merge_over words.now strings.now current.now bytes.now }
 {
-    let held = counts_in(words, strings);
-    match held {
-        Held::Malformed => reporting::refused(1),
-        Held::Counts(n) => answer_report(operations::merge_records(n, current, bytes)),
-    }
+    let counts = counts_in(words, strings);
+    answer_report(counts.and_then(|n| operations::merge_records(n, current, bytes)))
 }

@@ -1,82 +1,59 @@
 // A descriptor by itself as a record, and refusals 1 to 4 over one and over two.
-ghost use Rattle.std.specs.Prelude.{◌≡◌, ◌&&◌};
-ghost use Rattle.record.specs.Tests.{asks, descriptor_passes, is_descriptor, refusal};
-ghost use Rattle.descriptor_entries.specs.Records.{read_of, later, later_one, later_two};
+ghost use Rattle.std.specs.Prelude.{◌≡◌, IsTrue, IsFalse, MatchResult};
+ghost use Rattle.record.specs.Descriptor.{descriptor_at};
+ghost use Rattle.descriptor_entries.specs.Records.{is_record, one_descriptor, two_descriptors};
 
 use byte_records::descriptor_record;
-use property::DescriptorObject;
-use record::{Counts, Refusal, Test};
+use property::{DescriptorObject, PropertyDescriptor};
+use record::Counts;
 use step_records::value_tests;
 
-// What a record reads as.
-#[derive(Clone, Copy)]
-pub enum Reading {
-    Malformed,
-    Record(DescriptorObject),
+fn read(bytes: &[u8]) -> Result<DescriptorObject, u64>
+    ensures { MatchResult result (λ d. IsTrue (is_record bytes.now) × (d ≡ descriptor_at bytes.now 0)) (λ i. IsFalse (is_record bytes.now) × (i ≡ 1)) }
+{
+    if bytes.len() == 29 && descriptor_record::is_descriptor_at(bytes, 0) {
+        Ok(descriptor_record::descriptor_at(bytes, 0))
+    } else {
+        Err(1)
+    }
 }
 
-// Refusal 1 over one record, else its descriptor.
-pub fn read(bytes: &[u8]) -> Reading
-    ensures { result ≡ read_of bytes.now }
+fn refuse_unless(passes: bool, refusal: u64) -> Result<(), u64>
+    ensures { MatchResult result (λ _. IsTrue passes) (λ i. IsFalse passes × (i ≡ refusal)) }
 {
-    if bytes.len() != 29 {
-        return Reading::Malformed;
-    }
-    if descriptor_record::is_descriptor_at(bytes, 0) {
-        return Reading::Record(descriptor_record::descriptor_at(bytes, 0));
-    }
-    Reading::Malformed
+    if passes { Ok(()) } else { Err(refusal) }
 }
 
-// Refusals 2 to 4, by whether each test passes.
-fn first_failing(made: bool, known: bool, usable: bool) -> Refusal
-    ensures { result ≡ refusal (later made known usable) }
+#[tactic(auto, unfolding(crate::specs::Records::one_descriptor, record::specs::Tests::first_failing))]
+pub fn one_descriptor(n: Counts, bytes: &[u8]) -> Result<PropertyDescriptor, u64>
+    ensures { result ≡ one_descriptor n bytes.now }
 {
-    if made {
-        if known {
-            if usable {
-                return Refusal::Passed;
-            }
-            return Refusal::Failed(4);
-        }
-        return Refusal::Failed(3);
-    }
-    Refusal::Failed(2)
-}
-
-pub fn one_refusal(n: Counts, d: DescriptorObject) -> Refusal
-    ensures { result ≡ refusal (later_one n d) }
-{
-    let made = value_tests::descriptor_passes(Test::Made, n, d);
-    let known = value_tests::descriptor_passes(Test::Known, n, d);
-    let usable = value_tests::is_descriptor(d);
-    first_failing(made, known, usable)
-}
-
-fn both_pass(test: Test, n: Counts, a: DescriptorObject, b: DescriptorObject) -> bool
-    ensures { result ≡ (descriptor_passes (asks test n) a && descriptor_passes (asks test n) b) }
-{
-    if value_tests::descriptor_passes(test, n, a) {
-        return value_tests::descriptor_passes(test, n, b);
-    }
-    false
-}
-
-fn are_descriptors(a: DescriptorObject, b: DescriptorObject) -> bool
-    ensures { result ≡ (is_descriptor a && is_descriptor b) }
-{
-    if value_tests::is_descriptor(a) {
-        return value_tests::is_descriptor(b);
-    }
-    false
+    let object = read(bytes)?;
+    refuse_unless(value_tests::are_made(n, object), 2)?;
+    refuse_unless(value_tests::are_known(n, object), 3)?;
+    refuse_unless(value_tests::is_descriptor(object), 4)?;
+    Ok(descriptors::to_property_descriptor(object))
 }
 
 // Each number is tested over both before the next.
-pub fn two_refusal(n: Counts, a: DescriptorObject, b: DescriptorObject) -> Refusal
-    ensures { result ≡ refusal (later_two n a b) }
+#[tactic(auto, unfolding(crate::specs::Records::two_descriptors, record::specs::Tests::first_failing))]
+pub fn two_descriptors(
+    n: Counts,
+    a: &[u8],
+    b: &[u8],
+) -> Result<(PropertyDescriptor, PropertyDescriptor), u64>
+    ensures { result ≡ two_descriptors n a.now b.now }
 {
-    let made = both_pass(Test::Made, n, a, b);
-    let known = both_pass(Test::Known, n, a, b);
-    let usable = are_descriptors(a, b);
-    first_failing(made, known, usable)
+    let first = read(a)?;
+    let second = read(b)?;
+    refuse_unless(value_tests::are_made(n, first), 2)?;
+    refuse_unless(value_tests::are_made(n, second), 2)?;
+    refuse_unless(value_tests::are_known(n, first), 3)?;
+    refuse_unless(value_tests::are_known(n, second), 3)?;
+    refuse_unless(value_tests::is_descriptor(first), 4)?;
+    refuse_unless(value_tests::is_descriptor(second), 4)?;
+    Ok((
+        descriptors::to_property_descriptor(first),
+        descriptors::to_property_descriptor(second),
+    ))
 }

@@ -4,29 +4,24 @@ ghost use Rattle.property.specs.Fields.{enumerable, configurable, is_accessor};
 
 use property::Property;
 
-pub fn is_enumerable(p: Property) -> bool
-    ensures { result ≡ enumerable p }
+pub fn is_enumerable(property: Property) -> bool
+    ensures { result ≡ enumerable property }
 {
-    match p {
-        Property::Data(_, _, e, _) => e,
-        Property::Accessor(_, _, e, _) => e,
+    match property {
+        Property::Data(_, _, e, _) | Property::Accessor(_, _, e, _) => e,
     }
 }
 
-pub fn is_configurable(p: Property) -> bool
-    ensures { result ≡ configurable p }
+pub fn is_configurable(property: Property) -> bool
+    ensures { result ≡ configurable property }
 {
-    match p {
-        Property::Data(_, _, _, c) => c,
-        Property::Accessor(_, _, _, c) => c,
+    match property {
+        Property::Data(_, _, _, c) | Property::Accessor(_, _, _, c) => c,
     }
 }
 
-pub fn is_accessor(p: Property) -> bool
-    ensures { result ≡ is_accessor p }
+pub fn is_accessor(property: Property) -> bool
+    ensures { result ≡ is_accessor property }
 {
-    match p {
-        Property::Data(_, _, _, _) => false,
-        Property::Accessor(_, _, _, _) => true,
-    }
+    matches!(property, Property::Accessor(_, _, _, _))
 }

@@ -1,66 +1,75 @@
 // 6.2.6.6: a descriptor completed, and a property as a descriptor.
 ghost use Rattle.std.specs.Prelude.{◌≡◌};
 ghost use Rattle.property.specs.Descriptor.{complete, descriptor_of};
-ghost use Rattle.property.specs.Fields.{or_else, or_else_flag, value_field, writable_field, get_field, set_field};
+ghost use Rattle.property.specs.Fields.{or_else, value_field, writable_field, get_field, set_field};
 
-use crate::{fields, flags, kind_fields, kinds};
-use property::{DescriptorKind, Field, Flag, Property, PropertyDescriptor};
+use crate::{kind_fields, kinds};
+use property::{DescriptorKind, Property, PropertyDescriptor};
 use value::Value;
 
 // A data property, with these in the place of fields that the descriptor lacks.
-pub fn data_with(d: PropertyDescriptor, v: Value, w: bool, e: bool, c: bool) -> Property
-    ensures { result ≡ Property.Data (or_else (value_field d.kind) v) (or_else_flag (writable_field d.kind) w) (or_else_flag d.enumerable e) (or_else_flag d.configurable c) }
+pub fn data_with(
+    descriptor: PropertyDescriptor,
+    value: Value,
+    writable: bool,
+    enumerable: bool,
+    configurable: bool,
+) -> Property
+    ensures { result ≡ Property.Data (or_else (value_field descriptor.kind) value) (or_else (writable_field descriptor.kind) writable) (or_else descriptor.enumerable enumerable) (or_else descriptor.configurable configurable) }
 {
-    let k = d.kind;
-    let enumerable = d.enumerable;
-    let configurable = d.configurable;
     Property::Data(
-        fields::or_else(kind_fields::value_field(k), v),
-        flags::or_else_flag(kind_fields::writable_field(k), w),
-        flags::or_else_flag(enumerable, e),
-        flags::or_else_flag(configurable, c),
+        kind_fields::value_field(descriptor.kind).unwrap_or(value),
+        kind_fields::writable_field(descriptor.kind).unwrap_or(writable),
+        descriptor.enumerable.unwrap_or(enumerable),
+        descriptor.configurable.unwrap_or(configurable),
     )
 }
 
 // An accessor property, likewise.
-pub fn accessor_with(d: PropertyDescriptor, g: Value, s: Value, e: bool, c: bool) -> Property
-    ensures { result ≡ Property.Accessor (or_else (get_field d.kind) g) (or_else (set_field d.kind) s) (or_else_flag d.enumerable e) (or_else_flag d.configurable c) }
+pub fn accessor_with(
+    descriptor: PropertyDescriptor,
+    get: Value,
+    set: Value,
+    enumerable: bool,
+    configurable: bool,
+) -> Property
+    ensures { result ≡ Property.Accessor (or_else (get_field descriptor.kind) get) (or_else (set_field descriptor.kind) set) (or_else descriptor.enumerable enumerable) (or_else descriptor.configurable configurable) }
 {
-    let k = d.kind;
-    let enumerable = d.enumerable;
-    let configurable = d.configurable;
     Property::Accessor(
-        fields::or_else(kind_fields::get_field(k), g),
-        fields::or_else(kind_fields::set_field(k), s),
-        flags::or_else_flag(enumerable, e),
-        flags::or_else_flag(configurable, c),
+        kind_fields::get_field(descriptor.kind).unwrap_or(get),
+        kind_fields::set_field(descriptor.kind).unwrap_or(set),
+        descriptor.enumerable.unwrap_or(enumerable),
+        descriptor.configurable.unwrap_or(configurable),
     )
 }
 
 // 6.2.6.6 CompletePropertyDescriptor ( Desc )
-pub fn complete_property_descriptor(d: PropertyDescriptor) -> Property
-    ensures { result ≡ complete d }
+#[tactic(auto, unfolding(property::specs::Descriptor::complete))]
+#[inline(always)]
+pub fn complete_property_descriptor(descriptor: PropertyDescriptor) -> Property
+    ensures { result ≡ complete descriptor }
 {
-    if kinds::is_accessor_descriptor(d) {
-        return accessor_with(d, Value::Undefined, Value::Undefined, false, false); // 3 to 5
+    if kinds::is_accessor_descriptor(descriptor) {
+        accessor_with(descriptor, Value::Undefined, Value::Undefined, false, false) // 3 to 5
+    } else {
+        data_with(descriptor, Value::Undefined, false, false, false) // 2, 4, 5
     }
-    data_with(d, Value::Undefined, false, false, false) // 2, 4, 5
 }
 
 // A property as the descriptor that has all the fields of its kind.
-pub fn descriptor_of(p: Property) -> PropertyDescriptor
-    ensures { result ≡ descriptor_of p }
+pub fn descriptor_of(property: Property) -> PropertyDescriptor
+    ensures { result ≡ descriptor_of property }
 {
-    match p {
-        Property::Data(v, w, e, c) => PropertyDescriptor {
-            enumerable: Flag::Present(e),
-            configurable: Flag::Present(c),
-            kind: DescriptorKind::Data(Field::Present(v), Flag::Present(w)),
+    match property {
+        Property::Data(value, writable, enumerable, configurable) => PropertyDescriptor {
+            enumerable: Some(enumerable),
+            configurable: Some(configurable),
+            kind: DescriptorKind::Data(Some(value), Some(writable)),
         },
-        Property::Accessor(g, s, e, c) => PropertyDescriptor {
-            enumerable: Flag::Present(e),
-            configurable: Flag::Present(c),
-            kind: DescriptorKind::Accessor(Field::Present(g), Field::Present(s)),
+        Property::Accessor(get, set, enumerable, configurable) => PropertyDescriptor {
+            enumerable: Some(enumerable),
+            configurable: Some(configurable),
+            kind: DescriptorKind::Accessor(Some(get), Some(set)),
         },
     }
 }

@@ -3,52 +3,37 @@ ghost use Rattle.std.specs.Prelude.{◌≡◌};
 ghost use Rattle.property.specs.Descriptor.{is_uncallable, is_mixed};
 ghost use Rattle.property.specs.Answers.{conversion_message};
 
-use crate::kinds;
-use property::{DescriptorObject, Field};
+use property::DescriptorObject;
+use value::Value;
 
 // 6.2.6.5, 12.b and 14.b: the field is neither callable nor undefined
-pub fn is_uncallable(f: Field) -> bool
-    ensures { result ≡ is_uncallable f }
+pub fn is_uncallable(field: Option<Value>) -> bool
+    ensures { result ≡ is_uncallable field }
 {
-    match f {
-        Field::Absent => false,
-        Field::Present(v) => {
-            if value_operations::is_callable(v) {
-                return false;
-            }
-            !value_operations::is_undefined(v)
-        }
-    }
+    field.is_some_and(|v| !value_operations::is_callable(v) && !value_operations::is_undefined(v))
 }
 
 // 6.2.6.5, 15
-pub fn is_mixed(o: DescriptorObject) -> bool
-    ensures { result ≡ is_mixed o }
+pub fn is_mixed(object: DescriptorObject) -> bool
+    ensures { result ≡ is_mixed object }
 {
-    let writable = o.writable;
-    let value = o.value;
-    let get = o.get;
-    let set = o.set;
-    if kinds::has_either(get, set) {
-        return kinds::has_value_or_writable(value, writable);
-    }
-    false
+    (object.get.is_some() || object.set.is_some())
+        && (object.value.is_some() || object.writable.is_some())
 }
 
-// The TypeError of 6.2.6.5 by its number, or 0.
-pub fn descriptor_message(o: DescriptorObject) -> u64
-    ensures { result ≡ conversion_message o }
+// The number of the TypeError that 6.2.6.5 throws, if it throws one.
+// (By number, as `Failure::TypeError` has it.)
+#[tactic(auto, unfolding(property::specs::Answers::conversion_message))]
+pub fn descriptor_message(object: DescriptorObject) -> Option<u64>
+    ensures { result ≡ conversion_message object }
 {
-    let get = o.get;
-    let set = o.set;
-    if is_uncallable(get) {
-        return 27; // 12.b
+    if is_uncallable(object.get) {
+        Some(27) // 12.b
+    } else if is_uncallable(object.set) {
+        Some(28) // 14.b
+    } else if is_mixed(object) {
+        Some(29) // 15
+    } else {
+        None
     }
-    if is_uncallable(set) {
-        return 28; // 14.b
-    }
-    if is_mixed(o) {
-        return 29; // 15
-    }
-    0
 }

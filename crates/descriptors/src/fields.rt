@@ -1,35 +1,35 @@
-// The fields of a descriptor that hold a value, each present or absent.
+// The tests of a descriptor's field, which is present or absent.
 ghost use Rattle.std.specs.Prelude.{◌≡◌};
-ghost use Rattle.property.specs.Fields.{has, unlike, or_else};
+ghost use Rattle.property.specs.Fields.{is_true, is_false, unlike, unlike_flag};
 
-use property::Field;
 use value::Value;
 use value_operations::equality;
 
-pub fn has_field(f: Field) -> bool
-    ensures { result ≡ has f }
+// "has a .. field and it is true"
+pub fn is_true(field: Option<bool>) -> bool
+    ensures { result ≡ is_true field }
 {
-    match f {
-        Field::Absent => false, // boa's None
-        Field::Present(_) => true,
-    }
+    field.unwrap_or(false)
+}
+
+// "has a .. field and it is false"
+pub fn is_false(field: Option<bool>) -> bool
+    ensures { result ≡ is_false field }
+{
+    !field.unwrap_or(true)
 }
 
 // "has a .. field and it is not the same"
-pub fn is_unlike(f: Field, v: Value) -> bool
-    ensures { result ≡ unlike f v }
+pub fn is_unlike(field: Option<Value>, value: Value) -> bool
+    ensures { result ≡ unlike field value }
 {
-    match f {
-        Field::Absent => false,
-        Field::Present(u) => !equality::same_value(u, v),
-    }
+    field.is_some_and(|v| !equality::same_value(v, value))
 }
 
-pub fn or_else(f: Field, v: Value) -> Value
-    ensures { result ≡ or_else f v }
+// The same of a boolean field.
+// (Two functions, since flags are alike by `==` and values by SameValue; one over both would take that as a parameter.)
+pub fn is_unlike_flag(field: Option<bool>, flag: bool) -> bool
+    ensures { result ≡ unlike_flag field flag }
 {
-    match f {
-        Field::Absent => v,
-        Field::Present(u) => u,
-    }
+    field.is_some_and(|b| b != flag)
 }

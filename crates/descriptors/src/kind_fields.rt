@@ -2,44 +2,41 @@
 ghost use Rattle.std.specs.Prelude.{◌≡◌};
 ghost use Rattle.property.specs.Fields.{value_field, writable_field, get_field, set_field};
 
-use property::{DescriptorKind, Field, Flag};
+use property::DescriptorKind;
+use value::Value;
 
-pub fn value_field(k: DescriptorKind) -> Field
-    ensures { result ≡ value_field k }
+pub fn value_field(kind: DescriptorKind) -> Option<Value>
+    ensures { result ≡ value_field kind }
 {
-    match k {
-        DescriptorKind::Data(v, _) => v,
-        DescriptorKind::Accessor(_, _) => Field::Absent,
-        DescriptorKind::Generic => Field::Absent,
+    match kind {
+        DescriptorKind::Data(value, _) => value,
+        _ => None,
     }
 }
 
-pub fn writable_field(k: DescriptorKind) -> Flag
-    ensures { result ≡ writable_field k }
+pub fn writable_field(kind: DescriptorKind) -> Option<bool>
+    ensures { result ≡ writable_field kind }
 {
-    match k {
-        DescriptorKind::Data(_, w) => w,
-        DescriptorKind::Accessor(_, _) => Flag::Absent,
-        DescriptorKind::Generic => Flag::Absent,
+    match kind {
+        DescriptorKind::Data(_, writable) => writable,
+        _ => None,
     }
 }
 
-pub fn get_field(k: DescriptorKind) -> Field
-    ensures { result ≡ get_field k }
+pub fn get_field(kind: DescriptorKind) -> Option<Value>
+    ensures { result ≡ get_field kind }
 {
-    match k {
-        DescriptorKind::Data(_, _) => Field::Absent,
-        DescriptorKind::Accessor(g, _) => g,
-        DescriptorKind::Generic => Field::Absent,
+    match kind {
+        DescriptorKind::Accessor(get, _) => get,
+        _ => None,
     }
 }
 
-pub fn set_field(k: DescriptorKind) -> Field
-    ensures { result ≡ set_field k }
+pub fn set_field(kind: DescriptorKind) -> Option<Value>
+    ensures { result ≡ set_field kind }
 {
-    match k {
-        DescriptorKind::Data(_, _) => Field::Absent,
-        DescriptorKind::Accessor(_, s) => s,
-        DescriptorKind::Generic => Field::Absent,
+    match kind {
+        DescriptorKind::Accessor(_, set) => set,
+        _ => None,
     }
 }

@@ -10,7 +10,6 @@ use Rattle.store.specs.Words.{store_of, world_of}
 use Rattle.steps.specs.declared.Report.{Report}
 use Rattle.steps.specs.Response.{Response, report_of}
 use Rattle.steps.specs.Run.{Call, Event, effect, run_from, run, world_from}
-use Rattle.steps.specs.Run as call
 use Rattle.demands.specs.Lasting.{Lasting}
 use Rattle.demands.specs.Further.{Further}
 use Rattle.demands.specs.Refusals.{StepDecided}

@@ -1,9 +1,9 @@
 -- A text fed in pieces of any size gives the rows of the whole text. Assumes nothing.
+use Rattle.std.specs.Prelude.{Option, None, Some}
 use Prim.Native.Nat.{ℕ, suc, ◌+◌, ◌≤◌, ◌<◌}
 use native.Mathlib.Omega.{arith}
 use mathlib.Core.Path.{◌≡◌, refl, sym, ap, ◌∙◌}
 use mathlib.Core.Bool.{Bool, true, false, cond}
-use mathlib.Core.Option.{Option, none, some}
 use mathlib.Core.List.{List, [], ◌∷◌, ◌++◌, append_assoc}
 use lib.Dec.{eqb, ltb}
 use lib.ListN.{length, get_or, take, drop, length-append, length-drop, take-append-drop}
@@ -132,8 +132,8 @@ unfolding end_line
 end-counts r first = go (columns_in r.line)
   where
     go : (o : Option (List ℕ)) → (named r.count r.world o).reader.count ≤ suc r.count
-    go none = omega arith
-    go (some columns) = omega arith
+    go None = omega arith
+    go (Some columns) = omega arith
 end-counts r (later columns) = omega arith
 end-counts r reader.ended = omega arith
 
@@ -196,5 +196,5 @@ refused-for-room h (end_refused m l input p lent words cells state rows more e a
 pub room-suffices : (m n : ReaderMemory) (input rows : List ℕ) → Begun m → length input < maximum_count → (fs : Feeds m input rows n) → RefusedForRoom fs
 room-suffices m n input rows b l fs =
     let begun = b.started.begins refl m.line b.lined in
-    let none : count_in m ≡ 0 = sym (count-in m) ∙ ap (λ (r : Reader). r.count) begun.0 in
-    refused-for-room (record { is = begun.1; counts = omega (arith, none) }) fs
+    let None : count_in m ≡ 0 = sym (count-in m) ∙ ap (λ (r : Reader). r.count) begun.0 in
+    refused-for-room (record { is = begun.1; counts = omega (arith, None) }) fs

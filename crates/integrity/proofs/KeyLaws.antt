@@ -1,12 +1,12 @@
--- The keys that an object lists have numbers that a store's words can hold; and key lists that stay fit. Assumes nothing.
-use Prim.Native.Nat.{ℕ, zero, suc, ◌/◌, ◌%◌, ◌^◌, ◌<◌, ◌≤◌}
+-- The keys that an object lists have numbers that a store's words can hold. Assumes nothing.
+use Rattle.std.specs.Prelude.{Option, None, Some}
+use Prim.Native.Nat.{ℕ, zero, suc, ◌/◌, ◌%◌, ◌^◌, ◌<◌}
 use native.Mathlib.Omega.{arith}
 use mathlib.Core.Path.{◌≡◌, refl, sym}
 use mathlib.Core.Bool.{Bool, true, false, cond}
-use mathlib.Core.Option.{Option, none, some}
 use mathlib.Core.List.{List, [], ◌∷◌, ◌++◌, map}
 use lib.Dec.{eqb, ltb}
-use lib.ListN.{length, get_or, take}
+use lib.ListN.{get_or, take}
 use borrow.Author.Tests.{ltb-true}
 use Rattle.value.proofs.Bools.{and-true}
 use Rattle.value.specs.declared.Value.{Value}
@@ -17,27 +17,17 @@ use Rattle.value.specs.PropertyKey.{key_of, key_number}
 use Rattle.value.specs.Words.{pick}
 use Rattle.text.specs.Strings.{Strings}
 use Rattle.text.specs.Table.{tabulate}
-use Rattle.store.specs.Store.{Store}
 use Rattle.store.specs.OwnKeys.{KeyClass, is_index, is_string, is_symbol, index_value, class_of, keys_in, of_class, insert_index, ascending, ordered, ordinary_own_property_keys}
 use Rattle.store.specs.Words.{store_of, entry_in, word_at, key_at}
 use Rattle.store.specs.Words as words
 use Rattle.store_read.specs.Answers.{key_from_word, Listed}
-use Rattle.internal_methods.specs.Monad.{State, done}
-use Rattle.internal_methods.specs.Methods.{Context}
 use Rattle.internal_methods.specs.Answers.{cons_key, keys_of}
-use Rattle.internal_methods.specs.Internal.{methods}
-use Rattle.internal_methods.proofs.Longer.{methods-longer}
 use Rattle.record.specs.Sheet.{values_pass}
 use Rattle.key_lists.specs.Keys.{keys_held, is_bounded_key}
-use Rattle.calls.specs.declared.Progress.{Progress}
-use Rattle.own_keys.specs.Lists.{are_lists_fit}
-use Rattle.own_keys.specs.Loading.{listed_keys, Loadable, LoadableKeys}
+use Rattle.own_keys.specs.Loading.{listed_keys, Loadable}
 use Rattle.own_keys.specs.declared.loading.KeyList.{KeyList}
 use Rattle.own_keys.specs.declared.loading.KeyList.TheVariants.{Answered, Own}
-use Rattle.own_keys.specs.declared.loading.KeysOut.{KeysOut}
-use Rattle.own_keys.specs.declared.loading.KeysOut.TheVariants as keys
-use Rattle.own_keys.proofs.ListLaws.{fit-suffix}
-use Rattle.integrity.specs.Outs.{AreDefinable}
+use Rattle.integrity.specs.Definable.{AreDefinable}
 
 unfoldable AllFit : List PropertyKey → Type 0
 AllFit [] = Unit {0}
@@ -106,7 +96,7 @@ module _ (ws : List ℕ) (fits : (i : ℕ) → get_or ws i 0 < 2 ^ 64) (o : ℕ)
 
 -- Of a sheet -----------------------------------------------------------------------------
 
-known-fits : (v : Value) (k : PropertyKey) → is_bounded_key v ≡ true → key_of v ≡ some k → key_number k < 2 ^ 58
+known-fits : (v : Value) (k : PropertyKey) → is_bounded_key v ≡ true → key_of v ≡ Some k → key_number k < 2 ^ 58
 unfolding is_bounded_key
 known-fits value.Undefined k h e = let z : ◌≡◌ {A = ℕ} 0 1 = cc in absurd (omega arith)
 known-fits value.Null k h e = let z : ◌≡◌ {A = ℕ} 0 1 = cc in absurd (omega arith)
@@ -125,35 +115,24 @@ values-fit (v ∷ vs) h =
     let p = and-true (is_bounded_key v) (values_pass is_bounded_key vs) h in
     go (key_of v) (keys_of vs) (λ k e. known-fits v k p.0 e) (values-fit vs p.1)
   where
-    go : (x : Option PropertyKey) (y : Option (List PropertyKey)) → ((k : PropertyKey) → x ≡ some k → key_number k < 2 ^ 58) → AllFit (keys_held y) → AllFit (keys_held (cons_key x y))
-    go none none a b = tt
-    go none (some ks) a b = tt
-    go (some k) none a b = tt
-    go (some k) (some ks) a b = (a k refl, b)
+    go : (x : Option PropertyKey) (y : Option (List PropertyKey)) → ((k : PropertyKey) → x ≡ Some k → key_number k < 2 ^ 58) → AllFit (keys_held y) → AllFit (keys_held (cons_key x y))
+    go None None a b = tt
+    go None (Some ks) a b = tt
+    go (Some k) None a b = tt
+    go (Some k) (Some ks) a b = (a k refl, b)
 
 -- Of each list ---------------------------------------------------------------------------
 
 list-fits : (ws sheet : List ℕ) (strings : Strings) → ((i : ℕ) → get_or ws i 0 < 2 ^ 64) → (list : KeyList) → Loadable sheet list → AllFit (listed_keys sheet strings (store_of ws) list)
-list-fits ws sheet strings fits (Answered first n) l = values-fit _ l.known
+list-fits ws sheet strings fits (Answered a) l = values-fit _ l.known
 list-fits ws sheet strings fits (Own o) l = own-fit ws fits o strings
 
-all-definable : (n : ℕ) (keys : List ℕ) → n ≤ length keys → AllFit (map key_from_word (take n keys)) → AreDefinable n keys
+all-definable : (keys : List ℕ) → AllFit (map key_from_word keys) → AreDefinable keys
 unfolding AllFit
-all-definable zero keys h a i l = absurd (omega arith)
-all-definable (suc n) [] h a i l = absurd (omega arith)
-all-definable (suc n) (w ∷ ws) h a zero l = a.0
-all-definable (suc n) (w ∷ ws) h a (suc i) l = all-definable n ws (omega arith) a.1 i (omega arith)
+all-definable [] a i l = absurd (omega arith)
+all-definable (w ∷ ws) a zero l = a.0
+all-definable (w ∷ ws) a (suc i) l = all-definable ws a.1 i (omega arith)
 
-pub list-definable : (ws sheet : List ℕ) (strings : Strings) → ((i : ℕ) → get_or ws i 0 < 2 ^ 64) → (r : KeysOut) (list : KeyList) (s : Progress) → r ≡ keys.Done list s → LoadableKeys sheet r
-    → (before after : List ℕ) (n : ℕ) → Listed before after n (listed_keys sheet strings (store_of ws) list) → AreDefinable n after
-list-definable ws sheet strings fits r list s e l before after n h =
-    all-definable n after (omega (arith, h.fits, h.size)) (rw h.listed (list-fits ws sheet strings fits list (rw e at l)))
-
--- Key lists that stay fit ------------------------------------------------------------------
-
-module _ (depth : ℕ) (c : Context) (o : ℕ) (s t : State) where
-  pub prevented-fit : (a : Bool × Store) → done a t ≡ ((methods depth c).prevent_extensions o).run s → are_lists_fit s.answers ≡ true → are_lists_fit t.answers ≡ true
-  prevented-fit a e h = fit-suffix (rw (sym e) at (((methods-longer depth c).prevent_extensions o tt).shrinks s)) h
-
-  pub told_fit : (a : Bool) → done a t ≡ ((methods depth c).is_extensible o).run s → are_lists_fit s.answers ≡ true → are_lists_fit t.answers ≡ true
-  told_fit a e h = fit-suffix (rw (sym e) at (((methods-longer depth c).is_extensible o tt).shrinks s)) h
+pub list_definable : (ws sheet : List ℕ) (strings : Strings) → ((i : ℕ) → get_or ws i 0 < 2 ^ 64) → (list : KeyList) → Loadable sheet list
+    → (before after : List ℕ) (n : ℕ) → Listed before after n (listed_keys sheet strings (store_of ws) list) → AreDefinable (take n after)
+list_definable ws sheet strings fits list l before after n h = all-definable (take n after) (rw h.listed (list-fits ws sheet strings fits list l))

@@ -1,3 +1,3 @@
-pub mod SequenceLaws
-pub mod TestLaws
+pub mod SequenceSteps
+pub mod KeySteps
 pub mod KeyLaws

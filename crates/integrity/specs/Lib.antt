@@ -1,1 +1,3 @@
-pub mod Outs
+pub mod Levels
+pub mod Over
+pub mod Definable

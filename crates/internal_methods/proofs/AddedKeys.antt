@@ -1,4 +1,5 @@
 -- What holds of every own key lasts, where it holds of a key that is defined or the object is not extensible. Assumes nothing.
+use Rattle.std.specs.Prelude.{Option, None, Some}
 use Prim.Native.Nat.{ℕ, zero, suc}
 use mathlib.Core.Path.{◌≡◌, refl, sym, ◌∙◌, subst}
 use mathlib.Core.Bool.{Bool, true, false, not, cond, false≢true, true≢false}
@@ -10,8 +11,6 @@ use Rattle.value.specs.Value.{object_of, same_value}
 use Rattle.property.specs.declared.PropertyDescriptor.{PropertyDescriptor}
 use Rattle.property.specs.declared.Property.{Property}
 use Rattle.property.specs.declared.Property.TheVariants.{Data, Accessor}
-use Rattle.property.specs.declared.OwnProperty.{OwnProperty}
-use Rattle.property.specs.declared.OwnProperty.TheVariants.{Absent, Present}
 use Rattle.property.specs.declared.Validation.{Validation}
 use Rattle.property.specs.declared.Validation.TheVariants.{Rejected, Unchanged, Becomes}
 use Rattle.property.specs.Validate.{validate}
@@ -32,7 +31,7 @@ use Rattle.internal_methods.proofs.Reading.{is_extensible-exact, get_own_propert
 
 -- P holds of every own key
 pub record OwnKeys (P : PropertyKey → Type 0) (σ : Store) : Type 0 where
-  pub holds : (o : ℕ) (k : PropertyKey) (p : Property) → own σ o k ≡ Present p → P k
+  pub holds : (o : ℕ) (k : PropertyKey) (p : Property) → own σ o k ≡ Some p → P k
 
 -- P holds of k where it may be added to o: the base of o is not extensible, or P holds of k
 pub record Addable (P : PropertyKey → Type 0) (σ : Store) (o : ℕ) (k : PropertyKey) : Type 0 where
@@ -56,21 +55,21 @@ module _ {P : PropertyKey → Type 0} where
   pub keys-released : (σ : Store) (o : ℕ) → OwnKeys P σ → OwnKeys P (release σ o)
   keys-released σ o h = record { holds = λ b l q e. go b l q (eqb o b) (sym (own-released σ o b l) ∙ e) }
     where
-      go : (b : ℕ) (l : PropertyKey) (q : Property) (t : Bool) → cond t Absent (own σ b l) ≡ Present q → P l
+      go : (b : ℕ) (l : PropertyKey) (q : Property) (t : Bool) → cond t None (own σ b l) ≡ Some q → P l
       go b l q true e = absurd (false≢true cc)
       go b l q false e = h.holds b l q e
 
   keys_with : (σ : Store) (o : ℕ) (k : PropertyKey) (p : Property) → P k → OwnKeys P σ → OwnKeys P (with_property σ o k p)
   keys_with σ o k p m h = record { holds = λ b l q e. go b l q (same_place o k b l) refl (sym (own-with σ o k p b l) ∙ e) }
     where
-      go : (b : ℕ) (l : PropertyKey) (q : Property) (t : Bool) → same_place o k b l ≡ t → cond t (Present p) (own σ b l) ≡ Present q → P l
+      go : (b : ℕ) (l : PropertyKey) (q : Property) (t : Bool) → same_place o k b l ≡ t → cond t (Some p) (own σ b l) ≡ Some q → P l
       go b l q true s e = subst P (place-eq o k b l s).1 m
       go b l q false s e = h.holds b l q e
 
   keys-without : (σ : Store) (o : ℕ) (k : PropertyKey) → OwnKeys P σ → OwnKeys P (without_property σ o k)
   keys-without σ o k h = record { holds = λ b l q e. go b l q (same_place o k b l) (sym (own-without σ o k b l) ∙ e) }
     where
-      go : (b : ℕ) (l : PropertyKey) (q : Property) (t : Bool) → cond t Absent (own σ b l) ≡ Present q → P l
+      go : (b : ℕ) (l : PropertyKey) (q : Property) (t : Bool) → cond t None (own σ b l) ≡ Some q → P l
       go b l q true e = absurd (false≢true cc)
       go b l q false e = h.holds b l q e
 
@@ -114,14 +113,14 @@ module _ {P : PropertyKey → Type 0} (c : Context) (h : OwnKeys P c.store) wher
       (λ _. ensures-pure _ h)
       (λ _. ensures-then _ λ extensible. ensures-throw_if _ _ λ _. ensures-pure _ h)))
 
-  apply_validation-keys : (o : ℕ) (k : PropertyKey) (d : PropertyDescriptor) (x : Bool) → (x ≡ true → P k) → (current : OwnProperty) → current ≡ own c.store o k
+  apply_validation-keys : (o : ℕ) (k : PropertyKey) (d : PropertyDescriptor) (x : Bool) → (x ≡ true → P k) → (current : Option Property) → current ≡ own c.store o k
       → (v : Validation) → validate x d current ≡ v → Ensures (apply_validation c o k current v) KeysIn
   unfolding apply_validation
   apply_validation-keys o k d x m current f (Rejected t) e = ensures-pure _ h
   apply_validation-keys o k d x m current f Unchanged e = ensures-pure _ h
-  apply_validation-keys o k d true m Absent f (Becomes p) e = ensures-if _ (λ _. ensures-fails _) (λ _. ensures-pure _ (keys_with c.store o k p (m refl) h))
-  apply_validation-keys o k d false m Absent f (Becomes p) e = absurd (validate-adds false d Absent p e refl refl)
-  apply_validation-keys o k d x m (Present q) f (Becomes p) e = ensures-pure _ (keys_with c.store o k p (h.holds o k q (sym f)) h)
+  apply_validation-keys o k d true m None f (Becomes p) e = ensures-if _ (λ _. ensures-fails _) (λ _. ensures-pure _ (keys_with c.store o k p (m refl) h))
+  apply_validation-keys o k d false m None f (Becomes p) e = absurd (validate-adds false d None p e refl refl)
+  apply_validation-keys o k d x m (Some q) f (Becomes p) e = ensures-pure _ (keys_with c.store o k p (h.holds o k q (sym f)) h)
 
   pub define_own_property-keys : (n o : ℕ) (k : PropertyKey) (d : PropertyDescriptor) → Addable P c.store o k → Ensures ((methods n c).define_own_property o k d) KeysIn
   unfolding methods ordinary_define_own_property proxy_define_own_property
@@ -136,8 +135,8 @@ module _ {P : PropertyKey → Type 0} (c : Context) (h : OwnKeys P c.store) wher
       (λ _. ensures-then _ λ answer. ensures-if _
       (λ _. ensures-pure _ h)
       (λ _. ensures-then _ (elim [
-        | Absent ↦ ensures-then _ λ extensible. ensures-throw_if _ _ λ _. ensures-throw_if _ _ λ _. ensures-pure _ h
-        | Present t ↦ ensures-then _ λ extensible. ensures-throw_if _ _ λ _. ensures-throw_if _ _ λ _. ensures-throw_if _ _ λ _. ensures-pure _ h
+        | None ↦ ensures-then _ λ extensible. ensures-throw_if _ _ λ _. ensures-throw_if _ _ λ _. ensures-pure _ h
+        | Some t ↦ ensures-then _ λ extensible. ensures-throw_if _ _ λ _. ensures-throw_if _ _ λ _. ensures-throw_if _ _ λ _. ensures-pure _ h
       ]))))
 
   -- [[Set]] defines its own key, on whatever object
@@ -145,9 +144,9 @@ module _ {P : PropertyKey → Type 0} (c : Context) (h : OwnKeys P c.store) wher
     set_on_receiver-keys : (n : ℕ) (v : Value) (o : ℕ) → Ensures (set_on_receiver c (methods n c) k v o) KeysIn
     unfolding set_on_receiver
     set_on_receiver-keys n v o = ensures-then _ (elim [
-      | Absent ↦ define_own_property-keys n o k _ (addable-key m)
-      | Present (Accessor g s e f) ↦ ensures-pure _ h
-      | Present (Data w wr e f) ↦ ensures-if _ (λ _. ensures-pure _ h) (λ _. define_own_property-keys n o k _ (addable-key m))
+      | None ↦ define_own_property-keys n o k _ (addable-key m)
+      | Some (Accessor g s e f) ↦ ensures-pure _ h
+      | Some (Data w wr e f) ↦ ensures-if _ (λ _. ensures-pure _ h) (λ _. define_own_property-keys n o k _ (addable-key m))
     ])
 
     set_data-keys : (n : ℕ) (v : Value) (writable : Bool) (receiver : Value) → Ensures (set_data c (methods n c) k v writable receiver) KeysIn
@@ -161,9 +160,9 @@ module _ {P : PropertyKey → Type 0} (c : Context) (h : OwnKeys P c.store) wher
     set-keys zero o v receiver = ensures-fails _
     set-keys (suc n) o v receiver = ensures-dispatch c.store o
         (λ r e. ensures-then _ (elim [
-          | Absent ↦ ensures-then _ λ parent. ensures-option (object_of parent) (set_data-keys n v true receiver) (λ q. set-keys n q v receiver)
-          | Present (Data w wr en co) ↦ set_data-keys n v wr receiver
-          | Present (Accessor g s en co) ↦ ensures-if _ (λ _. ensures-pure _ h) (λ _. ensures-then _ λ _. ensures-pure _ h)
+          | None ↦ ensures-then _ λ parent. ensures-option (object_of parent) (set_data-keys n v true receiver) (λ q. set-keys n q v receiver)
+          | Some (Data w wr en co) ↦ set_data-keys n v wr receiver
+          | Some (Accessor g s en co) ↦ ensures-if _ (λ _. ensures-pure _ h) (λ _. ensures-then _ λ _. ensures-pure _ h)
         ]))
         (λ p e. ensures-if _
         (λ _. set-keys n p.target v receiver)
@@ -176,14 +175,14 @@ module _ {P : PropertyKey → Type 0} (c : Context) (h : OwnKeys P c.store) wher
   delete-keys zero o k = ensures-fails _
   delete-keys (suc n) o k = ensures-dispatch c.store o
       (λ r e. ensures-then _ (elim [
-        | Absent ↦ ensures-pure _ h
-        | Present p ↦ ensures-if _ (λ _. ensures-pure _ (keys-without c.store o k h)) (λ _. ensures-pure _ h)
+        | None ↦ ensures-pure _ h
+        | Some p ↦ ensures-if _ (λ _. ensures-pure _ (keys-without c.store o k h)) (λ _. ensures-pure _ h)
       ]))
       (λ p e. ensures-if _
       (λ _. delete-keys n p.target k)
       (λ _. ensures-then _ λ answer. ensures-if _
       (λ _. ensures-pure _ h)
       (λ _. ensures-then _ (elim [
-        | Absent ↦ ensures-pure _ h
-        | Present t ↦ ensures-throw_if _ _ λ _. ensures-then _ λ extensible. ensures-throw_if _ _ λ _. ensures-pure _ h
+        | None ↦ ensures-pure _ h
+        | Some t ↦ ensures-throw_if _ _ λ _. ensures-then _ λ extensible. ensures-throw_if _ _ λ _. ensures-pure _ h
       ]))))

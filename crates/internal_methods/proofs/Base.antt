@@ -1,8 +1,8 @@
 -- The ordinary object under a chain of proxies, and the facts about it that last. Assumes nothing.
+use Rattle.std.specs.Prelude.{Some}
 use Prim.Native.Nat.{ℕ}
 use mathlib.Core.Path.{◌≡◌, refl, subst}
 use mathlib.Core.Bool.{true, false, false≢true}
-use mathlib.Core.Option.{some}
 use Rattle.value.specs.declared.Value.{Value}
 use Rattle.value.specs.declared.PropertyKey.{PropertyKey}
 use Rattle.value.specs.Value.{same_value}
@@ -14,12 +14,12 @@ use Rattle.store.specs.Store.{Store, lookup, own}
 
 -- o is a proxy that is not revoked
 pub record Active (σ : Store) (o : ℕ) (p : ProxyObject) : Type 0 where
-  pub found : lookup σ o ≡ some (Proxy p)
+  pub found : lookup σ o ≡ Some (Proxy p)
   pub unrevoked : p.revoked ≡ false
 
 -- the ordinary object under o, with its number, through proxies that are not revoked
 pub data Base (σ : Store) : ℕ → ℕ → OrdinaryObject → Type 0 where
-  here : {o : ℕ} {r : OrdinaryObject} → lookup σ o ≡ some (Ordinary r) → Base σ o o r
+  here : {o : ℕ} {r : OrdinaryObject} → lookup σ o ≡ Some (Ordinary r) → Base σ o o r
   over : {o b : ℕ} {p : ProxyObject} {r : OrdinaryObject} → Active σ o p → Base σ p.target b r → Base σ o b r
 
 -- o has a base, and P holds of it
@@ -52,11 +52,11 @@ on-base u = record { at = λ b. at_base b u }
 pub through : {σ : Store} {o : ℕ} {p : ProxyObject} {P : ℕ → OrdinaryObject → Type 0} → Active σ o p → Under σ p.target P → Under σ o P
 through e u = record { number = u.number; object = u.object; base = over e u.base; holds = u.holds }
 
-base-below : {σ : Store} {o b : ℕ} {p : ProxyObject} {r : OrdinaryObject} → lookup σ o ≡ some (Proxy p) → Base σ o b r → Base σ p.target b r
+base-below : {σ : Store} {o b : ℕ} {p : ProxyObject} {r : OrdinaryObject} → lookup σ o ≡ Some (Proxy p) → Base σ o b r → Base σ p.target b r
 base-below e (here f) = absurd (false≢true cc)
 base-below {p = p} e (over {p = q} f b) = let g = f.found in let s : p ≡ q = cc in rw s b
 
-pub on-proxy : {σ : Store} {o : ℕ} {p : ProxyObject} {P : ℕ → OrdinaryObject → Type 0} → lookup σ o ≡ some (Proxy p) → OnBase σ p.target P → OnBase σ o P
+pub on-proxy : {σ : Store} {o : ℕ} {p : ProxyObject} {P : ℕ → OrdinaryObject → Type 0} → lookup σ o ≡ Some (Proxy p) → OnBase σ p.target P → OnBase σ o P
 on-proxy e u = record { at = λ b. u.at (base-below e b) }
 
 pub at_target : {σ : Store} {o : ℕ} {p : ProxyObject} {P : ℕ → OrdinaryObject → Type 0} → Active σ o p → OnBase σ o P → OnBase σ p.target P

@@ -1,9 +1,9 @@
 -- The calls that are left end a step, and the fuel never does; and all the ways in which a method can fail. Assumes nothing.
+use Rattle.std.specs.Prelude.{Option, None, Some}
 use Prim.Native.Nat.{ℕ, zero, suc, ◌≤◌}
 use native.Mathlib.Nat.{le_refl, le-suc, le_trans, le_of_suc-le-suc, not-suc-le-zero}
 use mathlib.Core.Path.{◌≡◌, refl, sym, ◌∙◌, subst}
 use mathlib.Core.Bool.{Bool, true, false}
-use mathlib.Core.Option.{Option, none, some}
 use mathlib.Core.List.{List, [], ◌∷◌}
 use Rattle.value.specs.declared.Value.{Value}
 use Rattle.store.specs.declared.OrdinaryObject.{OrdinaryObject}
@@ -14,8 +14,6 @@ use Rattle.store.specs.Store.{Store, lookup}
 use Rattle.value.specs.declared.PropertyKey.{PropertyKey}
 use Rattle.property.specs.declared.PropertyDescriptor.{PropertyDescriptor}
 use Rattle.property.specs.declared.Property.{Property}
-use Rattle.property.specs.declared.OwnProperty.{OwnProperty}
-use Rattle.property.specs.declared.OwnProperty.TheVariants.{Absent, Present}
 use Rattle.property.specs.declared.Validation.{Validation}
 use Rattle.property.specs.declared.Validation.TheVariants.{Rejected, Unchanged, Becomes}
 use Rattle.property.specs.Validate.{validate}
@@ -125,10 +123,10 @@ module _ {c : Context} {n : ℕ} {A : Type 0} {Q : A → Type 0} {k k' : M A} wh
   steady-throw_if i true t h = steady-bind {P = λ _. ⊥} (steady-error i t) (λ _ f. absurd f)
   steady-throw_if i false t h = steady-bind {P = λ _. Unit {0}} (steady-pure tt tt) (λ _ _. h refl)
 
-  pub steady-throw_any : (x : Option ℕ) → ((i : ℕ) → x ≡ some i → Message i) → (x ≡ none → Steady c n k k' Q) → Steady c n (throw_any x >> k) (throw_any x >> k') Q
+  pub steady-throw_any : (x : Option ℕ) → ((i : ℕ) → x ≡ Some i → Message i) → (x ≡ None → Steady c n k k' Q) → Steady c n (throw_any x >> k) (throw_any x >> k') Q
   unfolding throw_any
-  steady-throw_any none m h = steady-bind {P = λ _. Unit {0}} (steady-pure tt tt) (λ _ _. h refl)
-  steady-throw_any (some i) m h = steady-bind {P = λ _. ⊥} (steady-error i (m i refl)) (λ _ f. absurd f)
+  steady-throw_any None m h = steady-bind {P = λ _. Unit {0}} (steady-pure tt tt) (λ _ _. h refl)
+  steady-throw_any (Some i) m h = steady-bind {P = λ _. ⊥} (steady-error i (m i refl)) (λ _ f. absurd f)
 
 pub steady-ask : {c : Context} {n : ℕ} → Steady c n ask ask (MadeAnswer c.store)
 unfolding ask
@@ -144,13 +142,13 @@ steady-ask {c} = record { runs = λ s le ms. go s.calls s.answers ms }
 module _ {c : Context} {n : ℕ} {A : Type 0} {Q : A → Type 0} where
   -- one call fewer is left to the method that o has
   pub steady-dispatch : {f f' : OrdinaryObject → M A} {g g' : ProxyObject → M A} (o : ℕ) → Made c.store o
-      → ((r : OrdinaryObject) → lookup c.store o ≡ some (Ordinary r) → Steady c n (f r) (f' r) Q)
-      → ((p : ProxyObject) → lookup c.store o ≡ some (Proxy p) → p.revoked ≡ false → Steady c n (g p) (g' p) Q)
+      → ((r : OrdinaryObject) → lookup c.store o ≡ Some (Ordinary r) → Steady c n (f r) (f' r) Q)
+      → ((p : ProxyObject) → lookup c.store o ≡ Some (Proxy p) → p.revoked ≡ false → Steady c n (g p) (g' p) Q)
       → Steady c (suc n) (dispatch c.store o f g) (dispatch c.store o f' g') Q
   unfolding dispatch dispatched tick next ◌>>=◌
   steady-dispatch {f} {f'} {g} {g'} o (x, e) hf hg = record { runs = λ s le ms. go s.answers s.calls le ms }
     where
-      body : (x : Object) → lookup c.store o ≡ some x → Steady c n (dispatched (some x) f g) (dispatched (some x) f' g') Q
+      body : (x : Object) → lookup c.store o ≡ Some x → Steady c n (dispatched (Some x) f g) (dispatched (Some x) f' g') Q
       body (Ordinary r) e = hf r e
       body (Proxy p) e = steady-throw_if 1 p.revoked (message 1 tt) (hg p e)
 
@@ -204,16 +202,16 @@ steady-room c n true e w k = steady-fails _ (λ t. full e)
 steady-room c n false e w k = steady-pure w k
 
 module _ (c : Context) (n : ℕ) (closed : Closed c.store) where
-  pub apply_validation-steady : (o : ℕ) → Made c.store o → (k : PropertyKey) (current : OwnProperty) (v : Validation) → ((p : Property) → v ≡ Becomes p → MadeProperty c.store p)
+  pub apply_validation-steady : (o : ℕ) → Made c.store o → (k : PropertyKey) (current : Option Property) (v : Validation) → ((p : Property) → v ≡ Becomes p → MadeProperty c.store p)
       → Steady c n (apply_validation c o k current v) (apply_validation c o k current v) (KeptBy c)
   unfolding apply_validation
   apply_validation-steady o m k current (Rejected t) h = steady-pure _ (kept_same c.store closed)
   apply_validation-steady o m k current Unchanged h = steady-pure _ (kept_same c.store closed)
-  apply_validation-steady o m k Absent (Becomes p) h = steady-room c n (is_full c) refl _ (kept-with c.store o k p closed m (h p refl))
-  apply_validation-steady o m k (Present q) (Becomes p) h = steady-pure _ (kept-with c.store o k p closed m (h p refl))
+  apply_validation-steady o m k None (Becomes p) h = steady-room c n (is_full c) refl _ (kept-with c.store o k p closed m (h p refl))
+  apply_validation-steady o m k (Some q) (Becomes p) h = steady-pure _ (kept-with c.store o k p closed m (h p refl))
 
   -- what validation makes of an own property names what the property or the descriptor does
-  pub validated-steady : (o : ℕ) (r : OrdinaryObject) → lookup c.store o ≡ some (Ordinary r) → (k : PropertyKey) (current : OwnProperty) → OwnIn c o k current → (x : Bool) (d : PropertyDescriptor) → MadeDescriptor c.store d
+  pub validated-steady : (o : ℕ) (r : OrdinaryObject) → lookup c.store o ≡ Some (Ordinary r) → (k : PropertyKey) (current : Option Property) → OwnIn c o k current → (x : Bool) (d : PropertyDescriptor) → MadeDescriptor c.store d
       → Steady c n (apply_validation c o k current (validate x d current)) (apply_validation c o k current (validate x d current)) (KeptBy c)
   validated-steady o r e k current own x d m = apply_validation-steady o (Ordinary r, e) k current (validate x d current)
       (validate-by (undefined-made c.store) d m x current (λ q f. closed.named o k q (sym (own r e) ∙ f)))

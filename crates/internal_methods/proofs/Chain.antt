@@ -1,9 +1,9 @@
 -- Chains of prototypes end, no method makes one that does not, and a chain is no longer than the list of objects. Assumes nothing.
+use Rattle.std.specs.Prelude.{Option, None, Some}
 use Prim.Native.Nat.{ℕ, zero, suc, ◌≤◌, ◌<◌, zero-le, suc-le-suc}
 use native.Mathlib.Nat.{le_refl, le-suc, le_trans, le_of_suc-le-suc, not-suc-le-zero, not-le_of_lt}
 use mathlib.Core.Path.{◌≡◌, refl, sym, ap, ◌∙◌, subst}
 use mathlib.Core.Bool.{Bool, true, false, not, ◌||◌, cond, false≢true}
-use mathlib.Core.Option.{Option, none, some}
 use mathlib.Core.List.{List, [], ◌∷◌}
 use lib.Dec.{eqb}
 use lib.ListN.{length, get_or, set}
@@ -15,8 +15,6 @@ use Rattle.value.proofs.Bools.{or-false}
 use Rattle.property.specs.declared.PropertyDescriptor.{PropertyDescriptor}
 use Rattle.property.specs.declared.Property.{Property}
 use Rattle.property.specs.declared.Property.TheVariants.{Data, Accessor}
-use Rattle.property.specs.declared.OwnProperty.{OwnProperty}
-use Rattle.property.specs.declared.OwnProperty.TheVariants.{Absent, Present}
 use Rattle.property.specs.declared.Validation.{Validation}
 use Rattle.property.specs.declared.Validation.TheVariants.{Rejected, Unchanged, Becomes}
 use Rattle.store.specs.declared.OrdinaryObject.{OrdinaryObject}
@@ -36,9 +34,9 @@ use Rattle.internal_methods.proofs.StoreClosed.{Made, MadeValue, MadeObject, add
 
 -- the chain from v has n ordinary objects, and then ends in a proxy or a value that is no object
 pub data Chain (σ : Store) : ℕ → Value → Type 0 where
-  value : {v : Value} → object_of v ≡ none → Chain σ 0 v
-  proxy : {v : Value} {q : ℕ} {p : ProxyObject} → object_of v ≡ some q → lookup σ q ≡ some (Proxy p) → Chain σ 0 v
-  ordinary : {n : ℕ} {v : Value} {q : ℕ} {r : OrdinaryObject} → object_of v ≡ some q → lookup σ q ≡ some (Ordinary r) → Chain σ n r.prototype → Chain σ (suc n) v
+  value : {v : Value} → object_of v ≡ None → Chain σ 0 v
+  proxy : {v : Value} {q : ℕ} {p : ProxyObject} → object_of v ≡ Some q → lookup σ q ≡ Some (Proxy p) → Chain σ 0 v
+  ordinary : {n : ℕ} {v : Value} {q : ℕ} {r : OrdinaryObject} → object_of v ≡ Some q → lookup σ q ≡ Some (Ordinary r) → Chain σ n r.prototype → Chain σ (suc n) v
 
 -- from each value that is made
 pub record Ends (σ : Store) : Type 0 where
@@ -63,35 +61,35 @@ chain-unique (ordinary {q = a} {r = r} e l c) (ordinary {q = b} {r = s} f g d) h
 
 abbrev ordinaries : List (Option Object) → ℕ
 ordinaries [] = 0
-ordinaries (none ∷ os) = ordinaries os
-ordinaries (some (Ordinary r) ∷ os) = suc (ordinaries os)
-ordinaries (some (Proxy p) ∷ os) = ordinaries os
+ordinaries (None ∷ os) = ordinaries os
+ordinaries (Some (Ordinary r) ∷ os) = suc (ordinaries os)
+ordinaries (Some (Proxy p) ∷ os) = ordinaries os
 
 ordinaries-all : (os : List (Option Object)) → ordinaries os ≤ length os
 ordinaries-all [] = zero-le
-ordinaries-all (none ∷ os) = le_trans (ordinaries-all os) (le-suc _)
-ordinaries-all (some (Ordinary r) ∷ os) = suc-le-suc (ordinaries-all os)
-ordinaries-all (some (Proxy p) ∷ os) = le_trans (ordinaries-all os) (le-suc _)
+ordinaries-all (None ∷ os) = le_trans (ordinaries-all os) (le-suc _)
+ordinaries-all (Some (Ordinary r) ∷ os) = suc-le-suc (ordinaries-all os)
+ordinaries-all (Some (Proxy p) ∷ os) = le_trans (ordinaries-all os) (le-suc _)
 
 -- a proxy is none of them
-ordinaries-fewer : (os : List (Option Object)) (q : ℕ) (p : ProxyObject) → get_or os q none ≡ some (Proxy p) → ordinaries os < length os
+ordinaries-fewer : (os : List (Option Object)) (q : ℕ) (p : ProxyObject) → get_or os q None ≡ Some (Proxy p) → ordinaries os < length os
 ordinaries-fewer [] q p e = absurd (false≢true cc)
-ordinaries-fewer (none ∷ os) zero p e = absurd (false≢true cc)
-ordinaries-fewer (none ∷ os) (suc q) p e = le_trans (ordinaries-fewer os q p e) (le-suc _)
-ordinaries-fewer (some (Ordinary r) ∷ os) zero p e = absurd (false≢true cc)
-ordinaries-fewer (some (Ordinary r) ∷ os) (suc q) p e = suc-le-suc (ordinaries-fewer os q p e)
-ordinaries-fewer (some (Proxy s) ∷ os) zero p e = suc-le-suc (ordinaries-all os)
-ordinaries-fewer (some (Proxy s) ∷ os) (suc q) p e = le_trans (ordinaries-fewer os q p e) (le-suc _)
+ordinaries-fewer (None ∷ os) zero p e = absurd (false≢true cc)
+ordinaries-fewer (None ∷ os) (suc q) p e = le_trans (ordinaries-fewer os q p e) (le-suc _)
+ordinaries-fewer (Some (Ordinary r) ∷ os) zero p e = absurd (false≢true cc)
+ordinaries-fewer (Some (Ordinary r) ∷ os) (suc q) p e = suc-le-suc (ordinaries-fewer os q p e)
+ordinaries-fewer (Some (Proxy s) ∷ os) zero p e = suc-le-suc (ordinaries-all os)
+ordinaries-fewer (Some (Proxy s) ∷ os) (suc q) p e = le_trans (ordinaries-fewer os q p e) (le-suc _)
 
 -- one fewer, where a proxy takes its place
-ordinaries-set : (os : List (Option Object)) (q : ℕ) (r : OrdinaryObject) (p : ProxyObject) → get_or os q none ≡ some (Ordinary r) → ordinaries os ≡ suc (ordinaries (set os q (some (Proxy p))))
+ordinaries-set : (os : List (Option Object)) (q : ℕ) (r : OrdinaryObject) (p : ProxyObject) → get_or os q None ≡ Some (Ordinary r) → ordinaries os ≡ suc (ordinaries (set os q (Some (Proxy p))))
 ordinaries-set [] q r p e = absurd (false≢true cc)
-ordinaries-set (none ∷ os) zero r p e = absurd (false≢true cc)
-ordinaries-set (none ∷ os) (suc q) r p e = ordinaries-set os q r p e
-ordinaries-set (some (Ordinary s) ∷ os) zero r p e = refl
-ordinaries-set (some (Ordinary s) ∷ os) (suc q) r p e = ap suc (ordinaries-set os q r p e)
-ordinaries-set (some (Proxy s) ∷ os) zero r p e = absurd (false≢true cc)
-ordinaries-set (some (Proxy s) ∷ os) (suc q) r p e = ordinaries-set os q r p e
+ordinaries-set (None ∷ os) zero r p e = absurd (false≢true cc)
+ordinaries-set (None ∷ os) (suc q) r p e = ordinaries-set os q r p e
+ordinaries-set (Some (Ordinary s) ∷ os) zero r p e = refl
+ordinaries-set (Some (Ordinary s) ∷ os) (suc q) r p e = ap suc (ordinaries-set os q r p e)
+ordinaries-set (Some (Proxy s) ∷ os) zero r p e = absurd (false≢true cc)
+ordinaries-set (Some (Proxy s) ∷ os) (suc q) r p e = ordinaries-set os q r p e
 
 -- A chain is no longer than that -------------------------------------------------------
 
@@ -104,7 +102,7 @@ apart {C} o q f g = go (eqb o q) refl
     go false e = g e
 
 -- an object with a longer chain is not on it, and may change
-chain-without : {σ : Store} {m n : ℕ} {u v : Value} (o : ℕ) (x : Object) → object_of u ≡ some o → Chain σ n u → Chain σ m v → m < n → Chain (put σ o x) m v
+chain-without : {σ : Store} {m n : ℕ} {u v : Value} (o : ℕ) (x : Object) → object_of u ≡ Some o → Chain σ n u → Chain σ m v → m < n → Chain (put σ o x) m v
 chain-without o x h d (value e) l = value e
 chain-without {σ} {m} {n} {u} {v} o x h d (proxy {q = q} {p = p} e f) l = apart o q
     (λ (s : o ≡ q). let k : m ≡ n = chain-unique {u = v} {v = u} (proxy {p = p} e f) d cc in absurd (not-le_of_lt l (rw k (le_refl _))))
@@ -129,7 +127,7 @@ chain-within (suc n) σ v (ordinary {q = q} {r = r} e f c) =
 -- a walk of n members goes through a chain of m ordinary objects, and through a proxy at its end
 record Covers (σ : Store) (m n : ℕ) : Type 0 where
   through : m ≤ n
-  past : (q : ℕ) (p : ProxyObject) → lookup σ q ≡ some (Proxy p) → m < n
+  past : (q : ℕ) (p : ProxyObject) → lookup σ q ≡ Some (Proxy p) → m < n
 
 covers : {σ : Store} {m n : ℕ} {v : Value} → Chain σ m v → length σ.objects ≤ n → Covers σ m n
 unfolding lookup
@@ -143,20 +141,20 @@ covers {σ} {m} {n} {v} c l =
 covers-rest : {σ : Store} {m n : ℕ} → Covers σ (suc m) (suc n) → Covers σ m n
 covers-rest h = record { through = le_of_suc-le-suc h.through; past = λ q p e. le_of_suc-le-suc (h.past q p e) }
 
-reaches-none : (n : ℕ) (σ : Store) (o : ℕ) (v : Value) → object_of v ≡ none → reaches n σ o v ≡ false
+reaches-none : (n : ℕ) (σ : Store) (o : ℕ) (v : Value) → object_of v ≡ None → reaches n σ o v ≡ false
 unfolding reaches
 reaches-none zero σ o v e = refl
 reaches-none (suc n) σ o v e = rw (e, reaches)
 
-module _ (n : ℕ) (σ : Store) (o : ℕ) (v : Value) (q : ℕ) (e : object_of v ≡ some q) where
+module _ (n : ℕ) (σ : Store) (o : ℕ) (v : Value) (q : ℕ) (e : object_of v ≡ Some q) where
   -- what a walk that came to an object finds: whether it is o, and what the object is
   abbrev found : Bool → Option Object → Bool
   found b x = elim b [
     | true ↦ true
     | false ↦ elim x [
-      | none ↦ false
-      | some (Proxy p) ↦ false
-      | some (Ordinary r) ↦ reaches n σ o r.prototype
+      | None ↦ false
+      | Some (Proxy p) ↦ false
+      | Some (Ordinary r) ↦ reaches n σ o r.prototype
     ]
   ]
 
@@ -164,17 +162,17 @@ module _ (n : ℕ) (σ : Store) (o : ℕ) (v : Value) (q : ℕ) (e : object_of v
   unfolding reaches
   reaches-found = rw (e, reaches)
 
-  reaches-proxy : (p : ProxyObject) → lookup σ q ≡ some (Proxy p) → reaches (suc n) σ o v ≡ eqb q o
+  reaches-proxy : (p : ProxyObject) → lookup σ q ≡ Some (Proxy p) → reaches (suc n) σ o v ≡ eqb q o
   reaches-proxy p f = reaches-found ∙ (ap (found (eqb q o)) f ∙ go (eqb q o))
     where
-      go : (b : Bool) → found b (some (Proxy p)) ≡ b
+      go : (b : Bool) → found b (Some (Proxy p)) ≡ b
       go true = refl
       go false = refl
 
-  reaches-ordinary : (r : OrdinaryObject) → lookup σ q ≡ some (Ordinary r) → reaches (suc n) σ o v ≡ (eqb q o || reaches n σ o r.prototype)
+  reaches-ordinary : (r : OrdinaryObject) → lookup σ q ≡ Some (Ordinary r) → reaches (suc n) σ o v ≡ (eqb q o || reaches n σ o r.prototype)
   reaches-ordinary r f = reaches-found ∙ (ap (found (eqb q o)) f ∙ go (eqb q o))
     where
-      go : (b : Bool) → found b (some (Ordinary r)) ≡ (b || reaches n σ o r.prototype)
+      go : (b : Bool) → found b (Some (Ordinary r)) ≡ (b || reaches n σ o r.prototype)
       go true = refl
       go false = refl
 
@@ -195,7 +193,7 @@ pub walk-enough : (σ : Store) → Ends σ → (o : ℕ) (v : Value) → MadeVal
 walk-enough σ h o v m n l = let (k, c) = h.chain v m in walks-agree o n (length σ.objects) c (covers c l) (covers c (le_refl _))
 
 -- a walk that covers the chain and does not lead to o: o is not on it, and may change
-chain-missed : {σ : Store} {m : ℕ} {v : Value} (o n : ℕ) (r : OrdinaryObject) (x : Object) → lookup σ o ≡ some (Ordinary r) → Chain σ m v → m ≤ n → reaches n σ o v ≡ false → Chain (put σ o x) m v
+chain-missed : {σ : Store} {m : ℕ} {v : Value} (o n : ℕ) (r : OrdinaryObject) (x : Object) → lookup σ o ≡ Some (Ordinary r) → Chain σ m v → m ≤ n → reaches n σ o v ≡ false → Chain (put σ o x) m v
 chain-missed o n r x h (value e) l k = value e
 chain-missed {σ} o n r x h (proxy {q = q} e f) l k = apart o q (λ (s : o ≡ q). absurd (false≢true cc)) (λ s. proxy e (lookup-put-other σ o q x s ∙ f))
 chain-missed o zero r x h (ordinary e f c) l k = absurd (not-suc-le-zero l)
@@ -216,32 +214,32 @@ alike_refl (Proxy p) = proxies-alike
 
 -- every object stays alike
 record Keeps (σ τ : Store) : Type 0 where
-  keeps : (o : ℕ) (x : Object) → lookup σ o ≡ some x → (y : Object) × (lookup τ o ≡ some y) × Alike x y
+  keeps : (o : ℕ) (x : Object) → lookup σ o ≡ Some x → (y : Object) × (lookup τ o ≡ Some y) × Alike x y
 
 chain-kept : {σ τ : Store} {n : ℕ} {v : Value} → Keeps σ τ → Chain σ n v → Chain τ n v
 chain-kept h (value e) = value e
 chain-kept {σ} {τ} h (proxy {v = v} {q = q} {p = p} e f) = let (y, g, a) = h.keeps q (Proxy p) f in go y g a
   where
-    go : (y : Object) → lookup τ q ≡ some y → Alike (Proxy p) y → Chain τ 0 v
+    go : (y : Object) → lookup τ q ≡ Some y → Alike (Proxy p) y → Chain τ 0 v
     go (Ordinary _) g x5 = elim x5 [ ]
     go (Proxy s) g proxies-alike = proxy e g
 chain-kept {σ} {τ} h (ordinary {n = n} {v = v} {q = q} {r = r} e f c) = let (y, g, a) = h.keeps q (Ordinary r) f in go y g a (chain-kept h c)
   where
-    go : (y : Object) → lookup τ q ≡ some y → Alike (Ordinary r) y → Chain τ n r.prototype → Chain τ (suc n) v
+    go : (y : Object) → lookup τ q ≡ Some y → Alike (Ordinary r) y → Chain τ n r.prototype → Chain τ (suc n) v
     go (Proxy _) g x6 d = elim x6 [ ]
     go (Ordinary s) g (ordinaries-alike b) d = ordinary {n = n} e g (rw b d)
 
 made-before : {σ τ : Store} {v : Value} → ((o : ℕ) → Made τ o → Made σ o) → MadeValue τ v → MadeValue σ v
 made-before f m = record { made = λ o e. f o (m.made o e) }
 
-put-before : (σ : Store) (o : ℕ) (x y : Object) → lookup σ o ≡ some x → (q : ℕ) → Made (put σ o y) q → Made σ q
+put-before : (σ : Store) (o : ℕ) (x y : Object) → lookup σ o ≡ Some x → (q : ℕ) → Made (put σ o y) q → Made σ q
 put-before σ o x y e q (z, f) = apart o q (λ s. (x, rw s at e)) (λ s. (z, sym (lookup-put-other σ o q y s) ∙ f))
 
-put-there : (σ : Store) (o q : ℕ) (x y : Object) → lookup σ o ≡ some x → o ≡ q → lookup (put σ o y) q ≡ some y
-put-there σ o q x y e s = subst (λ (b : ℕ). lookup (put σ o y) b ≡ some y) s (lookup-put σ o x y e)
+put-there : (σ : Store) (o q : ℕ) (x y : Object) → lookup σ o ≡ Some x → o ≡ q → lookup (put σ o y) q ≡ Some y
+put-there σ o q x y e s = subst (λ (b : ℕ). lookup (put σ o y) b ≡ Some y) s (lookup-put σ o x y e)
 
 -- an object is put in the place of one alike
-pub ends-put : (σ : Store) (o : ℕ) (x y : Object) → lookup σ o ≡ some x → Alike x y → Ends σ → Ends (put σ o y)
+pub ends-put : (σ : Store) (o : ℕ) (x y : Object) → lookup σ o ≡ Some x → Alike x y → Ends σ → Ends (put σ o y)
 ends-put σ o x y e a h = record {
   chain = λ v m.
       let (n, c) = h.chain v (made-before (put-before σ o x y e) m) in (
@@ -277,13 +275,13 @@ ends-add σ fresh x b mx h = record { chain = λ v m. from v m (object_of v) ref
     kept : {n : ℕ} {v : Value} → Chain σ n v → Chain (add σ x b) n v
     kept c = chain-kept (record { keeps = λ q z f. (z, lookup-add σ fresh x b q z f, alike_refl z) }) c
 
-    new : (v : Value) (q : ℕ) → object_of v ≡ some q → (y : Object) → lookup (add σ x b) q ≡ some y → MadeObject σ y → (n : ℕ) × Chain (add σ x b) n v
+    new : (v : Value) (q : ℕ) → object_of v ≡ Some q → (y : Object) → lookup (add σ x b) q ≡ Some y → MadeObject σ y → (n : ℕ) × Chain (add σ x b) n v
     new v q e (Ordinary r) f m = let (n, c) = h.chain r.prototype m in (suc n, ordinary {r = r} e f (kept c))
     new v q e (Proxy p) f m = (0, proxy {p = p} e f)
 
     from : (v : Value) → MadeValue (add σ x b) v → (t : Option ℕ) → object_of v ≡ t → (n : ℕ) × Chain (add σ x b) n v
-    from v m none e = (0, value e)
-    from v m (some q) e =
+    from v m None e = (0, value e)
+    from v m (Some q) e =
         let (y, f) = m.made q e in
         add-cases σ fresh x b q y f
         (λ s. new v q e y f (subst (MadeObject σ) s mx))
@@ -297,13 +295,13 @@ ends-released σ o h n = record {
       (k, left c (λ q e. let (x, f) = m.made q e in (lookup-left σ o q x f).0));
 }
   where
-    left : {k : ℕ} {v : Value} → Chain σ k v → ((q : ℕ) → object_of v ≡ some q → eqb o q ≡ false) → Chain (release σ o) k v
+    left : {k : ℕ} {v : Value} → Chain σ k v → ((q : ℕ) → object_of v ≡ Some q → eqb o q ≡ false) → Chain (release σ o) k v
     left (value e) other = value e
     left (proxy {q = q} {p = p} e f) other = proxy {p = p} e (lookup-released-other σ o q (other q e) ∙ f)
     left (ordinary {q = q} {r = r} e f c) other = ordinary {r = r} e (lookup-released-other σ o q (other q e) ∙ f) (left c (λ b g. unnamed-prototype σ o q b r n f g))
 
 -- 10.1.2.1 step 8: o is not on the chain that it now goes on with
-ends_set : (σ : Store) (o : ℕ) (r : OrdinaryObject) (v : Value) → lookup σ o ≡ some (Ordinary r) → MadeValue σ v → reaches (length σ.objects) σ o v ≡ false
+ends_set : (σ : Store) (o : ℕ) (r : OrdinaryObject) (v : Value) → lookup σ o ≡ Some (Ordinary r) → MadeValue σ v → reaches (length σ.objects) σ o v ≡ false
     → Ends σ → Ends (put σ o (with_prototype r v))
 ends_set σ o r v e mv far h = record { chain = λ u m. let (n, c) = h.chain u (made-before (put-before σ o (Ordinary r) _ e) m) in after c }
   where
@@ -323,7 +321,7 @@ abbrev EndsIn : Written → Type 0
 EndsIn a = Ends a.1
 
 module _ (c : Context) (h : Ends c.store) where
-  ordinary_set_prototype_of-ends : (o : ℕ) (r : OrdinaryObject) (v : Value) → lookup c.store o ≡ some (Ordinary r) → MadeValue c.store v → EndsIn (ordinary_set_prototype_of c.store o r v)
+  ordinary_set_prototype_of-ends : (o : ℕ) (r : OrdinaryObject) (v : Value) → lookup c.store o ≡ Some (Ordinary r) → MadeValue c.store v → EndsIn (ordinary_set_prototype_of c.store o r v)
   unfolding ordinary_set_prototype_of
   ordinary_set_prototype_of-ends o r v e m = go (same_value v r.prototype) (not r.extensible) (reaches (length c.store.objects) c.store o v) refl
     where
@@ -358,12 +356,12 @@ module _ (c : Context) (h : Ends c.store) where
       (λ _. ensures-pure _ h)
       (λ _. ensures-then _ λ extensible. ensures-throw_if _ _ λ _. ensures-pure _ h)))
 
-  apply_validation-ends : (o : ℕ) (k : PropertyKey) (current : OwnProperty) (v : Validation) → Ensures (apply_validation c o k current v) EndsIn
+  apply_validation-ends : (o : ℕ) (k : PropertyKey) (current : Option Property) (v : Validation) → Ensures (apply_validation c o k current v) EndsIn
   unfolding apply_validation
   apply_validation-ends o k current (Rejected t) = ensures-pure _ h
   apply_validation-ends o k current Unchanged = ensures-pure _ h
-  apply_validation-ends o k Absent (Becomes p) = ensures-if _ (λ _. ensures-fails _) (λ _. ensures-pure _ (ends_with c.store o k p h))
-  apply_validation-ends o k (Present q) (Becomes p) = ensures-pure _ (ends_with c.store o k p h)
+  apply_validation-ends o k None (Becomes p) = ensures-if _ (λ _. ensures-fails _) (λ _. ensures-pure _ (ends_with c.store o k p h))
+  apply_validation-ends o k (Some q) (Becomes p) = ensures-pure _ (ends_with c.store o k p h)
 
   pub define_own_property-ends : (n o : ℕ) (k : PropertyKey) (d : PropertyDescriptor) → Ensures ((methods n c).define_own_property o k d) EndsIn
   unfolding methods ordinary_define_own_property proxy_define_own_property
@@ -375,16 +373,16 @@ module _ (c : Context) (h : Ends c.store) where
       (λ _. ensures-then _ λ answer. ensures-if _
       (λ _. ensures-pure _ h)
       (λ _. ensures-then _ (elim [
-        | Absent ↦ ensures-then _ λ extensible. ensures-throw_if _ _ λ _. ensures-throw_if _ _ λ _. ensures-pure _ h
-        | Present t ↦ ensures-then _ λ extensible. ensures-throw_if _ _ λ _. ensures-throw_if _ _ λ _. ensures-throw_if _ _ λ _. ensures-pure _ h
+        | None ↦ ensures-then _ λ extensible. ensures-throw_if _ _ λ _. ensures-throw_if _ _ λ _. ensures-pure _ h
+        | Some t ↦ ensures-then _ λ extensible. ensures-throw_if _ _ λ _. ensures-throw_if _ _ λ _. ensures-throw_if _ _ λ _. ensures-pure _ h
       ]))))
 
   set_on_receiver-ends : (n : ℕ) (k : PropertyKey) (v : Value) (o : ℕ) → Ensures (set_on_receiver c (methods n c) k v o) EndsIn
   unfolding set_on_receiver
   set_on_receiver-ends n k v o = ensures-then _ (elim [
-    | Absent ↦ define_own_property-ends n o k _
-    | Present (Accessor g s e f) ↦ ensures-pure _ h
-    | Present (Data w wr e f) ↦ ensures-if _ (λ _. ensures-pure _ h) (λ _. define_own_property-ends n o k _)
+    | None ↦ define_own_property-ends n o k _
+    | Some (Accessor g s e f) ↦ ensures-pure _ h
+    | Some (Data w wr e f) ↦ ensures-if _ (λ _. ensures-pure _ h) (λ _. define_own_property-ends n o k _)
   ])
 
   set_data-ends : (n : ℕ) (k : PropertyKey) (v : Value) (writable : Bool) (receiver : Value) → Ensures (set_data c (methods n c) k v writable receiver) EndsIn
@@ -398,9 +396,9 @@ module _ (c : Context) (h : Ends c.store) where
   set-ends zero o k v receiver = ensures-fails _
   set-ends (suc n) o k v receiver = ensures-dispatch c.store o
       (λ r e. ensures-then _ (elim [
-        | Absent ↦ ensures-then _ λ parent. ensures-option (object_of parent) (set_data-ends n k v true receiver) (λ q. set-ends n q k v receiver)
-        | Present (Data w wr en co) ↦ set_data-ends n k v wr receiver
-        | Present (Accessor g s en co) ↦ ensures-if _ (λ _. ensures-pure _ h) (λ _. ensures-then _ λ _. ensures-pure _ h)
+        | None ↦ ensures-then _ λ parent. ensures-option (object_of parent) (set_data-ends n k v true receiver) (λ q. set-ends n q k v receiver)
+        | Some (Data w wr en co) ↦ set_data-ends n k v wr receiver
+        | Some (Accessor g s en co) ↦ ensures-if _ (λ _. ensures-pure _ h) (λ _. ensures-then _ λ _. ensures-pure _ h)
       ]))
       (λ p e. ensures-if _
       (λ _. set-ends n p.target k v receiver)
@@ -413,14 +411,14 @@ module _ (c : Context) (h : Ends c.store) where
   delete-ends zero o k = ensures-fails _
   delete-ends (suc n) o k = ensures-dispatch c.store o
       (λ r e. ensures-then _ (elim [
-        | Absent ↦ ensures-pure _ h
-        | Present p ↦ ensures-if _ (λ _. ensures-pure _ (ends-without c.store o k h)) (λ _. ensures-pure _ h)
+        | None ↦ ensures-pure _ h
+        | Some p ↦ ensures-if _ (λ _. ensures-pure _ (ends-without c.store o k h)) (λ _. ensures-pure _ h)
       ]))
       (λ p e. ensures-if _
       (λ _. delete-ends n p.target k)
       (λ _. ensures-then _ λ answer. ensures-if _
       (λ _. ensures-pure _ h)
       (λ _. ensures-then _ (elim [
-        | Absent ↦ ensures-pure _ h
-        | Present t ↦ ensures-throw_if _ _ λ _. ensures-then _ λ extensible. ensures-throw_if _ _ λ _. ensures-pure _ h
+        | None ↦ ensures-pure _ h
+        | Some t ↦ ensures-throw_if _ _ λ _. ensures-then _ λ extensible. ensures-throw_if _ _ λ _. ensures-pure _ h
       ]))))

@@ -1,8 +1,8 @@
 -- Rules for what a method ensures of its result, wherever it is done. Assumes nothing.
+use Rattle.std.specs.Prelude.{Option, None, Some}
 use Prim.Native.Nat.{ℕ}
 use mathlib.Core.Path.{◌≡◌, refl, subst}
 use mathlib.Core.Bool.{Bool, true, false, false≢true}
-use mathlib.Core.Option.{Option, none, some}
 use Rattle.store.specs.declared.OrdinaryObject.{OrdinaryObject}
 use Rattle.store.specs.declared.ProxyObject.{ProxyObject}
 use Rattle.store.specs.declared.Object.{Object}
@@ -51,10 +51,10 @@ module _ {A : Type 0} {Q : A → Type 0} where
   ensures-throw_if n true h = ensures-bind (ensures-fails {Q = λ _. ⊥} (TypeError n)) (λ a f. absurd f)
   ensures-throw_if n false h = ensures-bind (ensures-pure {Q = λ _. Unit {0}} tt tt) (λ a f. h refl)
 
-  pub ensures-throw_any : {k : M A} (x : Option ℕ) → (x ≡ none → Ensures k Q) → Ensures (throw_any x >> k) Q
+  pub ensures-throw_any : {k : M A} (x : Option ℕ) → (x ≡ None → Ensures k Q) → Ensures (throw_any x >> k) Q
   unfolding throw_any
-  ensures-throw_any (some n) h = ensures-bind (ensures-fails {Q = λ _. ⊥} (TypeError n)) (λ a f. absurd f)
-  ensures-throw_any none h = ensures-bind (ensures-pure {Q = λ _. Unit {0}} tt tt) (λ a f. h refl)
+  ensures-throw_any (Some n) h = ensures-bind (ensures-fails {Q = λ _. ⊥} (TypeError n)) (λ a f. absurd f)
+  ensures-throw_any None h = ensures-bind (ensures-pure {Q = λ _. Unit {0}} tt tt) (λ a f. h refl)
 
   -- of what `m` gives nothing need be known
   pub ensures-then : {B : Type 0} {k : B → M A} (m : M B) → ((b : B) → Ensures (k b) Q) → Ensures (m >>= k) Q
@@ -70,18 +70,18 @@ module _ {A : Type 0} {Q : A → Type 0} where
   ensures-both f g = record { at = λ s a t e. (f.at s a t e, g.at s a t e) }
 
   -- whether there is an object or not
-  pub ensures-option : {m : M A} {f : ℕ → M A} (x : Option ℕ) → Ensures m Q → ((q : ℕ) → Ensures (f q) Q) → Ensures (elim x [ none ↦ m | some q ↦ f q ]) Q
-  ensures-option none g h = g
-  ensures-option (some q) g h = h q
+  pub ensures-option : {m : M A} {f : ℕ → M A} (x : Option ℕ) → Ensures m Q → ((q : ℕ) → Ensures (f q) Q) → Ensures (elim x [ None ↦ m | Some q ↦ f q ]) Q
+  ensures-option None g h = g
+  ensures-option (Some q) g h = h q
 
   pub ensures-dispatch : {f : OrdinaryObject → M A} {g : ProxyObject → M A} (σ : Store) (o : ℕ)
-      → ((r : OrdinaryObject) → lookup σ o ≡ some (Ordinary r) → Ensures (f r) Q)
+      → ((r : OrdinaryObject) → lookup σ o ≡ Some (Ordinary r) → Ensures (f r) Q)
       → ((p : ProxyObject) → Active σ o p → Ensures (g p) Q)
       → Ensures (dispatch σ o f g) Q
   unfolding dispatch dispatched
   ensures-dispatch {f} {g} σ o hf hg = ensures-then _ (λ _. go (lookup σ o) refl)
     where
       go : (x : Option Object) → lookup σ o ≡ x → Ensures (dispatched x f g) Q
-      go none e = ensures-fails (Refused 2)
-      go (some (Ordinary r)) e = hf r e
-      go (some (Proxy p)) e = ensures-throw_if 1 p.revoked (λ f. hg p (record { found = e; unrevoked = f }))
+      go None e = ensures-fails (Refused 2)
+      go (Some (Ordinary r)) e = hf r e
+      go (Some (Proxy p)) e = ensures-throw_if 1 p.revoked (λ f. hg p (record { found = e; unrevoked = f }))

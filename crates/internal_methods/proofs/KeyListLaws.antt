@@ -1,15 +1,14 @@
 -- Which keys a list has: the keys of an ordinary object, and the check of 10.5.11 steps 17 to 22. Assumes nothing.
+use Rattle.std.specs.Prelude.{Option, None, Some}
 use Prim.Native.Nat.{ℕ}
 use mathlib.Core.Path.{◌≡◌, refl, sym, ap, ◌∙◌, subst}
 use mathlib.Core.Bool.{Bool, true, false, not, ◌&&◌, ◌||◌, cond, false≢true, true≢false, or_assoc}
-use mathlib.Core.Option.{Option, none, some}
 use mathlib.Core.List.{List, [], ◌∷◌, ◌++◌}
 use lib.Dec.{eqb, ltb}
 use Rattle.value.specs.declared.PropertyKey.{PropertyKey}
 use Rattle.value.specs.PropertyKey.{same_key}
 use Rattle.value.proofs.Bools.{or_swap, or_true_right, or_cases, and-true, bool-ext}
 use Rattle.value.proofs.SameKey.{key-eq}
-use Rattle.property.specs.declared.OwnProperty.TheVariants.{Present}
 use Rattle.text.specs.Strings.{Strings}
 use Rattle.store.specs.declared.Entry.{Entry}
 use Rattle.store.specs.Store.{Store, is_at, find, own}
@@ -25,7 +24,7 @@ keys_in-has [] o k = refl
 keys_in-has (e ∷ es) o k = go (eqb e.owner o) (same_key e.key k) refl (keys_in-has es o k)
   where
     go : (a b : Bool) → same_key e.key k ≡ b → has_key k (keys_in es o) ≡ not (is_absent (find es o k))
-        → has_key k (cond a (e.key ∷ keys_in es o) (keys_in es o)) ≡ not (is_absent (cond (a && b) (Present e.property) (find es o k)))
+        → has_key k (cond a (e.key ∷ keys_in es o) (keys_in es o)) ≡ not (is_absent (cond (a && b) (Some e.property) (find es o k)))
     go true true h ih = rw h
     go true false h ih = rw h ih
     go false b h ih = ih
@@ -129,15 +128,15 @@ checked-cons k ks us rest h c = record {
     leave l true f = refl
     leave l false f = c.left l f
 
-checked : (ks us rest : List PropertyKey) → checked_off ks us ≡ some rest → Checked ks us rest
+checked : (ks us rest : List PropertyKey) → checked_off ks us ≡ Some rest → Checked ks us rest
 unfolding checked_off has_key
 checked [] us rest h =
     let e : us ≡ rest = cc in
     record { held = λ k f. absurd (false≢true f); within = λ k f. rw e f; left = λ k f. rw e at f }
 checked (k ∷ ks) us rest h = go (has_key k us) refl (checked ks (without_key k us) rest) h
   where
-    go : (b : Bool) → has_key k us ≡ b → (checked_off ks (without_key k us) ≡ some rest → Checked ks (without_key k us) rest)
-        → cond b (checked_off ks (without_key k us)) none ≡ some rest → Checked (k ∷ ks) us rest
+    go : (b : Bool) → has_key k us ≡ b → (checked_off ks (without_key k us) ≡ Some rest → Checked ks (without_key k us) rest)
+        → cond b (checked_off ks (without_key k us)) None ≡ Some rest → Checked (k ∷ ks) us rest
     go true e ih f = checked-cons k ks us rest e (ih f)
     go false e ih f = absurd (false≢true cc)
 
@@ -166,31 +165,31 @@ module _ (x : Bool) (s : Sorted) (list : List PropertyKey) where
 
   -- 21
   admitted-21 : (us : List PropertyKey) → Checked s.nonconfigurable list us → (w : Option (List PropertyKey)) → checked_off s.configurable us ≡ w
-      → remaining w ≡ none → Admitted x s list
-  admitted-21 us c none e h = absurd (false≢true cc)
-  admitted-21 us c (some ws) e h = go (is_empty ws) refl h
+      → remaining w ≡ None → Admitted x s list
+  admitted-21 us c None e h = absurd (false≢true cc)
+  admitted-21 us c (Some ws) e h = go (is_empty ws) refl h
     where
-      go : (b : Bool) → is_empty ws ≡ b → cond {A = Option ℕ} b none (some 26) ≡ none → Admitted x s list
+      go : (b : Bool) → is_empty ws ≡ b → cond {A = Option ℕ} b None (Some 26) ≡ None → Admitted x s list
       go true f h = admitted-22 us ws c (checked s.configurable us ws e) f
       go false f h = absurd (false≢true cc)
 
   -- 19 and 20
-  admitted-19 : (w : Option (List PropertyKey)) → checked_off s.nonconfigurable list ≡ w → required x s.configurable w ≡ none → Admitted x s list
-  admitted-19 none e h = absurd (false≢true cc)
-  admitted-19 (some us) e h = go x refl h
+  admitted-19 : (w : Option (List PropertyKey)) → checked_off s.nonconfigurable list ≡ w → required x s.configurable w ≡ None → Admitted x s list
+  admitted-19 None e h = absurd (false≢true cc)
+  admitted-19 (Some us) e h = go x refl h
     where
       c : Checked s.nonconfigurable list us
       c = checked s.nonconfigurable list us e
 
-      go : (b : Bool) → x ≡ b → cond b none (remaining (checked_off s.configurable us)) ≡ none → Admitted x s list
+      go : (b : Bool) → x ≡ b → cond b None (remaining (checked_off s.configurable us)) ≡ None → Admitted x s list
       go true f h = record { fixed = c.held; exact = λ shut. absurd (true≢false (sym f ∙ shut)) }
       go false f h = admitted-21 us c _ refl h
 
-  pub admitted : rejected x s list ≡ none → Admitted x s list
+  pub admitted : rejected x s list ≡ None → Admitted x s list
   unfolding rejected
   admitted h = go (x && is_empty s.nonconfigurable) refl h
     where
-      go : (b : Bool) → (x && is_empty s.nonconfigurable) ≡ b → cond b none (required x s.configurable (checked_off s.nonconfigurable list)) ≡ none → Admitted x s list
+      go : (b : Bool) → (x && is_empty s.nonconfigurable) ≡ b → cond b None (required x s.configurable (checked_off s.nonconfigurable list)) ≡ None → Admitted x s list
       go true e h =
           let (open-x, empty) = and-true x (is_empty s.nonconfigurable) e in
           record {

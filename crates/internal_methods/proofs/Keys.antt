@@ -1,4 +1,5 @@
 -- What [[OwnPropertyKeys]] reports of an object is so of its base. Assumes nothing.
+use Rattle.std.specs.Prelude.{Option, None, Some}
 use Prim.Native.Nat.{ℕ, suc, zero}
 use mathlib.Core.Path.{◌≡◌, refl, sym, ap, ◌∙◌, subst}
 use mathlib.Core.Bool.{Bool, true, false, not, ◌||◌, false≢true, or_assoc}
@@ -8,8 +9,6 @@ use Rattle.value.specs.declared.PropertyKey.{PropertyKey}
 use Rattle.value.specs.PropertyKey.{same_key}
 use Rattle.value.proofs.Bools.{or_swap}
 use Rattle.value.proofs.SameKey.{key-eq}
-use Rattle.property.specs.declared.OwnProperty.{OwnProperty}
-use Rattle.property.specs.declared.OwnProperty.TheVariants.{Absent, Present}
 use Rattle.property.proofs.ValidateLaws.{configurable-not-frozen}
 use Rattle.store.specs.declared.OrdinaryObject.{OrdinaryObject}
 use Rattle.store.specs.Store.{Store, own}
@@ -22,26 +21,27 @@ use Rattle.internal_methods.proofs.Ensures.{Ensures, ensures-pure, ensures-fails
 use Rattle.internal_methods.proofs.Base.{frozen_as, is_absent, here, Under, at_base, on-base, through, Frozen}
 use Rattle.internal_methods.proofs.Reading.{is_extensible-report, Faithful, get_own_property-report, frozen-told}
 use Rattle.internal_methods.proofs.KeyListLaws.{own-keys-has, Admitted, admitted}
+use Rattle.property.specs.declared.Property.{Property}
 
 -- a key list has what is frozen, and all that there is and no more of an object that is not extensible
 pub record KeysTied (σ : Store) (b : ℕ) (r : OrdinaryObject) (ks : List PropertyKey) : Type 0 where
   pub fixed : (k : PropertyKey) (v : Value) → frozen_as v (own σ b k) ≡ true → has_key k ks ≡ true
   pub shown : r.extensible ≡ false → (k : PropertyKey) → has_key k ks ≡ not (is_absent (own σ b k))
 
-frozen-there : (d : OwnProperty) (v : Value) → frozen_as v d ≡ true → not (is_absent d) ≡ true
-frozen-there Absent v h = absurd (false≢true h)
-frozen-there (Present p) v h = refl
+frozen-there : (d : Option Property) (v : Value) → frozen_as v d ≡ true → not (is_absent d) ≡ true
+frozen-there None v h = absurd (false≢true h)
+frozen-there (Some p) v h = refl
 
-frozen-fixed : (d : OwnProperty) (v : Value) → frozen_as v d ≡ true → absent_or_configurable d ≡ true → ⊥
-frozen-fixed Absent v h c = false≢true h
-frozen-fixed (Present p) v h c = false≢true (sym (configurable-not-frozen p v c) ∙ h)
+frozen-fixed : (d : Option Property) (v : Value) → frozen_as v d ≡ true → absent_or_configurable d ≡ true → ⊥
+frozen-fixed None v h c = false≢true h
+frozen-fixed (Some p) v h c = false≢true (sym (configurable-not-frozen p v c) ∙ h)
 
 -- step 16: the keys are sorted, and what is frozen is among those that cannot be configured
 record Sorts (σ : Store) (o : ℕ) (ks : List PropertyKey) (s : Sorted) : Type 0 where
   parts : (k : PropertyKey) → has_key k ks ≡ (has_key k s.configurable || has_key k s.nonconfigurable)
   fixed : (k : PropertyKey) (v : Value) → Frozen σ o k v → has_key k ks ≡ true → has_key k s.nonconfigurable ≡ true
 
-sorts-cons : (σ : Store) (o : ℕ) (k : PropertyKey) (ks : List PropertyKey) (s : Sorted) (d : OwnProperty) → Faithful σ o k d → Sorts σ o ks s
+sorts-cons : (σ : Store) (o : ℕ) (k : PropertyKey) (ks : List PropertyKey) (s : Sorted) (d : Option Property) → Faithful σ o k d → Sorts σ o ks s
     → (b : Bool) → absent_or_configurable d ≡ b → Sorts σ o (k ∷ ks) (sorted_by k b s)
 unfolding has_key
 sorts-cons σ o k ks s d f h true e = record {
@@ -61,7 +61,7 @@ sorts-cons σ o k ks s d f h false e = record {
     go l v u true g = refl
     go l v u false g = h.fixed l v u g
 
-sorted-report : (σ : Store) (o : ℕ) (get_own : PropertyKey → M OwnProperty) → ((k : PropertyKey) → Ensures (get_own k) (Faithful σ o k)) → (ks : List PropertyKey)
+sorted-report : (σ : Store) (o : ℕ) (get_own : PropertyKey → M (Option Property)) → ((k : PropertyKey) → Ensures (get_own k) (Faithful σ o k)) → (ks : List PropertyKey)
     → Ensures (sorted get_own ks) (Sorts σ o ks)
 unfolding sorted has_key
 sorted-report σ o get_own h [] = ensures-pure _ (record { parts = λ k. refl; fixed = λ k v u f. f })

@@ -1,16 +1,14 @@
 -- What lasts of an ordinary object, and of a store. Assumes nothing.
+use Rattle.std.specs.Prelude.{Option, None, Some}
 use Prim.Native.Nat.{ℕ}
 use mathlib.Core.Path.{◌≡◌, refl, sym, ap, ◌∙◌, subst}
 use mathlib.Core.Bool.{Bool, true, false, cond, false≢true, true≢false}
-use mathlib.Core.Option.{Option, none, some}
 use lib.Dec.{eqb}
 use borrow.Author.Tests.{eqb-true}
 use Rattle.value.specs.Bits.{bit}
 use Rattle.value.specs.declared.Value.{Value}
 use Rattle.value.specs.declared.PropertyKey.{PropertyKey}
 use Rattle.property.specs.declared.Property.{Property}
-use Rattle.property.specs.declared.OwnProperty.{OwnProperty}
-use Rattle.property.specs.declared.OwnProperty.TheVariants.{Absent, Present}
 use Rattle.store.specs.declared.OrdinaryObject.{OrdinaryObject}
 use Rattle.store.specs.declared.ProxyObject.{ProxyObject}
 use Rattle.store.specs.declared.Object.{Object}
@@ -46,9 +44,9 @@ lasts-ordinary (proxies l k) h = let e = h.is in absurd (false≢true cc)
 
 -- each object of the store lasts, with its name, and there may be new ones, of which only an ordinary one is callable
 pub record Grows (σ τ : Store) : Type 0 where
-  pub lasts : (o : ℕ) (x : Object) → lookup σ o ≡ some x → (y : Object) × (lookup τ o ≡ some y) × Lasts σ τ o x y
-  pub named : (o : ℕ) (x : Object) → lookup σ o ≡ some x → is_function τ o ≡ is_function σ o
-  pub added : (o : ℕ) (y : Object) → lookup σ o ≡ none → lookup τ o ≡ some y → is_function τ o ≡ true → IsOrdinary y
+  pub lasts : (o : ℕ) (x : Object) → lookup σ o ≡ Some x → (y : Object) × (lookup τ o ≡ Some y) × Lasts σ τ o x y
+  pub named : (o : ℕ) (x : Object) → lookup σ o ≡ Some x → is_function τ o ≡ is_function σ o
+  pub added : (o : ℕ) (y : Object) → lookup σ o ≡ None → lookup τ o ≡ Some y → is_function τ o ≡ true → IsOrdinary y
 
 -- where the objects and the properties of b are as before
 lasts-same : (σ τ : Store) (b : ℕ) (x : Object) → ((k : PropertyKey) → own τ b k ≡ own σ b k) → Lasts σ τ b x x
@@ -85,9 +83,9 @@ grows-trans {σ} {τ} {υ} f g = record {
   added = λ o z e h i. from-middle o z e h i _ refl;
 }
   where
-    from-middle : (o : ℕ) (z : Object) → lookup σ o ≡ none → lookup υ o ≡ some z → is_function υ o ≡ true → (m : Option Object) → lookup τ o ≡ m → IsOrdinary z
-    from-middle o z e h i none m = g.added o z m h i
-    from-middle o z e h i (some y) m =
+    from-middle : (o : ℕ) (z : Object) → lookup σ o ≡ None → lookup υ o ≡ Some z → is_function υ o ≡ true → (m : Option Object) → lookup τ o ≡ m → IsOrdinary z
+    from-middle o z e h i None m = g.added o z m h i
+    from-middle o z e h i (Some y) m =
         let (w, b, l) = g.lasts o y m in
         let q : w ≡ z = cc in
         subst IsOrdinary q (lasts-ordinary l (f.added o y e m (sym (g.named o y m) ∙ i)))
@@ -101,26 +99,26 @@ grows-add σ fresh y b h = record {
       subst IsOrdinary q (h (sym (function-new σ y b) ∙ subst (λ (n : ℕ). is_function (add σ y b) n ≡ true) p i));
 }
 
-pub grows-put : (σ : Store) (o : ℕ) (x y : Object) → lookup σ o ≡ some x → Lasts σ (put σ o y) o x y → Grows σ (put σ o y)
+pub grows-put : (σ : Store) (o : ℕ) (x y : Object) → lookup σ o ≡ Some x → Lasts σ (put σ o y) o x y → Grows σ (put σ o y)
 unfolding put
 grows-put σ o x y e l = record { lasts = λ b z f. go b z f (eqb o b) refl; named = λ b z f. refl; added = λ b w f g _. absurd (none-new b w f g (eqb o b) refl) }
   where
-    go : (b : ℕ) (z : Object) → lookup σ b ≡ some z → (t : Bool) → eqb o b ≡ t → (w : Object) × (lookup (put σ o y) b ≡ some w) × Lasts σ (put σ o y) b z w
+    go : (b : ℕ) (z : Object) → lookup σ b ≡ Some z → (t : Bool) → eqb o b ≡ t → (w : Object) × (lookup (put σ o y) b ≡ Some w) × Lasts σ (put σ o y) b z w
     go b z f true h =
         let p : o ≡ b = eqb-true o b h in
         let q : x ≡ z = cc in (
           y,
-          subst (λ (n : ℕ). lookup (put σ o y) n ≡ some y) p (lookup-put σ o x y e),
+          subst (λ (n : ℕ). lookup (put σ o y) n ≡ Some y) p (lookup-put σ o x y e),
           subst (λ (n : ℕ). Lasts σ (put σ o y) n z y) p (subst (λ (u : Object). Lasts σ (put σ o y) o u y) q l),
         )
     go b z f false h = (z, lookup-put-other σ o b y h ∙ f, lasts-same σ (put σ o y) b z (λ k. own_put σ o y b k))
 
-    none-new : (b : ℕ) (w : Object) → lookup σ b ≡ none → lookup (put σ o y) b ≡ some w → (t : Bool) → eqb o b ≡ t → ⊥
+    none-new : (b : ℕ) (w : Object) → lookup σ b ≡ None → lookup (put σ o y) b ≡ Some w → (t : Bool) → eqb o b ≡ t → ⊥
     none-new b w f g true h = let p : o ≡ b = eqb-true o b h in false≢true cc
-    none-new b w f g false h = let q : lookup (put σ o y) b ≡ none = lookup-put-other σ o b y h ∙ f in false≢true cc
+    none-new b w f g false h = let q : lookup (put σ o y) b ≡ None = lookup-put-other σ o b y h ∙ f in false≢true cc
 
 -- an ordinary object has another prototype or is no longer extensible
-grows-object : (σ : Store) (o : ℕ) (r s : OrdinaryObject) → lookup σ o ≡ some (Ordinary r)
+grows-object : (σ : Store) (o : ℕ) (r s : OrdinaryObject) → lookup σ o ≡ Some (Ordinary r)
     → (r.extensible ≡ false → s.extensible ≡ false) → (r.extensible ≡ false → s.prototype ≡ r.prototype) → Grows σ (put σ o (Ordinary s))
 grows-object σ o r s e shut rooted = grows-put σ o (Ordinary r) (Ordinary s) e (ordinaries (record {
   frozen = λ k v h. rw (own_put σ o (Ordinary s) o k) h;
@@ -130,17 +128,17 @@ grows-object σ o r s e shut rooted = grows-put σ o (Ordinary r) (Ordinary s) e
 }))
 
 -- the property k of o changes, and no other
-grows_at : (σ τ : Store) (o : ℕ) (k : PropertyKey) (r : OrdinaryObject) (d : OwnProperty) → lookup σ o ≡ some (Ordinary r)
+grows_at : (σ τ : Store) (o : ℕ) (k : PropertyKey) (r : OrdinaryObject) (d : Option Property) → lookup σ o ≡ Some (Ordinary r)
     → ((b : ℕ) → lookup τ b ≡ lookup σ b) → ((b : ℕ) (l : PropertyKey) → own τ b l ≡ cond (same_place o k b l) d (own σ b l))
     → ((v : Value) → frozen_as v (own σ o k) ≡ true → frozen_as v d ≡ true)
     → (r.extensible ≡ false → is_absent (own σ o k) ≡ true → is_absent d ≡ true) → τ.callable ≡ σ.callable → Grows σ τ
-grows_at σ τ o k r d e objects properties keeps lacks marks = record { lasts = λ b x f. (x, objects b ∙ f, go b x f); named = λ b x f. ap (λ (m : ℕ). bit m b) marks; added = λ b y f g _. let q : lookup τ b ≡ none = objects b ∙ f in absurd (false≢true cc) }
+grows_at σ τ o k r d e objects properties keeps lacks marks = record { lasts = λ b x f. (x, objects b ∙ f, go b x f); named = λ b x f. ap (λ (m : ℕ). bit m b) marks; added = λ b y f g _. let q : lookup τ b ≡ None = objects b ∙ f in absurd (false≢true cc) }
   where
     kept : (b : ℕ) (l : PropertyKey) (v : Value) → frozen_as v (own σ b l) ≡ true → (t : Bool) → same_place o k b l ≡ t → frozen_as v (cond t d (own σ b l)) ≡ true
     kept b l v h true q = let (m, n) = place-eq o k b l q in keeps v (rw (m, n) h)
     kept b l v h false q = h
 
-    lacked : (b : ℕ) (s : OrdinaryObject) → lookup σ b ≡ some (Ordinary s) → s.extensible ≡ false → (l : PropertyKey) → is_absent (own σ b l) ≡ true
+    lacked : (b : ℕ) (s : OrdinaryObject) → lookup σ b ≡ Some (Ordinary s) → s.extensible ≡ false → (l : PropertyKey) → is_absent (own σ b l) ≡ true
         → (t : Bool) → same_place o k b l ≡ t → is_absent (cond t d (own σ b l)) ≡ true
     lacked b s f x l h true q =
         let (m, n) = place-eq o k b l q in
@@ -148,7 +146,7 @@ grows_at σ τ o k r d e objects properties keeps lacks marks = record { lasts =
         lacks (rw same x) (rw (m, n) h)
     lacked b s f x l h false q = h
 
-    go : (b : ℕ) (x : Object) → lookup σ b ≡ some x → Lasts σ τ b x x
+    go : (b : ℕ) (x : Object) → lookup σ b ≡ Some x → Lasts σ τ b x x
     go b (Proxy p) f = proxies refl (λ h. h)
     go b (Ordinary s) f = ordinaries (record {
       frozen = λ l v h. rw (properties b l) (kept b l v h _ refl);
@@ -157,17 +155,17 @@ grows_at σ τ o k r d e objects properties keeps lacks marks = record { lasts =
       lacking = λ x l h. rw (properties b l) (lacked b s f x l h _ refl);
     })
 
-grows-with : (σ : Store) (o : ℕ) (r : OrdinaryObject) (k : PropertyKey) (p : Property) → lookup σ o ≡ some (Ordinary r)
-    → ((v : Value) → frozen_as v (own σ o k) ≡ true → frozen_as v (Present p) ≡ true)
+grows-with : (σ : Store) (o : ℕ) (r : OrdinaryObject) (k : PropertyKey) (p : Property) → lookup σ o ≡ Some (Ordinary r)
+    → ((v : Value) → frozen_as v (own σ o k) ≡ true → frozen_as v (Some p) ≡ true)
     → (r.extensible ≡ false → is_absent (own σ o k) ≡ true → ⊥) → Grows σ (with_property σ o k p)
 unfolding with_property
-grows-with σ o r k p e keeps there = grows_at σ (with_property σ o k p) o k r (Present p) e (lookup-with σ o k p) (own-with σ o k p) keeps (λ x a. absurd (there x a)) refl
+grows-with σ o r k p e keeps there = grows_at σ (with_property σ o k p) o k r (Some p) e (lookup-with σ o k p) (own-with σ o k p) keeps (λ x a. absurd (there x a)) refl
 
-grows-without : (σ : Store) (o : ℕ) (r : OrdinaryObject) (k : PropertyKey) → lookup σ o ≡ some (Ordinary r)
+grows-without : (σ : Store) (o : ℕ) (r : OrdinaryObject) (k : PropertyKey) → lookup σ o ≡ Some (Ordinary r)
     → ((v : Value) → frozen_as v (own σ o k) ≡ false) → Grows σ (without_property σ o k)
 unfolding without_property
 grows-without σ o r k e loose =
-    grows_at σ (without_property σ o k) o k r Absent e (lookup-without σ o k) (own-without σ o k) (λ v h. absurd (false≢true (sym (loose v) ∙ h))) (λ _ _. refl) refl
+    grows_at σ (without_property σ o k) o k r None e (lookup-without σ o k) (own-without σ o k) (λ v h. absurd (false≢true (sym (loose v) ∙ h))) (λ _ _. refl) refl
 
 -- Where no number is taken or released ----------------------------------------------------
 
@@ -183,22 +181,22 @@ pub remains-trans : {σ τ υ : Store} → Remains σ τ → Remains τ υ → R
 remains-trans f g = record { grows = grows-trans f.grows g.grows; numbers = same-trans f.numbers g.numbers; distinct = λ d. g.distinct (f.distinct d) }
 
 -- a proxy is revoked, or has other traps
-pub remains-proxy : (σ : Store) (o : ℕ) (p q : ProxyObject) → lookup σ o ≡ some (Proxy p) → q.target ≡ p.target → (q.revoked ≡ false → p.revoked ≡ false) → Remains σ (put σ o (Proxy q))
+pub remains-proxy : (σ : Store) (o : ℕ) (p q : ProxyObject) → lookup σ o ≡ Some (Proxy p) → q.target ≡ p.target → (q.revoked ≡ false → p.revoked ≡ false) → Remains σ (put σ o (Proxy q))
 unfolding put
 remains-proxy σ o p q e h k = record { grows = grows-put σ o (Proxy p) (Proxy q) e (proxies h k); numbers = same-put σ o (Proxy p) (Proxy q) e; distinct = λ d. d }
 
-pub remains-object : (σ : Store) (o : ℕ) (r s : OrdinaryObject) → lookup σ o ≡ some (Ordinary r)
+pub remains-object : (σ : Store) (o : ℕ) (r s : OrdinaryObject) → lookup σ o ≡ Some (Ordinary r)
     → (r.extensible ≡ false → s.extensible ≡ false) → (r.extensible ≡ false → s.prototype ≡ r.prototype) → Remains σ (put σ o (Ordinary s))
 unfolding put
 remains-object σ o r s e shut rooted = record { grows = grows-object σ o r s e shut rooted; numbers = same-put σ o (Ordinary r) (Ordinary s) e; distinct = λ d. d }
 
-pub remains-with : (σ : Store) (o : ℕ) (r : OrdinaryObject) (k : PropertyKey) (p : Property) → lookup σ o ≡ some (Ordinary r)
-    → ((v : Value) → frozen_as v (own σ o k) ≡ true → frozen_as v (Present p) ≡ true)
+pub remains-with : (σ : Store) (o : ℕ) (r : OrdinaryObject) (k : PropertyKey) (p : Property) → lookup σ o ≡ Some (Ordinary r)
+    → ((v : Value) → frozen_as v (own σ o k) ≡ true → frozen_as v (Some p) ≡ true)
     → (r.extensible ≡ false → is_absent (own σ o k) ≡ true → ⊥) → Remains σ (with_property σ o k p)
 unfolding with_property
 remains-with σ o r k p e keeps there = record { grows = grows-with σ o r k p e keeps there; numbers = same-properties σ _; distinct = distinct-insert σ.properties o k p }
 
-pub remains-without : (σ : Store) (o : ℕ) (r : OrdinaryObject) (k : PropertyKey) → lookup σ o ≡ some (Ordinary r)
+pub remains-without : (σ : Store) (o : ℕ) (r : OrdinaryObject) (k : PropertyKey) → lookup σ o ≡ Some (Ordinary r)
     → ((v : Value) → frozen_as v (own σ o k) ≡ false) → Remains σ (without_property σ o k)
 unfolding without_property
 remains-without σ o r k e loose = record { grows = grows-without σ o r k e loose; numbers = same-properties σ _; distinct = distinct_remove σ.properties o k }
@@ -207,7 +205,7 @@ remains-without σ o r k e loose = record { grows = grows-without σ o r k e loo
 pub through-later : {σ τ : Store} {o : ℕ} {p : ProxyObject} {P : ℕ → OrdinaryObject → Type 0} → Grows σ τ → Active σ o p → OnBase τ p.target P → OnBase τ o P
 through-later {σ} {τ} {o} {p} {P} g e u = let (y, f, l) = g.lasts o (Proxy p) e.found in go y f l
   where
-    go : (y : Object) → lookup τ o ≡ some y → Lasts σ τ o (Proxy p) y → OnBase τ o P
+    go : (y : Object) → lookup τ o ≡ Some y → Lasts σ τ o (Proxy p) y → OnBase τ o P
     go (Ordinary _) f x3 = elim x3 [ ]
     go (Proxy q) f (proxies l k) = on-proxy f (rw l u)
 
@@ -248,17 +246,17 @@ record WasActive (σ : Store) (o : ℕ) (q : ProxyObject) : Type 0 where
   target : q.target ≡ before.target
 
 module _ {σ τ : Store} (g : Grows σ τ) where
-  lasts_as : (o : ℕ) (x y : Object) → lookup σ o ≡ some x → lookup τ o ≡ some y → Lasts σ τ o x y
+  lasts_as : (o : ℕ) (x y : Object) → lookup σ o ≡ Some x → lookup τ o ≡ Some y → Lasts σ τ o x y
   lasts_as o x y e f =
       let (z, h, l) = g.lasts o x e in
       let p : z ≡ y = cc in
       subst (λ (w : Object). Lasts σ τ o x w) p l
 
-  was-ordinary : {o : ℕ} {s : OrdinaryObject} (x : Object) → lookup σ o ≡ some x → Lasts σ τ o x (Ordinary s) → (r : OrdinaryObject) × Base σ o o r × Later σ τ o r s
+  was-ordinary : {o : ℕ} {s : OrdinaryObject} (x : Object) → lookup σ o ≡ Some x → Lasts σ τ o x (Ordinary s) → (r : OrdinaryObject) × Base σ o o r × Later σ τ o r s
   was-ordinary {o = o} {s = s} (Proxy _) e x4 = elim x4 [ ]
   was-ordinary (Ordinary r) e (ordinaries l) = (r, here e, l)
 
-  was-active : {o : ℕ} {q : ProxyObject} (x : Object) → lookup σ o ≡ some x → q.revoked ≡ false → Lasts σ τ o x (Proxy q) → WasActive σ o q
+  was-active : {o : ℕ} {q : ProxyObject} (x : Object) → lookup σ o ≡ Some x → q.revoked ≡ false → Lasts σ τ o x (Proxy q) → WasActive σ o q
   was-active {o = o} {q = q} (Ordinary _) e h x5 = elim x5 [ ]
   was-active (Proxy p) e h (proxies l k) = record { before = p; active = record { found = e; unrevoked = k h }; target = l }
 
@@ -277,12 +275,12 @@ module _ {σ τ : Store} (g : Grows σ τ) where
 
   -- where the same objects are live
   module _ (numbers : SameNumbers σ τ) where
-    was-live : (o : ℕ) (y : Object) → lookup τ o ≡ some y → Made σ o
+    was-live : (o : ℕ) (y : Object) → lookup τ o ≡ Some y → Made σ o
     was-live o y e = go (lookup σ o) refl
       where
         go : (x : Option Object) → lookup σ o ≡ x → Made σ o
-        go none f = absurd (true≢false (sym (ap is_live e) ∙ (same_live numbers o ∙ ap is_live f)))
-        go (some x) f = (x, f)
+        go None f = absurd (true≢false (sym (ap is_live e) ∙ (same_live numbers o ∙ ap is_live f)))
+        go (Some x) f = (x, f)
 
     base-was : {o b : ℕ} {s : OrdinaryObject} → Base τ o b s → (r : OrdinaryObject) × Base σ o b r × Later σ τ b r s
     base-was (here {o = o} {r = s} f) = let (x, e) = was-live o (Ordinary s) f in was-ordinary x e (lasts_as o x (Ordinary s) e f)

@@ -1,15 +1,13 @@
 -- What a longer list of answers changes: nothing, unless a method runs out of answers. Assumes nothing.
+use Rattle.std.specs.Prelude.{Option, None, Some}
 use Prim.Native.Nat.{ℕ, zero, suc, ◌≤◌}
 use native.Mathlib.Nat.{le_refl, le-suc, le_trans, not-suc-le_self}
 use native.Mathlib.Omega.{arith}
 use mathlib.Core.Path.{◌≡◌, refl, sym, ap, ◌∙◌, subst}
 use mathlib.Core.Bool.{Bool, true, false}
-use mathlib.Core.Option.{Option, none, some}
 use mathlib.Core.List.{List, [], ◌∷◌, ◌++◌}
 use lib.ListN.{length, length-append}
 use Rattle.value.specs.declared.PropertyKey.{PropertyKey}
-use Rattle.property.specs.declared.OwnProperty.{OwnProperty}
-use Rattle.property.specs.declared.OwnProperty.TheVariants.{Absent, Present}
 use Rattle.property.specs.declared.Validation.{Validation}
 use Rattle.property.specs.declared.Validation.TheVariants.{Rejected, Unchanged, Becomes}
 use Rattle.store.specs.declared.OrdinaryObject.{OrdinaryObject}
@@ -25,6 +23,7 @@ use Rattle.internal_methods.specs.Methods.{Context}
 use Rattle.internal_methods.specs.Ordinary.{apply_validation}
 use Rattle.internal_methods.specs.Internal.{methods}
 use Rattle.internal_methods.proofs.Walk.{Any, allowing, Relation, RelatedMethods, AnswerBy, Asking, ask_value-by, ask_boolean-by, ask_prototype-by, ask_descriptor-by, ask_keys-by, methods-by}
+use Rattle.property.specs.declared.Property.{Property}
 
 -- the first is a tail of the second
 pub data Suffix : List Answer → List Answer → Type 0 where
@@ -118,11 +117,6 @@ module _ {A : Type 0} {k : M A} where
   longer-throw_if n true h = longer-thrown k _
   longer-throw_if n false h = longer-bind (longer-pure _) (λ _. h refl)
 
-  pub longer-throw_any : (x : Option ℕ) → (x ≡ none → Longer k) → Longer (throw_any x >> k)
-  unfolding throw_any
-  longer-throw_any none h = longer-bind (longer-pure _) (λ _. h refl)
-  longer-throw_any (some n) h = longer-thrown k _
-
 ask-takes : (n : ℕ) (a : List Answer) → Suffix (left (answered n a)) (rest a)
 ask-takes n [] = same
 ask-takes n (Answer.value v ∷ a) = same
@@ -161,15 +155,15 @@ longer-tick = record {
 
 module _ {A : Type 0} where
   pub longer-dispatch : {f : OrdinaryObject → M A} {g : ProxyObject → M A} (σ : Store) (o : ℕ)
-      → ((r : OrdinaryObject) → lookup σ o ≡ some (Ordinary r) → Longer (f r)) → ((p : ProxyObject) → lookup σ o ≡ some (Proxy p) → p.revoked ≡ false → Longer (g p))
+      → ((r : OrdinaryObject) → lookup σ o ≡ Some (Ordinary r) → Longer (f r)) → ((p : ProxyObject) → lookup σ o ≡ Some (Proxy p) → p.revoked ≡ false → Longer (g p))
       → Longer (dispatch σ o f g)
   unfolding dispatch dispatched
   longer-dispatch {f} {g} σ o hf hg = longer-bind longer-tick (λ _. go (lookup σ o) refl)
     where
       go : (x : Option Object) → lookup σ o ≡ x → Longer (dispatched x f g)
-      go none e = longer-fails _
-      go (some (Ordinary r)) e = hf r e
-      go (some (Proxy p)) e = longer-throw_if 1 p.revoked (hg p e)
+      go None e = longer-fails _
+      go (Some (Ordinary r)) e = hf r e
+      go (Some (Proxy p)) e = longer-throw_if 1 p.revoked (hg p e)
 
 -- The methods: of their objects and values nothing need be known
 
@@ -192,12 +186,12 @@ longer-asking = record {
 pub ask_keys-longer : Longer ask_keys
 ask_keys-longer = ask_keys-by longer-asking
 
-pub apply_validation-longer : (c : Context) (o : ℕ) (k : PropertyKey) (current : OwnProperty) (v : Validation) → Longer (apply_validation c o k current v)
+pub apply_validation-longer : (c : Context) (o : ℕ) (k : PropertyKey) (current : Option Property) (v : Validation) → Longer (apply_validation c o k current v)
 unfolding apply_validation
 apply_validation-longer c o k current (Rejected t) = longer-pure _
 apply_validation-longer c o k current Unchanged = longer-pure _
-apply_validation-longer c o k Absent (Becomes p) = longer-if _ (longer-fails _) (longer-pure _)
-apply_validation-longer c o k (Present q) (Becomes p) = longer-pure _
+apply_validation-longer c o k None (Becomes p) = longer-if _ (longer-fails _) (longer-pure _)
+apply_validation-longer c o k (Some q) (Becomes p) = longer-pure _
 
 abbrev pub longer-relation : (c : Context) → Relation c c.allowance Any Any (λ _ _. Any)
 longer-relation c = record {

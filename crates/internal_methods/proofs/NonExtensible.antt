@@ -1,13 +1,12 @@
 -- An object that is not extensible gets no property: its definitions are never refused for want of room. Assumes nothing.
+use Rattle.std.specs.Prelude.{Option, None, Some}
 use Prim.Native.Nat.{ℕ, zero, suc, ◌≤◌}
 use native.Mathlib.Nat.{le_refl}
 use mathlib.Core.Path.{◌≡◌, refl, sym, ◌∙◌}
-use mathlib.Core.Bool.{Bool, true, false, not}
+use mathlib.Core.Bool.{Bool, true, false}
 use lib.ListN.{length}
 use Rattle.value.specs.declared.PropertyKey.{PropertyKey}
 use Rattle.property.specs.declared.PropertyDescriptor.{PropertyDescriptor}
-use Rattle.property.specs.declared.OwnProperty.{OwnProperty}
-use Rattle.property.specs.declared.OwnProperty.TheVariants.{Absent, Present}
 use Rattle.property.specs.declared.Validation.{Validation}
 use Rattle.property.specs.declared.Validation.TheVariants.{Rejected, Unchanged, Becomes}
 use Rattle.property.specs.Validate.{validate}
@@ -24,6 +23,7 @@ use Rattle.internal_methods.proofs.Ensures.{Ensures}
 use Rattle.internal_methods.proofs.Base.{here, at_target, Shut}
 use Rattle.internal_methods.proofs.Reading.{is_extensible-exact, get_own_property-exact}
 use Rattle.internal_methods.proofs.Room.{Alike, Same, same-pure, same-fails, same-bind, same-dispatch, same-asking, keeps, puts-kept, methods-roomy}
+use Rattle.property.specs.declared.Property.{Property}
 
 -- as many properties as before, or fewer
 abbrev pub Within : Context → Written → Type 0
@@ -70,12 +70,12 @@ prevent_extensions-fits (suc n) c o = same-dispatch c.store o
     (same-bind (fits-itself ((methods-roomy n c).is_extensible p.target tt)) λ extensible _. fits-throw_if _ _ (same-pure _ (le_refl _)))))
 
 module _ (c : Context) (o : ℕ) (k : PropertyKey) (d : PropertyDescriptor) where
-  apply-fits : (x : Bool) → x ≡ false → (current : OwnProperty) → current ≡ own c.store o k → (v : Validation) → validate x d current ≡ v → Fitting (Within c) (apply_validation c o k current v)
+  apply-fits : (x : Bool) → x ≡ false → (current : Option Property) → current ≡ own c.store o k → (v : Validation) → validate x d current ≡ v → Fitting (Within c) (apply_validation c o k current v)
   unfolding apply_validation
   apply-fits x e current f (Rejected t) h = same-pure _ (le_refl _)
   apply-fits x e current f Unchanged h = same-pure _ (le_refl _)
-  apply-fits x e Absent f (Becomes p) h = absurd (validate-adds x d Absent p h e refl)
-  apply-fits x e (Present q) f (Becomes p) h = same-pure _ (keeps c.store o k p q (sym f))
+  apply-fits x e None f (Becomes p) h = absurd (validate-adds x d None p h e refl)
+  apply-fits x e (Some q) f (Becomes p) h = same-pure _ (keeps c.store o k p q (sym f))
 
 pub define_own_property-fits : (n : ℕ) (c : Context) (o : ℕ) (k : PropertyKey) (d : PropertyDescriptor) → Shut c.store o → Fitting (Within c) ((methods n c).define_own_property o k d)
 unfolding methods ordinary_define_own_property proxy_define_own_property
@@ -90,10 +90,10 @@ define_own_property-fits (suc n) c o k d shut = same-dispatch c.store o
     (same-bind (ask_boolean-by same-asking c.strings) λ answer _. fits-if _
     (same-pure _ (le_refl _))
     (same-bind (fits-itself ((methods-roomy n c).get_own_property p.target k tt)) (elim [
-      | Absent ↦ λ _.
+      | None ↦ λ _.
           same-bind (fits-itself ((methods-roomy n c).is_extensible p.target tt)) λ extensible _.
           fits-throw_if _ _ (fits-throw_if _ _ (same-pure _ (le_refl _)))
-      | Present t ↦ λ _.
+      | Some t ↦ λ _.
           same-bind (fits-itself ((methods-roomy n c).is_extensible p.target tt)) λ extensible _.
           fits-throw_if _ _ (fits-throw_if _ _ (fits-throw_if _ _ (same-pure _ (le_refl _))))
     ]))))

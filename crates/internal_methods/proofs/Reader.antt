@@ -1,15 +1,13 @@
 -- Refusal 9 comes of the last answer taken, which whoever asked for it cannot read; a throw in its place ends the run in that throw. Assumes nothing.
+use Rattle.std.specs.Prelude.{Option, None, Some}
 use Prim.Native.Nat.{ℕ, zero, suc}
 use mathlib.Core.Path.{◌≡◌, refl, sym, ap, ◌∙◌}
 use mathlib.Core.Bool.{Bool, true, false}
-use mathlib.Core.Option.{Option, none, some}
 use mathlib.Core.List.{List, [], ◌∷◌, ◌++◌, append_assoc}
 use lib.Dec.{eqb}
 use Rattle.value.specs.declared.Value.{Value}
 use Rattle.value.specs.declared.Value.TheVariants as value
 use Rattle.value.specs.declared.PropertyKey.{PropertyKey}
-use Rattle.property.specs.declared.OwnProperty.{OwnProperty}
-use Rattle.property.specs.declared.OwnProperty.TheVariants.{Absent, Present}
 use Rattle.property.specs.declared.Validation.{Validation}
 use Rattle.property.specs.declared.Validation.TheVariants.{Rejected, Unchanged, Becomes}
 use Rattle.text.specs.Strings.{Strings}
@@ -27,6 +25,7 @@ use Rattle.internal_methods.specs.Methods.{Context}
 use Rattle.internal_methods.specs.Ordinary.{apply_validation}
 use Rattle.internal_methods.specs.Internal.{methods}
 use Rattle.internal_methods.proofs.Walk.{Any, allowing, Relation, RelatedMethods, methods-by}
+use Rattle.property.specs.declared.Property.{Property}
 
 abbrev pub is_nine : Failure → Bool
 is_nine (Refused n) = eqb n 9
@@ -94,7 +93,7 @@ reader-tick = record { ended = λ s. go s.answers s.calls }
 
 module _ {A : Type 0} where
   pub reader-dispatch : {f : OrdinaryObject → M A} {g : ProxyObject → M A} (σ : Store) (o : ℕ)
-      → ((r : OrdinaryObject) → lookup σ o ≡ some (Ordinary r) → Reader (f r)) → ((p : ProxyObject) → lookup σ o ≡ some (Proxy p) → p.revoked ≡ false → Reader (g p)) → Reader (dispatch σ o f g)
+      → ((r : OrdinaryObject) → lookup σ o ≡ Some (Ordinary r) → Reader (f r)) → ((p : ProxyObject) → lookup σ o ≡ Some (Proxy p) → p.revoked ≡ false → Reader (g p)) → Reader (dispatch σ o f g)
   unfolding dispatch dispatched throw_if fails ◌>>=◌ next
   reader-dispatch {f} {g} σ o hf hg = reader-bind reader-tick (λ _. go (lookup σ o) refl)
     where
@@ -103,9 +102,9 @@ module _ {A : Type 0} where
       revoked false p h = reader-bind (reader-pure _) (λ _. h refl)
 
       go : (x : Option Object) → lookup σ o ≡ x → Reader (dispatched x f g)
-      go none e = reader-fails _ refl
-      go (some (Ordinary r)) e = hf r e
-      go (some (Proxy p)) e = revoked p.revoked p (hg p e)
+      go None e = reader-fails _ refl
+      go (Some (Ordinary r)) e = hf r e
+      go (Some (Proxy p)) e = revoked p.revoked p (hg p e)
 
 -- The answers
 
@@ -166,8 +165,8 @@ module _ (n : ℕ) where
   keys-ended (Answer.keys vs ∷ a) = go (keys_of vs) refl
     where
       go : (x : Option (List PropertyKey)) → keys_of vs ≡ x → Ended ask_keys (state (Answer.keys vs ∷ a) n) ((listed x).run (state a n))
-      go none e = other refl
-      go (some ks) e = done (Answer.keys vs ∷ []) refl (λ rest. ap (λ (x : Option (List PropertyKey)). (listed x).run (state rest n)) e)
+      go None e = other refl
+      go (Some ks) e = done (Answer.keys vs ∷ []) refl (λ rest. ap (λ (x : Option (List PropertyKey)). (listed x).run (state rest n)) e)
   keys-ended (Answer.throw v ∷ a) = other refl
 
 pub ask_value-reader : Reader ask_value
@@ -192,12 +191,12 @@ ask_keys-reader = record { ended = λ s. keys-ended s.calls s.answers }
 
 -- The methods
 
-pub apply_validation-reader : (c : Context) (o : ℕ) (k : PropertyKey) (current : OwnProperty) (v : Validation) → Reader (apply_validation c o k current v)
+pub apply_validation-reader : (c : Context) (o : ℕ) (k : PropertyKey) (current : Option Property) (v : Validation) → Reader (apply_validation c o k current v)
 unfolding apply_validation
 apply_validation-reader c o k current (Rejected t) = reader-pure _
 apply_validation-reader c o k current Unchanged = reader-pure _
-apply_validation-reader c o k Absent (Becomes p) = reader-if _ (reader-fails _ refl) (reader-pure _)
-apply_validation-reader c o k (Present q) (Becomes p) = reader-pure _
+apply_validation-reader c o k None (Becomes p) = reader-if _ (reader-fails _ refl) (reader-pure _)
+apply_validation-reader c o k (Some q) (Becomes p) = reader-pure _
 
 abbrev pub reader-relation : (c : Context) → Relation c c.allowance Any Any (λ _ _. Any)
 reader-relation c = record {

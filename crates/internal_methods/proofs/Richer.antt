@@ -1,15 +1,13 @@
 -- Refusal 10: with a larger budget of calls the run that it ends makes more calls than the smaller budget allows. Assumes nothing.
+use Rattle.std.specs.Prelude.{Option, None, Some}
 use Prim.Native.Nat.{ℕ, zero, suc, ◌+◌, ◌≤◌, ◌<◌}
 use native.Mathlib.Nat.{le_refl, le_trans, le-suc, le_of_suc-le-suc, not-suc-le-zero}
 use native.Mathlib.Omega.{arith}
 use mathlib.Core.Path.{◌≡◌, refl, sym, ◌∙◌, subst}
 use mathlib.Core.Bool.{Bool, true, false, false≢true}
-use mathlib.Core.Option.{Option, none, some}
 use mathlib.Core.List.{List, [], ◌∷◌}
 use lib.Dec.{eqb}
 use Rattle.value.specs.declared.PropertyKey.{PropertyKey}
-use Rattle.property.specs.declared.OwnProperty.{OwnProperty}
-use Rattle.property.specs.declared.OwnProperty.TheVariants.{Absent, Present}
 use Rattle.property.specs.declared.Validation.{Validation}
 use Rattle.property.specs.declared.Validation.TheVariants.{Rejected, Unchanged, Becomes}
 use Rattle.store.specs.declared.OrdinaryObject.{OrdinaryObject}
@@ -25,6 +23,7 @@ use Rattle.internal_methods.specs.Ordinary.{apply_validation}
 use Rattle.internal_methods.specs.Internal.{methods}
 use Rattle.internal_methods.proofs.Walk.{Any, Relation, MethodsBy, Asking, ask_value-by, ask_boolean-by, ask_prototype-by, ask_descriptor-by, ask_keys-by, level_by}
 use Rattle.internal_methods.proofs.Longer.{any-answer}
+use Rattle.property.specs.declared.Property.{Property}
 
 -- the calls that are left
 abbrev pub calls_left : {A : Type 0} → Out A → ℕ
@@ -160,25 +159,25 @@ module _ {n l : ℕ} {A : Type 0} {f f' : M A} (h : Richer n l f f') where
 
 module _ {A : Type 0} (σ : Store) (o : ℕ) where
   -- the body of the kind that o has
-  found : {n l : ℕ} {f f' : OrdinaryObject → M A} {g g' : ProxyObject → M A} → ((r : OrdinaryObject) → lookup σ o ≡ some (Ordinary r) → Richer n l (f r) (f' r))
-      → ((p : ProxyObject) → lookup σ o ≡ some (Proxy p) → p.revoked ≡ false → Richer n l (g p) (g' p)) → Richer n l (dispatched (lookup σ o) f g) (dispatched (lookup σ o) f' g')
+  found : {n l : ℕ} {f f' : OrdinaryObject → M A} {g g' : ProxyObject → M A} → ((r : OrdinaryObject) → lookup σ o ≡ Some (Ordinary r) → Richer n l (f r) (f' r))
+      → ((p : ProxyObject) → lookup σ o ≡ Some (Proxy p) → p.revoked ≡ false → Richer n l (g p) (g' p)) → Richer n l (dispatched (lookup σ o) f g) (dispatched (lookup σ o) f' g')
   unfolding dispatched
   found {n} {l} {f} {f'} {g} {g'} hf hg = go (lookup σ o) refl
     where
       go : (x : Option Object) → lookup σ o ≡ x → Richer n l (dispatched x f g) (dispatched x f' g')
-      go none e = richer-fails _ refl
-      go (some (Ordinary r)) e = hf r e
-      go (some (Proxy p)) e = richer-revoked p.revoked (hg p e)
+      go None e = richer-fails _ refl
+      go (Some (Ordinary r)) e = hf r e
+      go (Some (Proxy p)) e = richer-revoked p.revoked (hg p e)
 
-  found-falls : {f : OrdinaryObject → M A} {g : ProxyObject → M A} → ((r : OrdinaryObject) → lookup σ o ≡ some (Ordinary r) → Falls (f r))
-      → ((p : ProxyObject) → lookup σ o ≡ some (Proxy p) → p.revoked ≡ false → Falls (g p)) → Falls (dispatched (lookup σ o) f g)
+  found-falls : {f : OrdinaryObject → M A} {g : ProxyObject → M A} → ((r : OrdinaryObject) → lookup σ o ≡ Some (Ordinary r) → Falls (f r))
+      → ((p : ProxyObject) → lookup σ o ≡ Some (Proxy p) → p.revoked ≡ false → Falls (g p)) → Falls (dispatched (lookup σ o) f g)
   unfolding dispatched
   found-falls {f} {g} hf hg = go (lookup σ o) refl
     where
       go : (x : Option Object) → lookup σ o ≡ x → Falls (dispatched x f g)
-      go none e = falls-fails _
-      go (some (Ordinary r)) e = hf r e
-      go (some (Proxy p)) e = falls-revoked p.revoked (hg p e)
+      go None e = falls-fails _
+      go (Some (Ordinary r)) e = hf r e
+      go (Some (Proxy p)) e = falls-revoked p.revoked (hg p e)
 
 -- with no call left it is refused, and with some one is spent
 pub record Spends (l : ℕ) {A : Type 0} (m : M A) : Type 0 where
@@ -191,8 +190,8 @@ module _ {A : Type 0} where
   unfolding fails
   spends-fails = record { stops = λ a. refl; spends = λ a i h. absurd (not-suc-le-zero h); falls = falls-fails _ }
 
-  spends-dispatch : {l : ℕ} {f : OrdinaryObject → M A} {g : ProxyObject → M A} (σ : Store) (o : ℕ) → ((r : OrdinaryObject) → lookup σ o ≡ some (Ordinary r) → Falls (f r))
-      → ((p : ProxyObject) → lookup σ o ≡ some (Proxy p) → p.revoked ≡ false → Falls (g p)) → Spends l (dispatch σ o f g)
+  spends-dispatch : {l : ℕ} {f : OrdinaryObject → M A} {g : ProxyObject → M A} (σ : Store) (o : ℕ) → ((r : OrdinaryObject) → lookup σ o ≡ Some (Ordinary r) → Falls (f r))
+      → ((p : ProxyObject) → lookup σ o ≡ Some (Proxy p) → p.revoked ≡ false → Falls (g p)) → Spends l (dispatch σ o f g)
   unfolding dispatch tick ◌>>=◌ next
   spends-dispatch {l} {f} {g} σ o hf hg = record {
     stops = λ a. refl;
@@ -229,8 +228,8 @@ beside-itself {l} {A} {m} h = record { shifted = λ k s i j. go k s.answers s.ca
     go k a (suc i) p q = absurd (not-suc-le-zero p)
 
 module _ {n l : ℕ} {A : Type 0} where
-  richer-dispatch : {f f' : OrdinaryObject → M A} {g g' : ProxyObject → M A} (σ : Store) (o : ℕ) → ((r : OrdinaryObject) → lookup σ o ≡ some (Ordinary r) → Richer n l (f r) (f' r))
-      → ((p : ProxyObject) → lookup σ o ≡ some (Proxy p) → p.revoked ≡ false → Richer n l (g p) (g' p)) → Richer (suc n) (suc l) (dispatch σ o f g) (dispatch σ o f' g')
+  richer-dispatch : {f f' : OrdinaryObject → M A} {g g' : ProxyObject → M A} (σ : Store) (o : ℕ) → ((r : OrdinaryObject) → lookup σ o ≡ Some (Ordinary r) → Richer n l (f r) (f' r))
+      → ((p : ProxyObject) → lookup σ o ≡ Some (Proxy p) → p.revoked ≡ false → Richer n l (g p) (g' p)) → Richer (suc n) (suc l) (dispatch σ o f g) (dispatch σ o f' g')
   unfolding dispatch tick ◌>>=◌
   richer-dispatch σ o hf hg = record {
     shifted = λ k s i j. ticked (found σ o hf hg) s.answers s.calls k i j;
@@ -239,12 +238,12 @@ module _ {n l : ℕ} {A : Type 0} where
 
 -- The methods
 
-pub apply_validation-richer : {n l : ℕ} (c : Context) (o : ℕ) (k : PropertyKey) (current : OwnProperty) (v : Validation) → Richer n l (apply_validation c o k current v) (apply_validation c o k current v)
+pub apply_validation-richer : {n l : ℕ} (c : Context) (o : ℕ) (k : PropertyKey) (current : Option Property) (v : Validation) → Richer n l (apply_validation c o k current v) (apply_validation c o k current v)
 unfolding apply_validation
 apply_validation-richer c o k current (Rejected t) = richer-pure _
 apply_validation-richer c o k current Unchanged = richer-pure _
-apply_validation-richer c o k Absent (Becomes p) = richer-if _ (richer-fails _ refl) (richer-pure _)
-apply_validation-richer c o k (Present q) (Becomes p) = richer-pure _
+apply_validation-richer c o k None (Becomes p) = richer-if _ (richer-fails _ refl) (richer-pure _)
+apply_validation-richer c o k (Some q) (Becomes p) = richer-pure _
 
 abbrev pub richer-asking : ℕ → ℕ → Asking Any
 richer-asking n l = record {

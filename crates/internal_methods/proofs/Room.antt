@@ -1,18 +1,16 @@
 -- Refusal 7 of a property: with room for one more the same run is done, and the store has one property more. Assumes nothing.
+use Rattle.std.specs.Prelude.{Option, None, Some}
 use Prim.Native.Nat.{ℕ, zero, suc, ◌≤◌, suc-le-suc}
 use native.Mathlib.Nat.{le_refl}
 use native.Mathlib.Omega.{arith}
 use mathlib.Core.Path.{◌≡◌, refl, sym, ap, ◌∙◌}
 use mathlib.Core.Bool.{Bool, true, false, not, cond, false≢true}
-use mathlib.Core.Option.{Option, none, some}
 use mathlib.Core.List.{List, [], ◌∷◌}
 use lib.Dec.{eqb}
 use lib.ListN.{length, length-append}
 use borrow.Author.Tests.{lt-ltb}
 use Rattle.value.specs.declared.PropertyKey.{PropertyKey}
 use Rattle.property.specs.declared.Property.{Property}
-use Rattle.property.specs.declared.OwnProperty.{OwnProperty}
-use Rattle.property.specs.declared.OwnProperty.TheVariants.{Absent, Present}
 use Rattle.property.specs.declared.Validation.{Validation}
 use Rattle.property.specs.declared.Validation.TheVariants.{Rejected, Unchanged, Becomes}
 use Rattle.store.specs.declared.OrdinaryObject.{OrdinaryObject}
@@ -25,7 +23,7 @@ use Rattle.store.proofs.FindLaws.{absent-appended}
 use Rattle.store.proofs.ReleaseLaws.{excluding-fewer}
 use Rattle.internal_methods.specs.declared.Failure.{Failure}
 use Rattle.internal_methods.specs.declared.Failure.TheVariants.{Refused, TypeError, Thrown}
-use Rattle.internal_methods.specs.Monad.{Answer, State, Out, M, pure, fails, next, ◌>>=◌, ◌>>◌, throw_if, answered, ask, counted, tick, when◌then◌else◌, dispatched, dispatch}
+use Rattle.internal_methods.specs.Monad.{Answer, State, Out, M, pure, fails, next, ◌>>=◌, throw_if, answered, ask, counted, tick, when◌then◌else◌, dispatched, dispatch}
 use Rattle.internal_methods.specs.Methods.{Context, Written}
 use Rattle.internal_methods.specs.Ordinary.{is_full, apply_validation}
 use Rattle.internal_methods.specs.Internal.{methods}
@@ -134,30 +132,30 @@ same-revoked true = same-fails _ refl
 same-revoked false = same-pure tt refl
 
 module _ {A : Type 0} {Q : A → Type 0} where
-  pub same-dispatch : {f f' : OrdinaryObject → M A} {g g' : ProxyObject → M A} (σ : Store) (o : ℕ) → ((r : OrdinaryObject) → lookup σ o ≡ some (Ordinary r) → Same Q (f r) (f' r))
-      → ((p : ProxyObject) → lookup σ o ≡ some (Proxy p) → p.revoked ≡ false → Same Q (g p) (g' p)) → Same Q (dispatch σ o f g) (dispatch σ o f' g')
+  pub same-dispatch : {f f' : OrdinaryObject → M A} {g g' : ProxyObject → M A} (σ : Store) (o : ℕ) → ((r : OrdinaryObject) → lookup σ o ≡ Some (Ordinary r) → Same Q (f r) (f' r))
+      → ((p : ProxyObject) → lookup σ o ≡ Some (Proxy p) → p.revoked ≡ false → Same Q (g p) (g' p)) → Same Q (dispatch σ o f g) (dispatch σ o f' g')
   unfolding dispatch dispatched
   same-dispatch {f} {f'} {g} {g'} σ o hf hg = same-bind same-tick (λ _ _. go (lookup σ o) refl)
     where
       go : (x : Option Object) → lookup σ o ≡ x → Same Q (dispatched x f g) (dispatched x f' g')
-      go none e = same-fails _ refl
-      go (some (Ordinary r)) e = hf r e
-      go (some (Proxy p)) e = same-bind (same-revoked p.revoked) (λ _ l. hg p e l)
+      go None e = same-fails _ refl
+      go (Some (Ordinary r)) e = hf r e
+      go (Some (Proxy p)) e = same-bind (same-revoked p.revoked) (λ _ l. hg p e l)
 
 module _ {c : Context} where
-  roomy-dispatch : {f f' : OrdinaryObject → M Written} {g g' : ProxyObject → M Written} (σ : Store) (o : ℕ) → ((r : OrdinaryObject) → lookup σ o ≡ some (Ordinary r) → Roomy c (f r) (f' r))
-      → ((p : ProxyObject) → lookup σ o ≡ some (Proxy p) → p.revoked ≡ false → Roomy c (g p) (g' p)) → Roomy c (dispatch σ o f g) (dispatch σ o f' g')
+  roomy-dispatch : {f f' : OrdinaryObject → M Written} {g g' : ProxyObject → M Written} (σ : Store) (o : ℕ) → ((r : OrdinaryObject) → lookup σ o ≡ Some (Ordinary r) → Roomy c (f r) (f' r))
+      → ((p : ProxyObject) → lookup σ o ≡ Some (Proxy p) → p.revoked ≡ false → Roomy c (g p) (g' p)) → Roomy c (dispatch σ o f g) (dispatch σ o f' g')
   unfolding dispatch dispatched fails
   roomy-dispatch {f} {f'} {g} {g'} σ o hf hg = roomy-bind same-tick (λ _ _. go (lookup σ o) refl)
     where
       go : (x : Option Object) → lookup σ o ≡ x → Roomy c (dispatched x f g) (dispatched x f' g')
-      go none e = record { rooms = λ s. failed refl }
-      go (some (Ordinary r)) e = hf r e
-      go (some (Proxy p)) e = roomy-bind (same-revoked p.revoked) (λ _ l. hg p e l)
+      go None e = record { rooms = λ s. failed refl }
+      go (Some (Ordinary r)) e = hf r e
+      go (Some (Proxy p)) e = roomy-bind (same-revoked p.revoked) (λ _ l. hg p e l)
 
 -- A new property
 
-grows : (σ : Store) (o : ℕ) (k : PropertyKey) (p : Property) → own σ o k ≡ Absent → length (with_property σ o k p).properties ≡ suc (length σ.properties)
+grows : (σ : Store) (o : ℕ) (k : PropertyKey) (p : Property) → own σ o k ≡ None → length (with_property σ o k p).properties ≡ suc (length σ.properties)
 unfolding own with_property
 grows σ o k p e = ap length (absent-appended σ.properties o k p e) ∙ (length-append σ.properties (entry o k p ∷ []) ∙ omega arith)
 
@@ -166,13 +164,13 @@ at_most : {A : Type 0} (b : Bool) (l k : List A) (n : ℕ) → (b ≡ true → l
 at_most true l k n f g = f refl
 at_most false l k n f g = g refl
 
-replaced : (es : List Entry) (o : ℕ) (k : PropertyKey) (p q : Property) → find es o k ≡ Present q → length (insert es o k p) ≤ length es
+replaced : (es : List Entry) (o : ℕ) (k : PropertyKey) (p q : Property) → find es o k ≡ Some q → length (insert es o k p) ≤ length es
 unfolding find insert
 replaced [] o k p q e = absurd (false≢true cc)
 replaced (x ∷ es) o k p q e = at_most (is_at x o k) _ _ _ (λ _. le_refl _)
-    (λ f. suc-le-suc (replaced es o k p q (sym (ap (λ (b : Bool). cond b (Present x.property) (find es o k)) f) ∙ e)))
+    (λ f. suc-le-suc (replaced es o k p q (sym (ap (λ (b : Bool). cond b (Some x.property) (find es o k)) f) ∙ e)))
 
-pub keeps : (σ : Store) (o : ℕ) (k : PropertyKey) (p q : Property) → own σ o k ≡ Present q → length (with_property σ o k p).properties ≤ length σ.properties
+pub keeps : (σ : Store) (o : ℕ) (k : PropertyKey) (p q : Property) → own σ o k ≡ Some q → length (with_property σ o k p).properties ≤ length σ.properties
 unfolding own with_property
 keeps σ o k p q e = replaced σ.properties o k p q e
 
@@ -188,10 +186,10 @@ has_room : (c : Context) → is_full (allowing c (one_more c)) ≡ false
 has_room c = ap not (lt-ltb (length c.store.properties) (one_more c) (omega arith))
 
 -- what an ordinary object tells of a property is in the store
-abbrev pub OwnIn : Context → ℕ → PropertyKey → OwnProperty → Type 0
-OwnIn c o k x = (r : OrdinaryObject) → lookup c.store o ≡ some (Ordinary r) → x ≡ own c.store o k
+abbrev pub OwnIn : Context → ℕ → PropertyKey → Option Property → Type 0
+OwnIn c o k x = (r : OrdinaryObject) → lookup c.store o ≡ Some (Ordinary r) → x ≡ own c.store o k
 
-pub not-both : {p : ProxyObject} {r : OrdinaryObject} → some (Proxy p) ≡ some (Ordinary r) → ⊥
+pub not-both : {p : ProxyObject} {r : OrdinaryObject} → Some (Proxy p) ≡ Some (Ordinary r) → ⊥
 not-both e = false≢true cc
 
 -- a write that adds a property, if there is room
@@ -201,13 +199,13 @@ unfolding when◌then◌else◌ fails pure
 room-if c true n τ e = record { rooms = λ s. added n e }
 room-if c false n τ e = record { rooms = λ s. done (λ f. absurd (false≢true (sym n ∙ f))) }
 
-pub apply_validation-roomy : (c : Context) (o : ℕ) (r : OrdinaryObject) → lookup c.store o ≡ some (Ordinary r) → (k : PropertyKey) (current : OwnProperty) → OwnIn c o k current → (v : Validation)
+pub apply_validation-roomy : (c : Context) (o : ℕ) (r : OrdinaryObject) → lookup c.store o ≡ Some (Ordinary r) → (k : PropertyKey) (current : Option Property) → OwnIn c o k current → (v : Validation)
     → Roomy c (apply_validation c o k current v) (apply_validation (allowing c (one_more c)) o k current v)
 unfolding apply_validation when◌then◌else◌
 apply_validation-roomy c o r e k current h (Rejected t) = roomy-kept _ (le_refl _)
 apply_validation-roomy c o r e k current h Unchanged = roomy-kept _ (le_refl _)
-apply_validation-roomy c o r e k Absent h (Becomes p) = rw (has_room c) (room-if c (is_full c) refl (with_property c.store o k p) (grows c.store o k p (sym (h r e))))
-apply_validation-roomy c o r e k (Present q) h (Becomes p) = roomy-kept _ (keeps c.store o k p q (sym (h r e)))
+apply_validation-roomy c o r e k None h (Becomes p) = rw (has_room c) (room-if c (is_full c) refl (with_property c.store o k p) (grows c.store o k p (sym (h r e))))
+apply_validation-roomy c o r e k (Some q) h (Becomes p) = roomy-kept _ (keeps c.store o k p q (sym (h r e)))
 
 -- The methods
 

@@ -1,8 +1,8 @@
 -- A store whose live objects name only live objects, and the writes that keep it so. Assumes nothing.
+use Rattle.std.specs.Prelude.{Option, None, Some}
 use Prim.Native.Nat.{ℕ, zero, suc}
 use mathlib.Core.Path.{◌≡◌, refl, sym, ◌∙◌, subst}
 use mathlib.Core.Bool.{Bool, true, false, cond, false≢true}
-use mathlib.Core.Option.{Option, none, some}
 use mathlib.Core.List.{List, [], ◌∷◌}
 use lib.Dec.{eqb}
 use lib.ListN.{get_or, set}
@@ -14,8 +14,6 @@ use Rattle.value.proofs.Bools.{or-false}
 use Rattle.property.specs.declared.PropertyDescriptor.{PropertyDescriptor}
 use Rattle.property.specs.declared.Property.{Property}
 use Rattle.property.specs.declared.Property.TheVariants.{Data, Accessor}
-use Rattle.property.specs.declared.OwnProperty.{OwnProperty}
-use Rattle.property.specs.declared.OwnProperty.TheVariants.{Absent, Present}
 use Rattle.property.proofs.ValueLaws.{DescriptorBy, PropertyBy}
 use Rattle.store.specs.declared.OrdinaryObject.{OrdinaryObject}
 use Rattle.store.specs.declared.ProxyObject.{ProxyObject}
@@ -28,11 +26,11 @@ use Rattle.store.proofs.ReleaseLaws.{lookup-released-other, lookup-left, own-rel
 
 -- the object is live
 abbrev pub Made : Store → ℕ → Type 0
-Made σ o = (x : Object) × (lookup σ o ≡ some x)
+Made σ o = (x : Object) × (lookup σ o ≡ Some x)
 
 -- the object that a value is, if it is one, is live
 pub record MadeValue (σ : Store) (v : Value) : Type 0 where
-  pub made : (o : ℕ) → object_of v ≡ some o → Made σ o
+  pub made : (o : ℕ) → object_of v ≡ Some o → Made σ o
 
 -- a revoked proxy names nothing
 abbrev pub MadeObject : Store → Object → Type 0
@@ -46,15 +44,15 @@ abbrev pub MadeDescriptor : Store → PropertyDescriptor → Type 0
 MadeDescriptor σ d = DescriptorBy (MadeValue σ) d
 
 pub record Closed (σ : Store) : Type 0 where
-  pub ordinary : (o : ℕ) (r : OrdinaryObject) → lookup σ o ≡ some (Ordinary r) → MadeValue σ r.prototype
-  pub proxy : (o : ℕ) (p : ProxyObject) → lookup σ o ≡ some (Proxy p) → p.revoked ≡ false → Made σ p.target
-  pub owned : (o : ℕ) (k : PropertyKey) (p : Property) → own σ o k ≡ Present p → Made σ o
-  pub named : (o : ℕ) (k : PropertyKey) (p : Property) → own σ o k ≡ Present p → MadeProperty σ p
+  pub ordinary : (o : ℕ) (r : OrdinaryObject) → lookup σ o ≡ Some (Ordinary r) → MadeValue σ r.prototype
+  pub proxy : (o : ℕ) (p : ProxyObject) → lookup σ o ≡ Some (Proxy p) → p.revoked ≡ false → Made σ p.target
+  pub owned : (o : ℕ) (k : PropertyKey) (p : Property) → own σ o k ≡ Some p → Made σ o
+  pub named : (o : ℕ) (k : PropertyKey) (p : Property) → own σ o k ≡ Some p → MadeProperty σ p
 
 pub undefined-made : (σ : Store) → MadeValue σ Undefined
 undefined-made σ = record { made = λ o e. absurd (false≢true cc) }
 
-pub closed-object : {σ : Store} → Closed σ → (o : ℕ) (x : Object) → lookup σ o ≡ some x → MadeObject σ x
+pub closed-object : {σ : Store} → Closed σ → (o : ℕ) (x : Object) → lookup σ o ≡ Some x → MadeObject σ x
 closed-object h o (Ordinary r) e = h.ordinary o r e
 closed-object h o (Proxy p) e = h.proxy o p e
 
@@ -62,7 +60,7 @@ closed-object h o (Proxy p) e = h.proxy o p e
 abbrev MadeEntry : Store → ℕ → Property → Type 0
 MadeEntry σ o p = Made σ o × MadeProperty σ p
 
-closed-entry : {σ : Store} → Closed σ → (o : ℕ) (k : PropertyKey) (p : Property) → own σ o k ≡ Present p → MadeEntry σ o p
+closed-entry : {σ : Store} → Closed σ → (o : ℕ) (k : PropertyKey) (p : Property) → own σ o k ≡ Some p → MadeEntry σ o p
 closed-entry h o k p e = (h.owned o k p e, h.named o k p e)
 
 -- What was made stays so --------------------------------------------------------------------
@@ -75,8 +73,8 @@ property-kept σ τ keeps (Data v w e c) m = value-kept keeps m
 property-kept σ τ keeps (Accessor g s e c) m = (value-kept keeps m.0, value-kept keeps m.1)
 
 -- and what is there then names what was made before
-pub closed_after : {σ τ : Store} → ((o : ℕ) → Made σ o → Made τ o) → ((o : ℕ) (x : Object) → lookup τ o ≡ some x → MadeObject σ x)
-    → ((o : ℕ) (k : PropertyKey) (p : Property) → own τ o k ≡ Present p → Made σ o × MadeProperty σ p) → Closed τ
+pub closed_after : {σ τ : Store} → ((o : ℕ) → Made σ o → Made τ o) → ((o : ℕ) (x : Object) → lookup τ o ≡ Some x → MadeObject σ x)
+    → ((o : ℕ) (k : PropertyKey) (p : Property) → own τ o k ≡ Some p → Made σ o × MadeProperty σ p) → Closed τ
 closed_after {σ} {τ} keeps objects properties = record {
   ordinary = λ o r e. value-kept keeps (objects o (Ordinary r) e);
   proxy = λ o p e f. keeps p.target (objects o (Proxy p) e f);
@@ -87,14 +85,14 @@ closed_after {σ} {τ} keeps objects properties = record {
 -- Writes ------------------------------------------------------------------------------------
 
 -- an object of a list that was set is the new one, or was there
-set_cases : {C : Type 0} (xs : List (Option Object)) (i j : ℕ) (x y : Object) → get_or (set xs i (some x)) j none ≡ some y → (x ≡ y → C) → (get_or xs j none ≡ some y → C) → C
+set_cases : {C : Type 0} (xs : List (Option Object)) (i j : ℕ) (x y : Object) → get_or (set xs i (Some x)) j None ≡ Some y → (x ≡ y → C) → (get_or xs j None ≡ Some y → C) → C
 set_cases [] i j x y e f g = g e
 set_cases (z ∷ xs) zero zero x y e f g = f (cc)
 set_cases (z ∷ xs) zero (suc j) x y e f g = g e
 set_cases (z ∷ xs) (suc i) zero x y e f g = g e
 set_cases (z ∷ xs) (suc i) (suc j) x y e f g = set_cases xs i j x y e f g
 
-set_keeps : (xs : List (Option Object)) (i j : ℕ) (x y : Object) → get_or xs j none ≡ some y → (z : Object) × (get_or (set xs i (some x)) j none ≡ some z)
+set_keeps : (xs : List (Option Object)) (i j : ℕ) (x y : Object) → get_or xs j None ≡ Some y → (z : Object) × (get_or (set xs i (Some x)) j None ≡ Some z)
 set_keeps [] i j x y e = (y, e)
 set_keeps (z ∷ xs) zero zero x y e = (x, refl)
 set_keeps (z ∷ xs) zero (suc j) x y e = (y, e)
@@ -105,7 +103,7 @@ pub made-put : (σ : Store) (o : ℕ) (x : Object) (q : ℕ) → Made σ q → M
 unfolding lookup put
 made-put σ o x q (y, e) = set_keeps σ.objects o q x y e
 
-put-cases : {C : Type 0} (σ : Store) (o q : ℕ) (x y : Object) → lookup (put σ o x) q ≡ some y → (x ≡ y → C) → (lookup σ q ≡ some y → C) → C
+put-cases : {C : Type 0} (σ : Store) (o q : ℕ) (x y : Object) → lookup (put σ o x) q ≡ Some y → (x ≡ y → C) → (lookup σ q ≡ Some y → C) → C
 unfolding lookup put
 put-cases σ o q x y e f g = set_cases σ.objects o q x y e f g
 
@@ -122,7 +120,7 @@ closed-with σ o k p h mo mp = closed_after (made-with σ o k p)
     (λ q x e. closed-object h q x (sym (lookup-with σ o k p q) ∙ e))
     (λ q l r e. go q l r (same_place o k q l) refl (sym (own-with σ o k p q l) ∙ e))
   where
-    go : (q : ℕ) (l : PropertyKey) (r : Property) (t : Bool) → same_place o k q l ≡ t → cond t (Present p) (own σ q l) ≡ Present r → MadeEntry σ q r
+    go : (q : ℕ) (l : PropertyKey) (r : Property) (t : Bool) → same_place o k q l ≡ t → cond t (Some p) (own σ q l) ≡ Some r → MadeEntry σ q r
     go q l r true s e = (subst (Made σ) (place-eq o k q l s).0 mo, subst (MadeProperty σ) (let f : p ≡ r = cc in f) mp)
     go q l r false s e = closed-entry h q l r e
 
@@ -130,7 +128,7 @@ pub made-without : (σ : Store) (o : ℕ) (k : PropertyKey) (q : ℕ) → Made �
 made-without σ o k q (x, e) = (x, lookup-without σ o k q ∙ e)
 
 -- where nothing stands instead, it stood before
-kept_from : (t : Bool) (x : OwnProperty) (p : Property) → cond t Absent x ≡ Present p → (t ≡ false) × (x ≡ Present p)
+kept_from : (t : Bool) (x : Option Property) (p : Property) → cond t None x ≡ Some p → (t ≡ false) × (x ≡ Some p)
 kept_from true x p e = absurd (false≢true cc)
 kept_from false x p e = (refl, e)
 
@@ -163,12 +161,12 @@ pub made-add : (σ : Store) → Fresh σ → (x : Object) (b : Bool) (o : ℕ) �
 made-add σ f x b o (y, e) = (y, lookup-add σ f x b o y e)
 
 -- an object that is there after is the new one, or was there
-pub add-cases : {C : Type 0} (σ : Store) → Fresh σ → (x : Object) (b : Bool) (o : ℕ) (y : Object) → lookup (add σ x b) o ≡ some y → (x ≡ y → C) → (lookup σ o ≡ some y → C) → C
+pub add-cases : {C : Type 0} (σ : Store) → Fresh σ → (x : Object) (b : Bool) (o : ℕ) (y : Object) → lookup (add σ x b) o ≡ Some y → (x ≡ y → C) → (lookup σ o ≡ Some y → C) → C
 add-cases {C} σ f x b o y e new old = go (lookup σ o) refl
   where
     go : (t : Option Object) → lookup σ o ≡ t → C
-    go none g = new (lookup-new σ x b o y g e).1
-    go (some z) g = old (g ∙ (sym (lookup-add σ f x b o z g) ∙ e))
+    go None g = new (lookup-new σ x b o y g e).1
+    go (Some z) g = old (g ∙ (sym (lookup-add σ f x b o z g) ∙ e))
 
 pub closed-add : (σ : Store) → Fresh σ → (x : Object) (b : Bool) → Closed σ → MadeObject σ x → Closed (add σ x b)
 closed-add σ f x b h m = closed_after (made-add σ f x b)
@@ -198,5 +196,5 @@ closed-released σ o h n = record {
   named = λ b k p e. let (a, f) = left b k p e in property-released σ o p (unnamed-property σ o b k p n f) (h.named b k p f);
 }
   where
-    left : (b : ℕ) (k : PropertyKey) (p : Property) → own (release σ o) b k ≡ Present p → (eqb o b ≡ false) × (own σ b k ≡ Present p)
+    left : (b : ℕ) (k : PropertyKey) (p : Property) → own (release σ o) b k ≡ Some p → (eqb o b ≡ false) × (own σ b k ≡ Some p)
     left b k p e = kept_from _ _ p (sym (own-released σ o b k) ∙ e)

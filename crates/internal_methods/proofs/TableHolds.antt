@@ -1,15 +1,14 @@
 -- The table of what each trap, getter and setter can read holds. Assumes nothing.
+use Rattle.std.specs.Prelude.{Option, None, Some}
 use Prim.Native.Nat.{ℕ, suc}
 use mathlib.Core.Path.{◌≡◌, refl, sym, ap, ◌∙◌}
 use mathlib.Core.Bool.{Bool, true, false, not, false≢true}
-use mathlib.Core.Option.{Option, none, some}
 use mathlib.Core.List.{List, [], ◌∷◌, ◌++◌}
 use Rattle.value.specs.declared.Value.{Value}
 use Rattle.value.specs.declared.Value.TheVariants as value
 use Rattle.value.specs.declared.PropertyKey.{PropertyKey}
 use Rattle.value.specs.Value.{is_undefined, to_boolean}
 use Rattle.property.specs.declared.Property.TheVariants.{Accessor}
-use Rattle.property.specs.declared.OwnProperty.TheVariants.{Present}
 use Rattle.text.specs.Strings.{Strings, length_of}
 use Rattle.store.specs.declared.OrdinaryObject.{OrdinaryObject}
 use Rattle.store.specs.declared.ProxyObject.{ProxyObject}
@@ -115,8 +114,8 @@ keys-asked (Answer.descriptor d) n = stop
 keys-asked (Answer.keys vs) n = go (keys_of vs)
   where
     go : (x : Option (List PropertyKey)) → Asked n false ((listed x).run (state [] n))
-    go none = out refl
-    go (some ks) = on
+    go None = out refl
+    go (Some ks) = on
 keys-asked (Answer.throw v) n = out refl
 
 -- What is asked for first decides
@@ -162,7 +161,7 @@ module _ (c : Context) (n calls o : ℕ) where
   abbrev call : Methods
   call = methods n c
 
-  dispatched-to : {A : Type 0} (f : OrdinaryObject → M A) (g : ProxyObject → M A) (p : ProxyObject) → lookup c.store o ≡ some (Proxy p) → p.revoked ≡ false
+  dispatched-to : {A : Type 0} (f : OrdinaryObject → M A) (g : ProxyObject → M A) (p : ProxyObject) → lookup c.store o ≡ Some (Proxy p) → p.revoked ≡ false
       → (a : Answer) → (dispatch c.store o f g).run (state (a ∷ []) (suc calls)) ≡ (g p).run (state (a ∷ []) calls)
   unfolding dispatch dispatched tick ◌>>=◌ next throw_if pure
   dispatched-to f g p e r a = rw (e, r)
@@ -182,7 +181,7 @@ module _ (c : Context) (n calls o : ℕ) where
 
   -- an ordinary object finds its own accessor, after two calls
   module _ (k : PropertyKey) (g s : Value) (h : HasAccessor c o k g s) (a : Answer) where
-    own_read : ((methods (suc n) c).get_own_property o k).run (state (a ∷ []) (suc calls)) ≡ Out.done (Present (Accessor g s h.enumerable h.configurable)) (state (a ∷ []) calls)
+    own_read : ((methods (suc n) c).get_own_property o k).run (state (a ∷ []) (suc calls)) ≡ Out.done (Some (Accessor g s h.enumerable h.configurable)) (state (a ∷ []) calls)
     own_read = own-run c o h.object h.found (a ∷ []) n calls k _ h.is
 
     get-asks : (receiver : Value) → is_undefined g ≡ false → (ordinary_get (methods (suc n) c) o k receiver).run (state (a ∷ []) (suc calls)) ≡ ask_value.run (state (a ∷ []) calls)

@@ -1,8 +1,8 @@
 -- One walk over the eleven methods, for any relation between two computations that the rules of the definitions keep. Assumes nothing.
+use Rattle.std.specs.Prelude.{Option, None, Some}
 use Prim.Native.Nat.{ℕ, zero, suc, ◌≤◌}
 use mathlib.Core.Path.{◌≡◌, refl, subst}
 use mathlib.Core.Bool.{Bool, true, false, not, ◌&&◌, cond, false≢true}
-use mathlib.Core.Option.{Option, none, some}
 use mathlib.Core.List.{List, [], ◌∷◌}
 use lib.Dec.{T, leb, lit≤}
 use lib.ListN.{length}
@@ -11,13 +11,9 @@ use Rattle.value.specs.declared.Value.TheVariants as value
 use Rattle.value.specs.declared.PropertyKey.{PropertyKey}
 use Rattle.value.specs.declared.PropertyKey.TheVariants.{String, Symbol}
 use Rattle.value.specs.Value.{object_of, same_value}
-use Rattle.property.specs.declared.Flag.{Flag}
-use Rattle.property.specs.declared.Field.TheVariants as field
 use Rattle.property.specs.declared.DescriptorKind.TheVariants as kind
 use Rattle.property.specs.declared.PropertyDescriptor.{PropertyDescriptor}
 use Rattle.property.specs.declared.Property.TheVariants.{Data, Accessor}
-use Rattle.property.specs.declared.OwnProperty.{OwnProperty}
-use Rattle.property.specs.declared.OwnProperty.TheVariants.{Absent, Present}
 use Rattle.property.specs.Validate.{validate}
 use Rattle.property.proofs.ValueLaws.{DescriptorBy}
 use Rattle.text.specs.Strings.{Strings}
@@ -26,13 +22,14 @@ use Rattle.store.specs.declared.ProxyObject.{ProxyObject}
 use Rattle.store.specs.declared.Object.TheVariants.{Ordinary, Proxy}
 use Rattle.store.specs.Store.{lookup, put, own, without_property}
 use Rattle.internal_methods.specs.declared.Failure.TheVariants.{Refused, TypeError}
-use Rattle.internal_methods.specs.Monad.{Answer, M, pure, fails, ◌>>=◌, ◌>>◌, throw_if, throw_any, ask, when◌then◌else◌, dispatch}
+use Rattle.internal_methods.specs.Monad.{Answer, M, pure, fails, ◌>>=◌, throw_if, throw_any, ask, when◌then◌else◌, dispatch}
 use Rattle.internal_methods.specs.Answers.{as_value, ask_value, ask_boolean, as_prototype, ask_prototype, undefined_descriptor, as_descriptor, ask_descriptor, keys_of, listed, unlisted, as_keys, ask_keys}
 use Rattle.internal_methods.specs.Methods.{Context, Methods, Written}
 use Rattle.internal_methods.specs.KeyList.{Sorted, has_key, duplicate_message, duplicate, is_empty, checked_off, remaining, required, rejected}
 use Rattle.internal_methods.specs.Ordinary.{reaches, with_prototype, ordinary_set_prototype_of, apply_validation, ordinary_define_own_property, ordinary_has_property, ordinary_get, set_on_receiver, set_data, ordinary_set, ordinary_delete}
 use Rattle.internal_methods.specs.Proxy.{has_trap, sorted, proxy_get_prototype_of, proxy_set_prototype_of, proxy_is_extensible, proxy_prevent_extensions, proxy_get_own_property, proxy_define_own_property, proxy_has_property, proxy_get, proxy_set, proxy_delete, proxy_own_property_keys}
 use Rattle.internal_methods.specs.Internal.{level, methods}
+use Rattle.property.specs.declared.Property.{Property}
 
 -- the numbers of the messages
 abbrev pub Message : ℕ → Type 0
@@ -49,12 +46,12 @@ message n t = go (leb 1 n) (leb n 31) lit≤ lit≤ t
     go false b f g t = absurd t
 
 abbrev pub Messages : Option ℕ → Type 0
-Messages x = (i : ℕ) → x ≡ some i → Message i
+Messages x = (i : ℕ) → x ≡ Some i → Message i
 
-no-messages : Messages none
+no-messages : Messages None
 no-messages i e = absurd (false≢true (cc))
 
-one-message : (n : ℕ) → T (is_message n) → Messages (some n)
+one-message : (n : ℕ) → T (is_message n) → Messages (Some n)
 one-message n t i e = let same : n ≡ i = cc in rw same at (message n t)
 
 cond-messages : {x y : Option ℕ} (b : Bool) → Messages x → Messages y → Messages (cond b x y)
@@ -66,17 +63,17 @@ unfolding duplicate
 duplicate-messages before [] = no-messages
 duplicate-messages before (k ∷ ks) = cond-messages (has_key k before) (found k) (duplicate-messages (k ∷ before) ks)
   where
-    found : (k : PropertyKey) → Messages (some (duplicate_message k))
+    found : (k : PropertyKey) → Messages (Some (duplicate_message k))
     found (String s) = one-message 22 tt
     found (Symbol s) = one-message 23 tt
 
 remaining-messages : (x : Option (List PropertyKey)) → Messages (remaining x)
-remaining-messages none = one-message 25 tt
-remaining-messages (some unchecked) = cond-messages (is_empty unchecked) no-messages (one-message 26 tt)
+remaining-messages None = one-message 25 tt
+remaining-messages (Some unchecked) = cond-messages (is_empty unchecked) no-messages (one-message 26 tt)
 
 required-messages : (extensible : Bool) (ks : List PropertyKey) (x : Option (List PropertyKey)) → Messages (required extensible ks x)
-required-messages extensible ks none = one-message 24 tt
-required-messages extensible ks (some unchecked) = cond-messages extensible no-messages (remaining-messages (checked_off ks unchecked))
+required-messages extensible ks None = one-message 24 tt
+required-messages extensible ks (Some unchecked) = cond-messages extensible no-messages (remaining-messages (checked_off ks unchecked))
 
 rejected-messages : (extensible : Bool) (target : Sorted) (ks : List PropertyKey) → Messages (rejected extensible target ks)
 unfolding rejected
@@ -99,7 +96,7 @@ allowing c allowance = record { store = c.store; strings = c.strings; allowance 
 
 -- A relation of two computations, the second under another allowance; Obj, Val and Own are what is known of an object that is called, of a value,
 -- and of what [[GetOwnProperty]] tells
-pub record Relation (c : Context) (allowance : ℕ) (Obj : ℕ → Type 0) (Val : Value → Type 0) (Own : ℕ → PropertyKey → OwnProperty → Type 0) : Type 1 where
+pub record Relation (c : Context) (allowance : ℕ) (Obj : ℕ → Type 0) (Val : Value → Type 0) (Own : ℕ → PropertyKey → Option Property → Type 0) : Type 1 where
   -- of computations that read, with what is known of their result, and of those that end in a write
   pub reads : {A : Type 0} → (A → Type 0) → M A → M A → Type 0
   pub writes : M Written → M Written → Type 0
@@ -110,7 +107,7 @@ pub record Relation (c : Context) (allowance : ℕ) (Obj : ℕ → Type 0) (Val 
   pub binds-value : {B : Type 0} {Q : B → Type 0} {m m' : M Value} {k k' : Value → M B} → reads Val m m' → ((v : Value) → Val v → reads Q (k v) (k' v)) → reads Q (m >>= k) (m' >>= k')
   pub writes-binds : {A : Type 0} {m m' : M A} {k k' : A → M Written} → reads Any m m' → ((a : A) → writes (k a) (k' a)) → writes (m >>= k) (m' >>= k')
   pub writes-binds-value : {m m' : M Value} {k k' : Value → M Written} → reads Val m m' → ((v : Value) → Val v → writes (k v) (k' v)) → writes (m >>= k) (m' >>= k')
-  pub writes-binds-own : {o : ℕ} {k : PropertyKey} {m m' : M OwnProperty} {f f' : OwnProperty → M Written} → reads (Own o k) m m' → ((x : OwnProperty) → Own o k x → writes (f x) (f' x)) → writes (m >>= f) (m' >>= f')
+  pub writes-binds-own : {o : ℕ} {k : PropertyKey} {m m' : M (Option Property)} {f f' : Option Property → M Written} → reads (Own o k) m m' → ((x : Option Property) → Own o k x → writes (f x) (f' x)) → writes (m >>= f) (m' >>= f')
   -- what is asked for
   pub asks-value : reads Val ask_value ask_value
   pub asks-boolean : reads Any (ask_boolean c.strings) (ask_boolean c.strings)
@@ -121,22 +118,22 @@ pub record Relation (c : Context) (allowance : ℕ) (Obj : ℕ → Type 0) (Val 
   pub idle : (b : Bool) → writes (pure (b, c.store)) (pure (b, c.store))
   pub puts : (o : ℕ) (r : OrdinaryObject) → Val r.prototype → writes (pure (true, put c.store o (Ordinary r))) (pure (true, put c.store o (Ordinary r)))
   pub removes : (o : ℕ) (k : PropertyKey) → writes (pure (true, without_property c.store o k)) (pure (true, without_property c.store o k))
-  pub applies : (o : ℕ) (r : OrdinaryObject) → lookup c.store o ≡ some (Ordinary r) → (k : PropertyKey) (current : OwnProperty) → Own o k current → (extensible : Bool) (d : PropertyDescriptor) → DescriptorBy Val d
+  pub applies : (o : ℕ) (r : OrdinaryObject) → lookup c.store o ≡ Some (Ordinary r) → (k : PropertyKey) (current : Option Property) → Own o k current → (extensible : Bool) (d : PropertyDescriptor) → DescriptorBy Val d
       → writes (apply_validation c o k current (validate extensible d current)) (apply_validation (allowing c allowance) o k current (validate extensible d current))
   -- what values and objects lead to
-  pub object : (v : Value) → Val v → (q : ℕ) → object_of v ≡ some q → Obj q
-  pub prototype : (o : ℕ) (r : OrdinaryObject) → lookup c.store o ≡ some (Ordinary r) → Val r.prototype
-  pub target : (o : ℕ) (p : ProxyObject) → lookup c.store o ≡ some (Proxy p) → p.revoked ≡ false → Obj p.target
-  pub own-found : (o : ℕ) (r : OrdinaryObject) → lookup c.store o ≡ some (Ordinary r) → (k : PropertyKey) → Own o k (own c.store o k)
-  pub own-answered : (o : ℕ) (p : ProxyObject) → lookup c.store o ≡ some (Proxy p) → (k : PropertyKey) (x : OwnProperty) → Own o k x
+  pub object : (v : Value) → Val v → (q : ℕ) → object_of v ≡ Some q → Obj q
+  pub prototype : (o : ℕ) (r : OrdinaryObject) → lookup c.store o ≡ Some (Ordinary r) → Val r.prototype
+  pub target : (o : ℕ) (p : ProxyObject) → lookup c.store o ≡ Some (Proxy p) → p.revoked ≡ false → Obj p.target
+  pub own-found : (o : ℕ) (r : OrdinaryObject) → lookup c.store o ≡ Some (Ordinary r) → (k : PropertyKey) → Own o k (own c.store o k)
+  pub own-answered : (o : ℕ) (p : ProxyObject) → lookup c.store o ≡ Some (Proxy p) → (k : PropertyKey) (x : Option Property) → Own o k x
 
 -- a relation of each of the methods
-pub record MethodsBy (reads : (A : Type 0) → (A → Type 0) → M A → M A → Type 0) (writes : M Written → M Written → Type 0) (Obj : ℕ → Type 0) (Val : Value → Type 0) (Own : ℕ → PropertyKey → OwnProperty → Type 0) (call call' : Methods) : Type 0 where
+pub record MethodsBy (reads : (A : Type 0) → (A → Type 0) → M A → M A → Type 0) (writes : M Written → M Written → Type 0) (Obj : ℕ → Type 0) (Val : Value → Type 0) (Own : ℕ → PropertyKey → Option Property → Type 0) (call call' : Methods) : Type 0 where
   pub get_prototype_of : (o : ℕ) → Obj o → reads Value Val (call.get_prototype_of o) (call'.get_prototype_of o)
   pub set_prototype_of : (o : ℕ) (v : Value) → Obj o → Val v → writes (call.set_prototype_of o v) (call'.set_prototype_of o v)
   pub is_extensible : (o : ℕ) → Obj o → reads Bool Any (call.is_extensible o) (call'.is_extensible o)
   pub prevent_extensions : (o : ℕ) → Obj o → writes (call.prevent_extensions o) (call'.prevent_extensions o)
-  pub get_own_property : (o : ℕ) (k : PropertyKey) → Obj o → reads OwnProperty (Own o k) (call.get_own_property o k) (call'.get_own_property o k)
+  pub get_own_property : (o : ℕ) (k : PropertyKey) → Obj o → reads (Option Property) (Own o k) (call.get_own_property o k) (call'.get_own_property o k)
   pub define_own_property : (o : ℕ) (k : PropertyKey) (d : PropertyDescriptor) → Obj o → DescriptorBy Val d → writes (call.define_own_property o k d) (call'.define_own_property o k d)
   pub has_property : (o : ℕ) (k : PropertyKey) → Obj o → reads Bool Any (call.has_property o k) (call'.has_property o k)
   pub get : (o : ℕ) (k : PropertyKey) (receiver : Value) → Obj o → reads Value Any (call.get o k receiver) (call'.get o k receiver)
@@ -144,16 +141,16 @@ pub record MethodsBy (reads : (A : Type 0) → (A → Type 0) → M A → M A �
   pub delete : (o : ℕ) (k : PropertyKey) → Obj o → writes (call.delete o k) (call'.delete o k)
   pub own_property_keys : (o : ℕ) → Obj o → reads (List PropertyKey) Any (call.own_property_keys o) (call'.own_property_keys o)
 
-module _ {c : Context} {allowance : ℕ} {Obj : ℕ → Type 0} {Val : Value → Type 0} {Own : ℕ → PropertyKey → OwnProperty → Type 0} where
+module _ {c : Context} {allowance : ℕ} {Obj : ℕ → Type 0} {Val : Value → Type 0} {Own : ℕ → PropertyKey → Option Property → Type 0} where
   -- the choice by the object's kind, which counts the call: from a relation of the bodies to what is said of the methods
   pub record Enters (R : Relation c allowance Obj Val Own) (reads : (A : Type 0) → (A → Type 0) → M A → M A → Type 0) (writes : M Written → M Written → Type 0) : Type 1 where
     pub reading : {A : Type 0} {Q : A → Type 0} {f f' : OrdinaryObject → M A} {g g' : ProxyObject → M A} (o : ℕ) → Obj o
-        → ((r : OrdinaryObject) → lookup c.store o ≡ some (Ordinary r) → R.reads Q (f r) (f' r))
-        → ((p : ProxyObject) → lookup c.store o ≡ some (Proxy p) → p.revoked ≡ false → R.reads Q (g p) (g' p))
+        → ((r : OrdinaryObject) → lookup c.store o ≡ Some (Ordinary r) → R.reads Q (f r) (f' r))
+        → ((p : ProxyObject) → lookup c.store o ≡ Some (Proxy p) → p.revoked ≡ false → R.reads Q (g p) (g' p))
         → reads A Q (dispatch c.store o f g) (dispatch c.store o f' g')
     pub writing : {f f' : OrdinaryObject → M Written} {g g' : ProxyObject → M Written} (o : ℕ) → Obj o
-        → ((r : OrdinaryObject) → lookup c.store o ≡ some (Ordinary r) → R.writes (f r) (f' r))
-        → ((p : ProxyObject) → lookup c.store o ≡ some (Proxy p) → p.revoked ≡ false → R.writes (g p) (g' p))
+        → ((r : OrdinaryObject) → lookup c.store o ≡ Some (Ordinary r) → R.writes (f r) (f' r))
+        → ((p : ProxyObject) → lookup c.store o ≡ Some (Proxy p) → p.revoked ≡ false → R.writes (g p) (g' p))
         → writes (dispatch c.store o f g) (dispatch c.store o f' g')
 
   -- methods that may go no deeper
@@ -241,8 +238,8 @@ module _ {Val : Value → Type 0} (J : Asking Val) where
   ask_descriptor-by = J.asks as_descriptor-by
 
   listed_by : (x : Option (List PropertyKey)) → J.reads Any (listed x) (listed x)
-  listed_by none = type-error 30 tt
-  listed_by (some ks) = J.gives _ tt
+  listed_by None = type-error 30 tt
+  listed_by (Some ks) = J.gives _ tt
 
   unlisted-by : (v : Value) → J.reads Any (unlisted v) (unlisted v)
   unlisted-by (value.Object o) = J.unreadable
@@ -268,7 +265,7 @@ module _ {Val : Value → Type 0} (J : Asking Val) where
 
 -- The methods -----------------------------------------------------------------------------
 
-module _ {c : Context} {allowance : ℕ} {Obj : ℕ → Type 0} {Val : Value → Type 0} {Own : ℕ → PropertyKey → OwnProperty → Type 0} (R : Relation c allowance Obj Val Own) where
+module _ {c : Context} {allowance : ℕ} {Obj : ℕ → Type 0} {Val : Value → Type 0} {Own : ℕ → PropertyKey → Option Property → Type 0} (R : Relation c allowance Obj Val Own) where
   abbrev c' : Context
   c' = allowing c allowance
 
@@ -289,27 +286,27 @@ module _ {c : Context} {allowance : ℕ} {Obj : ℕ → Type 0} {Val : Value →
 
   throws-any : (x : Option ℕ) → Messages x → R.reads Any (throw_any x) (throw_any x)
   unfolding throw_any
-  throws-any none m = R.gives tt tt
-  throws-any (some i) m = R.throws i (m i refl)
+  throws-any None m = R.gives tt tt
+  throws-any (Some i) m = R.throws i (m i refl)
 
   -- either case of a value that is an object or none
   reads-object : {A : Type 0} {Q : A → Type 0} {m m' : M A} {k k' : ℕ → M A} (v : Value) → Val v → R.reads Q m m' → ((q : ℕ) → Obj q → R.reads Q (k q) (k' q))
-      → R.reads Q (elim (object_of v) [ none ↦ m | some q ↦ k q ]) (elim (object_of v) [ none ↦ m' | some q ↦ k' q ])
+      → R.reads Q (elim (object_of v) [ None ↦ m | Some q ↦ k q ]) (elim (object_of v) [ None ↦ m' | Some q ↦ k' q ])
   reads-object {A} {Q} {m} {m'} {k} {k'} v h hm hk = go (object_of v) refl
     where
-      go : (x : Option ℕ) → object_of v ≡ x → R.reads Q (elim x [ none ↦ m | some q ↦ k q ]) (elim x [ none ↦ m' | some q ↦ k' q ])
-      go none e = hm
-      go (some q) e = hk q (R.object v h q e)
+      go : (x : Option ℕ) → object_of v ≡ x → R.reads Q (elim x [ None ↦ m | Some q ↦ k q ]) (elim x [ None ↦ m' | Some q ↦ k' q ])
+      go None e = hm
+      go (Some q) e = hk q (R.object v h q e)
 
   writes-object : {m m' : M Written} {k k' : ℕ → M Written} (v : Value) → Val v → R.writes m m' → ((q : ℕ) → Obj q → R.writes (k q) (k' q))
-      → R.writes (elim (object_of v) [ none ↦ m | some q ↦ k q ]) (elim (object_of v) [ none ↦ m' | some q ↦ k' q ])
+      → R.writes (elim (object_of v) [ None ↦ m | Some q ↦ k q ]) (elim (object_of v) [ None ↦ m' | Some q ↦ k' q ])
   writes-object {m} {m'} {k} {k'} v h hm hk = go (object_of v) refl
     where
-      go : (x : Option ℕ) → object_of v ≡ x → R.writes (elim x [ none ↦ m | some q ↦ k q ]) (elim x [ none ↦ m' | some q ↦ k' q ])
-      go none e = hm
-      go (some q) e = hk q (R.object v h q e)
+      go : (x : Option ℕ) → object_of v ≡ x → R.writes (elim x [ None ↦ m | Some q ↦ k q ]) (elim x [ None ↦ m' | Some q ↦ k' q ])
+      go None e = hm
+      go (Some q) e = hk q (R.object v h q e)
 
-  sorted-by : {get_own get_own' : PropertyKey → M OwnProperty} → ((k : PropertyKey) → R.reads Any (get_own k) (get_own' k))
+  sorted-by : {get_own get_own' : PropertyKey → M (Option Property)} → ((k : PropertyKey) → R.reads Any (get_own k) (get_own' k))
       → (ks : List PropertyKey) → R.reads Any (sorted get_own ks) (sorted get_own' ks)
   unfolding sorted
   sorted-by h [] = R.gives _ tt
@@ -360,7 +357,7 @@ module _ {c : Context} {allowance : ℕ} {Obj : ℕ → Type 0} {Val : Value →
     own_of : (o : ℕ) (k : PropertyKey) → Obj o → R.reads Any (call.get_own_property o k) (call'.get_own_property o k)
     own_of o k m = R.weaken (λ _ _. tt) (h.get_own_property o k m)
 
-    define_own_property-ordinary : (o : ℕ) (k : PropertyKey) (d : PropertyDescriptor) → Obj o → DescriptorBy Val d → (r : OrdinaryObject) → lookup c.store o ≡ some (Ordinary r)
+    define_own_property-ordinary : (o : ℕ) (k : PropertyKey) (d : PropertyDescriptor) → Obj o → DescriptorBy Val d → (r : OrdinaryObject) → lookup c.store o ≡ Some (Ordinary r)
         → R.writes (ordinary_define_own_property c call o k d) (ordinary_define_own_property c' call' o k d)
     unfolding ordinary_define_own_property
     define_own_property-ordinary o k d m md r e =
@@ -373,8 +370,8 @@ module _ {c : Context} {allowance : ℕ} {Obj : ℕ → Type 0} {Val : Value →
     unfolding ordinary_has_property
     has_property-ordinary o k m =
         R.binds (own_of o k m) (elim [
-          | Present p ↦ R.gives _ tt
-          | Absent ↦
+          | Some p ↦ R.gives _ tt
+          | None ↦
               R.binds-value (h.get_prototype_of o m) λ parent mp.
               reads-object parent mp (R.gives _ tt) λ q mq. h.has_property q k mq
         ])
@@ -384,15 +381,15 @@ module _ {c : Context} {allowance : ℕ} {Obj : ℕ → Type 0} {Val : Value →
     unfolding ordinary_get
     get-ordinary o k receiver m =
         R.binds (own_of o k m) (elim [
-          | Absent ↦
+          | None ↦
               R.binds-value (h.get_prototype_of o m) λ parent mp.
               reads-object parent mp (R.gives _ tt) λ q mq. h.get q k receiver mq
-          | Present (Data v w e f) ↦ R.gives _ tt
-          | Present (Accessor g s e f) ↦ reads-if _ (R.gives _ tt) (R.weaken (λ _ _. tt) R.asks-value)
+          | Some (Data v w e f) ↦ R.gives _ tt
+          | Some (Accessor g s e f) ↦ reads-if _ (R.gives _ tt) (R.weaken (λ _ _. tt) R.asks-value)
         ])
 
     -- a descriptor of a value alone
-    value-by : (e c w : Flag) (v : Value) → Val v → DescriptorBy Val (record { enumerable = e; configurable = c; kind = kind.Data (field.Present v) w })
+    value-by : (e c w : Option Bool) (v : Value) → Val v → DescriptorBy Val (record { enumerable = e; configurable = c; kind = kind.Data (Some v) w })
     value-by e c w v m = record { value = λ u f. subst Val (let g : v ≡ u = cc in g) m; get = λ u f. absurd (false≢true cc); set = λ u f. absurd (false≢true cc) }
 
     set_on_receiver-by : (k : PropertyKey) (v : Value) (receiver : ℕ) → Val v → Obj receiver
@@ -400,9 +397,9 @@ module _ {c : Context} {allowance : ℕ} {Obj : ℕ → Type 0} {Val : Value →
     unfolding set_on_receiver
     set_on_receiver-by k v receiver mv m =
         R.writes-binds (own_of receiver k m) (elim [
-          | Present (Accessor g s e f) ↦ R.idle _
-          | Present (Data w wr e f) ↦ writes-if _ (R.idle _) (h.define_own_property receiver k _ m (value-by _ _ _ v mv))
-          | Absent ↦ h.define_own_property receiver k _ m (value-by _ _ _ v mv)
+          | Some (Accessor g s e f) ↦ R.idle _
+          | Some (Data w wr e f) ↦ writes-if _ (R.idle _) (h.define_own_property receiver k _ m (value-by _ _ _ v mv))
+          | None ↦ h.define_own_property receiver k _ m (value-by _ _ _ v mv)
         ])
 
     set_data-by : (k : PropertyKey) (v : Value) (writable : Bool) (receiver : Value) → Val v → Val receiver
@@ -417,11 +414,11 @@ module _ {c : Context} {allowance : ℕ} {Obj : ℕ → Type 0} {Val : Value →
     unfolding ordinary_set
     set-ordinary o k v receiver m mv mr =
         R.writes-binds (own_of o k m) (elim [
-          | Absent ↦
+          | None ↦
               R.writes-binds-value (h.get_prototype_of o m) λ parent mp.
               writes-object parent mp (set_data-by k v true receiver mv mr) λ q mq. h.set q k v receiver mq mv mr
-          | Present (Data w wr e f) ↦ set_data-by k v wr receiver mv mr
-          | Present (Accessor g s e f) ↦
+          | Some (Data w wr e f) ↦ set_data-by k v wr receiver mv mr
+          | Some (Accessor g s e f) ↦
               writes-if _ (R.idle _)
               (R.writes-binds-value R.asks-value λ _ _. R.idle _)
         ])
@@ -431,8 +428,8 @@ module _ {c : Context} {allowance : ℕ} {Obj : ℕ → Type 0} {Val : Value →
     unfolding ordinary_delete
     delete-ordinary o k m =
         R.writes-binds (own_of o k m) (elim [
-          | Absent ↦ R.idle _
-          | Present p ↦ writes-if _ (R.removes o k) (R.idle _)
+          | None ↦ R.idle _
+          | Some p ↦ writes-if _ (R.removes o k) (R.idle _)
         ])
 
     module _ (p : ProxyObject) (m : Obj p.target) where
@@ -483,16 +480,16 @@ module _ {c : Context} {allowance : ℕ} {Obj : ℕ → Type 0} {Val : Value →
       get_own_property-proxy k =
           trap R.asks-descriptor (own_of p.target k m)
           (elim [
-            | none ↦ λ _.
+            | None ↦ λ _.
                 R.binds (own_of p.target k m) (elim [
-                  | Absent ↦ R.gives _ tt
-                  | Present target ↦
+                  | None ↦ R.gives _ tt
+                  | Some target ↦
                       R.binds (throws-if _ _ tt) λ _.
                       R.binds (h.is_extensible p.target m) λ extensible_target.
                       R.binds (throws-if _ _ tt) λ _.
                       R.gives _ tt
                 ])
-            | some object ↦ λ _.
+            | Some object ↦ λ _.
                 R.binds (own_of p.target k m) λ target_desc.
                 R.binds (h.is_extensible p.target m) λ extensible_target.
                 R.binds (throws-if _ _ tt) λ _.
@@ -511,12 +508,12 @@ module _ {c : Context} {allowance : ℕ} {Obj : ℕ → Type 0} {Val : Value →
           (λ boolean_trap_result _.
           writes-if _ (R.idle _)
           (R.writes-binds (own_of p.target k m) (elim [
-            | Absent ↦
+            | None ↦
                 R.writes-binds (h.is_extensible p.target m) λ extensible_target.
                 R.writes-binds (throws-if _ _ tt) λ _.
                 R.writes-binds (throws-if _ _ tt) λ _.
                 R.idle _
-            | Present target ↦
+            | Some target ↦
                 R.writes-binds (h.is_extensible p.target m) λ extensible_target.
                 R.writes-binds (throws-if _ _ tt) λ _.
                 R.writes-binds (throws-if _ _ tt) λ _.
@@ -531,8 +528,8 @@ module _ {c : Context} {allowance : ℕ} {Obj : ℕ → Type 0} {Val : Value →
           (λ boolean_trap_result _.
           reads-if _ (R.gives _ tt)
           (R.binds (own_of p.target k m) (elim [
-            | Absent ↦ R.gives _ tt
-            | Present target ↦
+            | None ↦ R.gives _ tt
+            | Some target ↦
                 R.binds (throws-if _ _ tt) λ _.
                 R.binds (h.is_extensible p.target m) λ extensible_target.
                 R.binds (throws-if _ _ tt) λ _.
@@ -567,8 +564,8 @@ module _ {c : Context} {allowance : ℕ} {Obj : ℕ → Type 0} {Val : Value →
           (λ boolean_trap_result _.
           writes-if _ (R.idle _)
           (R.writes-binds (own_of p.target k m) (elim [
-            | Absent ↦ R.idle _
-            | Present target ↦
+            | None ↦ R.idle _
+            | Some target ↦
                 R.writes-binds (throws-if _ _ tt) λ _.
                 R.writes-binds (h.is_extensible p.target m) λ extensible_target.
                 R.writes-binds (throws-if _ _ tt) λ _.

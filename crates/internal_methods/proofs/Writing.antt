@@ -1,8 +1,8 @@
 -- What the methods that write do to a store, and what their answer `true` says. Assumes nothing.
+use Rattle.std.specs.Prelude.{Option, None, Some}
 use Prim.Native.Nat.{ℕ, suc, zero}
 use mathlib.Core.Path.{◌≡◌, refl, sym, ap, ◌∙◌, subst}
 use mathlib.Core.Bool.{Bool, true, false, not, cond, false≢true, true≢false}
-use mathlib.Core.Option.{some}
 use lib.ListN.{length}
 use borrow.Author.Tests.{not-false}
 use Rattle.value.specs.declared.Value.{Value}
@@ -12,8 +12,6 @@ use Rattle.value.proofs.Bools.{and-false-left, and-false-right}
 use Rattle.property.specs.declared.PropertyDescriptor.{PropertyDescriptor}
 use Rattle.property.specs.declared.Property.{Property}
 use Rattle.property.specs.declared.Property.TheVariants.{Data, Accessor}
-use Rattle.property.specs.declared.OwnProperty.{OwnProperty}
-use Rattle.property.specs.declared.OwnProperty.TheVariants.{Absent, Present}
 use Rattle.property.specs.declared.Validation.{Validation}
 use Rattle.property.specs.declared.Validation.TheVariants.{Rejected, Unchanged, Becomes}
 use Rattle.property.specs.Fields.{configurable}
@@ -75,7 +73,7 @@ pub record Defined (σ : Store) (o : ℕ) (k : PropertyKey) (d : PropertyDescrip
   pub there : Lacking σ o k → ⊥
   pub froze : (w : Value) → AsksFrozen d w → Frozen τ o k w
 
-module _ (c : Context) (o : ℕ) (r : OrdinaryObject) (k : PropertyKey) (d : PropertyDescriptor) (e : lookup c.store o ≡ some (Ordinary r)) where
+module _ (c : Context) (o : ℕ) (r : OrdinaryObject) (k : PropertyKey) (d : PropertyDescriptor) (e : lookup c.store o ≡ Some (Ordinary r)) where
   becomes-report : (p : Property) → validate r.extensible d (own c.store o k) ≡ Becomes p
       → Changed c.store (Defined c.store o k d) (true, with_property c.store o k p)
   becomes-report p h = record {
@@ -92,7 +90,7 @@ module _ (c : Context) (o : ℕ) (r : OrdinaryObject) (k : PropertyKey) (d : Pro
   }
 
   -- t only decides whether a full store refuses
-  apply-report : (v : Validation) → validate r.extensible d (own c.store o k) ≡ v → (t : OwnProperty)
+  apply-report : (v : Validation) → validate r.extensible d (own c.store o k) ≡ v → (t : Option Property)
       → Ensures (apply_validation c o k t v) (Changed c.store (Defined c.store o k d))
   unfolding apply_validation is_compatible
   apply-report (Rejected n) h t = ensures-pure _ false-idle
@@ -100,8 +98,8 @@ module _ (c : Context) (o : ℕ) (r : OrdinaryObject) (k : PropertyKey) (d : Pro
     there = λ u. let b = u.at (here e) in validate-refuses r.extensible d (own c.store o k) (rw h) b.0 b.1;
     froze = λ w a. on-base (record { number = o; object = r; base = here e; holds = validate-unchanged r.extensible d _ w h a });
   }))
-  apply-report (Becomes p) h Absent = ensures-if _ (λ _. ensures-fails _) (λ _. ensures-pure _ (becomes-report p h))
-  apply-report (Becomes p) h (Present q) = ensures-pure _ (becomes-report p h)
+  apply-report (Becomes p) h None = ensures-if _ (λ _. ensures-fails _) (λ _. ensures-pure _ (becomes-report p h))
+  apply-report (Becomes p) h (Some q) = ensures-pure _ (becomes-report p h)
 
 pub define_own_property-report : (n : ℕ) (c : Context) (o : ℕ) (k : PropertyKey) (d : PropertyDescriptor)
     → Ensures ((methods n c).define_own_property o k d) (Changed c.store (Defined c.store o k d))
@@ -123,23 +121,23 @@ define_own_property-report (suc n) c o k d = ensures-dispatch c.store o
     (λ _. ensures-then _ λ answer. ensures-if _
     (λ _. ensures-pure _ false-idle)
     (λ _. ensures-bind (get_own_property-report n c p.target k) (elim [
-      | Absent ↦ λ f. ensures-bind (is_extensible-report n c p.target) λ x u.
+      | None ↦ λ f. ensures-bind (is_extensible-report n c p.target) λ x u.
           ensures-throw_if _ _ λ fourteen-a.
           ensures-throw_if _ _ λ fourteen-b.
           ensures-pure _ (true-idle (record {
             there = λ w. true≢false (sym (not-false x fourteen-a) ∙ u.holds ∙ ((at_target e w).at u.base).0);
             froze = λ w a. absurd (true≢false (sym a.lasting ∙ fourteen-b));
           }))
-      | Present t ↦ λ f. ensures-bind (is_extensible-report n c p.target) λ x u.
+      | Some t ↦ λ f. ensures-bind (is_extensible-report n c p.target) λ x u.
           ensures-throw_if _ _ λ fifteen-a.
           ensures-throw_if _ _ λ fifteen-b.
           ensures-throw_if _ _ λ fifteen-c.
           ensures-pure _ (true-idle (record {
-            there = λ w. false≢true (lacking-told k (Present t) f (at_target e w));
+            there = λ w. false≢true (lacking-told k (Some t) f (at_target e w));
             froze = λ w a.
                 let fixed = and-false-right _ _ a.lasting fifteen-b in
                 let read_only_lem = and-false-left _ _ a.fixed (and-false-right _ _ (ap not fixed) fifteen-c) in
-                on-proxy e.found (frozen-learnt k (Present t) w f (asked-frozen x d t w a (not-false _ fifteen-a) fixed read_only_lem));
+                on-proxy e.found (frozen-learnt k (Some t) w f (asked-frozen x d t w a (not-false _ fifteen-a) fixed read_only_lem));
           }))
     ]))))
 
@@ -151,13 +149,13 @@ pub record Gone (σ : Store) (o : ℕ) (k : PropertyKey) (τ : Store) : Type 0 w
   pub gone : Shut σ o → Lacking τ o k
 
 -- no own property is reported
-gone-absent : {σ : Store} {o : ℕ} (k : PropertyKey) → Faithful σ o k Absent → Gone σ o k σ
-gone-absent k f = record { loose = λ v u. false≢true (frozen-told k Absent v f u); gone = λ shut. lacking-learnt k f shut }
+gone-absent : {σ : Store} {o : ℕ} (k : PropertyKey) → Faithful σ o k None → Gone σ o k σ
+gone-absent k f = record { loose = λ v u. false≢true (frozen-told k None v f u); gone = λ shut. lacking-learnt k f shut }
 
-removed-report : (σ : Store) (o : ℕ) (r : OrdinaryObject) (k : PropertyKey) (p : Property) → lookup σ o ≡ some (Ordinary r)
-    → Present p ≡ own σ o k → configurable p ≡ true → Changed σ (Gone σ o k) (true, without_property σ o k)
+removed-report : (σ : Store) (o : ℕ) (r : OrdinaryObject) (k : PropertyKey) (p : Property) → lookup σ o ≡ Some (Ordinary r)
+    → Some p ≡ own σ o k → configurable p ≡ true → Changed σ (Gone σ o k) (true, without_property σ o k)
 removed-report σ o r k p e f h =
-    let unfrozen : (v : Value) → frozen_as v (own σ o k) ≡ false = λ v. subst (λ (t : OwnProperty). frozen_as v t ≡ false) f (configurable-not-frozen p v h) in
+    let unfrozen : (v : Value) → frozen_as v (own σ o k) ≡ false = λ v. subst (λ (t : Option Property). frozen_as v t ≡ false) f (configurable-not-frozen p v h) in
     record {
       remains = remains-without σ o r k e unfrozen;
       says = λ _. record {
@@ -176,8 +174,8 @@ unfolding methods ordinary_delete proxy_delete
 delete-report zero c o k = ensures-fails _
 delete-report (suc n) c o k = ensures-dispatch c.store o
     (λ r e. ensures-bind (ensures-both (get_own_property-report n c o k) (get_own_property-exact n c o k r e)) (elim [
-      | Absent ↦ λ f. ensures-pure _ (true-idle (gone-absent k f.0))
-      | Present p ↦ λ f. ensures-if _ (λ h. ensures-pure _ (removed-report c.store o r k p e f.1 h)) (λ _. ensures-pure _ false-idle)
+      | None ↦ λ f. ensures-pure _ (true-idle (gone-absent k f.0))
+      | Some p ↦ λ f. ensures-if _ (λ h. ensures-pure _ (removed-report c.store o r k p e f.1 h)) (λ _. ensures-pure _ false-idle)
     ]))
     (λ p e. ensures-if _
     (λ _. ensures-weaken (delete-report n c p.target k) (λ a h. record {
@@ -190,20 +188,20 @@ delete-report (suc n) c o k = ensures-dispatch c.store o
     (λ _. ensures-then _ λ answer. ensures-if _
     (λ _. ensures-pure _ false-idle)
     (λ _. ensures-bind (get_own_property-report n c p.target k) (elim [
-      | Absent ↦ λ f. ensures-pure _ (true-idle (gone-absent k (through e f)))
-      | Present t ↦ λ f.
+      | None ↦ λ f. ensures-pure _ (true-idle (gone-absent k (through e f)))
+      | Some t ↦ λ f.
           ensures-throw_if _ _ λ eleven.
           ensures-bind (is_extensible-report n c p.target) λ x u.
           ensures-throw_if _ _ λ thirteen.
           ensures-pure _ (true-idle (record {
-            loose = λ v w. false≢true (sym (configurable-not-frozen t v (not-false _ eleven)) ∙ frozen-told k (Present t) v f (at_target e w));
+            loose = λ v w. false≢true (sym (configurable-not-frozen t v (not-false _ eleven)) ∙ frozen-told k (Some t) v f (at_target e w));
             gone = λ shut. absurd (true≢false (sym (not-false x thirteen) ∙ u.holds ∙ (at_target e shut).at u.base));
           }))
     ]))))
 
 -- [[SetPrototypeOf]]
 
-ordinary_set_prototype_of-report : (σ : Store) (o : ℕ) (r : OrdinaryObject) (v : Value) → lookup σ o ≡ some (Ordinary r)
+ordinary_set_prototype_of-report : (σ : Store) (o : ℕ) (r : OrdinaryObject) (v : Value) → lookup σ o ≡ Some (Ordinary r)
     → Changed σ (λ _. SamePrototype σ o v) (ordinary_set_prototype_of σ o r v)
 unfolding ordinary_set_prototype_of
 ordinary_set_prototype_of-report σ o r v e = go _ refl _ refl (reaches (length σ.objects) σ o v)
@@ -242,21 +240,21 @@ Settable σ o k v = (w : Value) → Frozen σ o k w → same_value v w ≡ true
 set_on_receiver-report : (n : ℕ) (c : Context) (k : PropertyKey) (v : Value) (o : ℕ) → Ensures (set_on_receiver c (methods n c) k v o) (λ a. Remains c.store a.1)
 unfolding set_on_receiver
 set_on_receiver-report n c k v o = ensures-then _ (elim [
-  | Absent ↦ ensures-weaken (define_own_property-report n c o k _) (λ a h. h.remains)
-  | Present (Accessor g s e f) ↦ ensures-pure _ (remains-refl c.store)
-  | Present (Data w wr e f) ↦ ensures-if _ (λ _. ensures-pure _ (remains-refl c.store)) (λ _. ensures-weaken (define_own_property-report n c o k _) (λ a h. h.remains))
+  | None ↦ ensures-weaken (define_own_property-report n c o k _) (λ a h. h.remains)
+  | Some (Accessor g s e f) ↦ ensures-pure _ (remains-refl c.store)
+  | Some (Data w wr e f) ↦ ensures-if _ (λ _. ensures-pure _ (remains-refl c.store)) (λ _. ensures-weaken (define_own_property-report n c o k _) (λ a h. h.remains))
 ])
 
 -- an own property is reported that is not frozen
-unfrozen : {σ : Store} {o : ℕ} (k : PropertyKey) (v : Value) (d : OwnProperty) (a : Written) → Faithful σ o k d → ((w : Value) → frozen_as w d ≡ false) → Remains σ a.1
+unfrozen : {σ : Store} {o : ℕ} (k : PropertyKey) (v : Value) (d : Option Property) (a : Written) → Faithful σ o k d → ((w : Value) → frozen_as w d ≡ false) → Remains σ a.1
     → Changed σ (λ _. Settable σ o k v) a
 unfrozen k v d a f h g = record { remains = g; says = λ _ w u. absurd (false≢true (sym (h w) ∙ frozen-told k d w f u)) }
 
-writable-not-frozen : (w u : Value) (wr e c : Bool) → wr ≡ true → frozen_as u (Present (Data w wr e c)) ≡ false
+writable-not-frozen : (w u : Value) (wr e c : Bool) → wr ≡ true → frozen_as u (Some (Data w wr e c)) ≡ false
 writable-not-frozen w u true e c h = refl
 writable-not-frozen w u false e c h = absurd (false≢true h)
 
-set_data-report : (n : ℕ) (c : Context) (o : ℕ) (k : PropertyKey) (v : Value) (writable : Bool) (receiver : Value) (d : OwnProperty) → Faithful c.store o k d
+set_data-report : (n : ℕ) (c : Context) (o : ℕ) (k : PropertyKey) (v : Value) (writable : Bool) (receiver : Value) (d : Option Property) → Faithful c.store o k d
     → (writable ≡ true → (w : Value) → frozen_as w d ≡ false) → Ensures (set_data c (methods n c) k v writable receiver) (Changed c.store (λ _. Settable c.store o k v))
 unfolding set_data
 set_data-report n c o k v writable receiver d f h = ensures-if _
@@ -270,11 +268,11 @@ unfolding methods ordinary_set proxy_set
 set-report zero c o k v receiver = ensures-fails _
 set-report (suc n) c o k v receiver = ensures-dispatch c.store o
     (λ r e. ensures-bind (get_own_property-report n c o k) (elim [
-      | Absent ↦ λ f. ensures-then _ λ parent. ensures-option (object_of parent)
-          (set_data-report n c o k v true receiver Absent f (λ _ _. refl))
-          (λ q. ensures-weaken (set-report n c q k v receiver) (λ a h. unfrozen k v Absent a f (λ _. refl) h.remains))
-      | Present (Data w wr en co) ↦ λ f. set_data-report n c o k v wr receiver _ f (λ t u. writable-not-frozen w u wr en co t)
-      | Present (Accessor g s en co) ↦ λ f. ensures-if _
+      | None ↦ λ f. ensures-then _ λ parent. ensures-option (object_of parent)
+          (set_data-report n c o k v true receiver None f (λ _ _. refl))
+          (λ q. ensures-weaken (set-report n c q k v receiver) (λ a h. unfrozen k v None a f (λ _. refl) h.remains))
+      | Some (Data w wr en co) ↦ λ f. set_data-report n c o k v wr receiver _ f (λ t u. writable-not-frozen w u wr en co t)
+      | Some (Accessor g s en co) ↦ λ f. ensures-if _
           (λ _. ensures-pure _ false-idle)
           (λ _. ensures-then _ λ _. ensures-pure _ (unfrozen k v _ (true, c.store) f (λ _. refl) (remains-refl c.store)))
     ]))

@@ -1,6 +1,5 @@
 -- How each trap, getter and setter reads its answer; what cannot be read is refusal 9. Assumes nothing.
-use Rattle.std.specs.Prelude.{ℕ, Bool, true, false, List, [], ◌∷◌}
-use Rattle.std.proofs.Math.Option.{Option, none, some}
+use Rattle.std.specs.Prelude.{Bool, List, [], ◌∷◌, Option, None, Some}
 use Rattle.value.specs.declared.Value.{Value}
 use Rattle.value.specs.declared.Value.TheVariants as value
 use Rattle.value.specs.declared.PropertyKey.{PropertyKey}
@@ -43,7 +42,7 @@ ask_prototype = ask_value >>= as_prototype
 
 -- 10.5.5 step 8: an object, here a descriptor, or undefined
 abbrev pub undefined_descriptor : Value → M (Option DescriptorObject)
-undefined_descriptor value.Undefined = pure none
+undefined_descriptor value.Undefined = pure None
 undefined_descriptor (value.Object o) = fails (Refused 9)
 undefined_descriptor (value.Function f) = fails (Refused 9)
 undefined_descriptor value.Null = fails (TypeError 7)
@@ -55,7 +54,7 @@ undefined_descriptor (value.Symbol s) = fails (TypeError 7)
 
 unfoldable pub as_descriptor : Answer → M (Option DescriptorObject)
 as_descriptor (answer.value v) = undefined_descriptor v
-as_descriptor (answer.descriptor d) = pure (some d)
+as_descriptor (answer.descriptor d) = pure (Some d)
 as_descriptor (answer.keys ks) = fails (Refused 9)
 as_descriptor (answer.throw v) = fails (Refused 9)
 
@@ -64,17 +63,17 @@ ask_descriptor = ask >>= as_descriptor
 
 -- 10.5.11 step 8, CreateListFromArrayLike ( obj, property-key ): the list of keys
 abbrev pub cons_key : Option PropertyKey → Option (List PropertyKey) → Option (List PropertyKey)
-cons_key none ks = none
-cons_key (some k) none = none
-cons_key (some k) (some ks) = some (k ∷ ks)
+cons_key None ks = None
+cons_key (Some k) None = None
+cons_key (Some k) (Some ks) = Some (k ∷ ks)
 
 unfoldable pub keys_of : List Value → Option (List PropertyKey)
-keys_of [] = some []
+keys_of [] = Some []
 keys_of (v ∷ vs) = cons_key (key_of v) (keys_of vs)
 
 abbrev pub listed : Option (List PropertyKey) → M (List PropertyKey)
-listed none = fails (TypeError 30)
-listed (some ks) = pure ks
+listed None = fails (TypeError 30)
+listed (Some ks) = pure ks
 
 abbrev pub unlisted : Value → M (List PropertyKey)
 unlisted (value.Object o) = fails (Refused 9)

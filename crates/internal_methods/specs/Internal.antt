@@ -2,7 +2,7 @@
 use Rattle.std.specs.Prelude.{ℕ, zero, suc}
 use Rattle.store.specs.OwnKeys.{ordinary_own_property_keys}
 use Rattle.internal_methods.specs.declared.Failure.TheVariants.{Refused}
-use Rattle.internal_methods.specs.Monad.{M, pure, fails, dispatch}
+use Rattle.internal_methods.specs.Monad.{pure, fails, dispatch}
 use Rattle.internal_methods.specs.Methods.{Context, Methods}
 use Rattle.internal_methods.specs.Ordinary.{ordinary_get_prototype_of, ordinary_set_prototype_of, ordinary_is_extensible, ordinary_prevent_extensions, ordinary_get_own_property, ordinary_define_own_property, ordinary_has_property, ordinary_get, ordinary_set, ordinary_delete}
 use Rattle.internal_methods.specs.Proxy.{proxy_get_prototype_of, proxy_set_prototype_of, proxy_is_extensible, proxy_prevent_extensions, proxy_get_own_property, proxy_define_own_property, proxy_has_property, proxy_get, proxy_set, proxy_delete, proxy_own_property_keys}

@@ -1,6 +1,5 @@
 -- The check of an answered key list: ECMA-262 10.5.11 steps 9 and 17 to 22. Assumes nothing.
-use Rattle.std.specs.Prelude.{ℕ, Bool, true, false, ◌&&◌, ◌||◌, cond, List, [], ◌∷◌}
-use Rattle.std.proofs.Math.Option.{Option, none, some}
+use Rattle.std.specs.Prelude.{ℕ, Bool, true, false, ◌&&◌, ◌||◌, cond, List, [], ◌∷◌, Option, None, Some}
 use Rattle.value.specs.declared.PropertyKey.{PropertyKey}
 use Rattle.value.specs.declared.PropertyKey.TheVariants.{String, Symbol}
 use Rattle.value.specs.PropertyKey.{same_key}
@@ -23,16 +22,16 @@ duplicate_message (Symbol s) = 23
 
 -- step 9: the message of the first key that stands among those before it
 unfoldable pub duplicate : List PropertyKey → List PropertyKey → Option ℕ
-duplicate before [] = none
-duplicate before (k ∷ ks) = cond (has_key k before) (some (duplicate_message k)) (duplicate (k ∷ before) ks)
+duplicate before [] = None
+duplicate before (k ∷ ks) = cond (has_key k before) (Some (duplicate_message k)) (duplicate (k ∷ before) ks)
 
 -- steps 19 and 21: what is left of the unchecked keys once each of these is removed, unless one is missing
 unfoldable pub checked_off : List PropertyKey → List PropertyKey → Option (List PropertyKey)
-checked_off [] unchecked = some unchecked
+checked_off [] unchecked = Some unchecked
 checked_off (k ∷ ks) unchecked =
     cond (has_key k unchecked)
     (checked_off ks (without_key k unchecked))  -- b
-    none  -- a
+    None  -- a
 
 -- the target's keys, sorted by step 16
 pub record Sorted : Type 0 where
@@ -40,17 +39,17 @@ pub record Sorted : Type 0 where
   pub nonconfigurable : List PropertyKey
 
 abbrev pub remaining : Option (List PropertyKey) → Option ℕ
-remaining none = some 25  -- 21.a
-remaining (some unchecked) = cond (is_empty unchecked) none (some 26)  -- 22, 23
+remaining None = Some 25  -- 21.a
+remaining (Some unchecked) = cond (is_empty unchecked) None (Some 26)  -- 22, 23
 
 abbrev pub required : Bool → List PropertyKey → Option (List PropertyKey) → Option ℕ
-required extensible_target configurable none = some 24  -- 19.a
-required extensible_target configurable (some unchecked) =
-    cond extensible_target none  -- 20
+required extensible_target configurable None = Some 24  -- 19.a
+required extensible_target configurable (Some unchecked) =
+    cond extensible_target None  -- 20
     (remaining (checked_off configurable unchecked))  -- 21
 
 -- steps 17 to 22: the message with which the list is rejected, if it is
 unfoldable pub rejected : Bool → Sorted → List PropertyKey → Option ℕ
 rejected extensible_target target list =
-    cond (extensible_target && is_empty target.nonconfigurable) none  -- 17
+    cond (extensible_target && is_empty target.nonconfigurable) None  -- 17
     (required extensible_target target.configurable (checked_off target.nonconfigurable list))  -- 18, 19

@@ -1,7 +1,6 @@
 -- The texts of the TypeErrors by number: boa's for 1 to 28. Assumes nothing.
 use Rattle.std.specs.Prelude.{ℕ, List, [], ◌∷◌, get_or}
 use Prim.Native.String.{String}
-use Prim.Native.String
 use Prim.Native.Char.{code}
 
 -- the characters of a text, as numbers

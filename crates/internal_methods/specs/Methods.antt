@@ -1,12 +1,12 @@
 -- ECMA-262 6.1.7.2: the essential internal methods of an object, as methods call one another. Assumes nothing.
-use Rattle.std.specs.Prelude.{ℕ, Bool, List}
+use Rattle.std.specs.Prelude.{ℕ, Bool, List, Option}
 use Rattle.value.specs.declared.Value.{Value}
 use Rattle.value.specs.declared.PropertyKey.{PropertyKey}
 use Rattle.property.specs.declared.PropertyDescriptor.{PropertyDescriptor}
-use Rattle.property.specs.declared.OwnProperty.{OwnProperty}
 use Rattle.text.specs.Strings.{Strings}
 use Rattle.store.specs.Store.{Store}
 use Rattle.internal_methods.specs.Monad.{M}
+use Rattle.property.specs.declared.Property.{Property}
 
 -- what methods read; `allowance` is how many properties the store may hold
 pub record Context : Type 0 where
@@ -24,7 +24,7 @@ pub record Methods : Type 0 where
   pub set_prototype_of : ℕ → Value → M Written
   pub is_extensible : ℕ → M Bool
   pub prevent_extensions : ℕ → M Written
-  pub get_own_property : ℕ → PropertyKey → M OwnProperty
+  pub get_own_property : ℕ → PropertyKey → M (Option Property)
   pub define_own_property : ℕ → PropertyKey → PropertyDescriptor → M Written
   pub has_property : ℕ → PropertyKey → M Bool
   pub get : ℕ → PropertyKey → Value → M Value

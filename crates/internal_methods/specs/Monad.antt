@@ -1,6 +1,5 @@
 -- What a method does over a step's answers and calls: it fails, or it is done with a result. Assumes nothing.
-use Rattle.std.specs.Prelude.{ℕ, suc, zero, Bool, true, false, List, [], ◌∷◌}
-use Rattle.std.proofs.Math.Option.{Option, none, some}
+use Rattle.std.specs.Prelude.{ℕ, suc, zero, Bool, true, false, List, [], ◌∷◌, Option, None, Some}
 use Rattle.value.specs.declared.Value.{Value}
 use Rattle.property.specs.declared.DescriptorObject.{DescriptorObject}
 use Rattle.store.specs.declared.OrdinaryObject.{OrdinaryObject}
@@ -59,8 +58,8 @@ throw_if n false = pure tt
 
 -- the same, where a test gives the message's number
 unfoldable pub throw_any : Option ℕ → M (Unit {0})
-throw_any none = pure tt
-throw_any (some n) = fails (TypeError n)
+throw_any None = pure tt
+throw_any (Some n) = fails (TypeError n)
 
 abbrev pub answered : ℕ → List Answer → Out Answer
 answered n [] = failed (Refused 8) (state [] n)
@@ -88,9 +87,9 @@ module _ {A : Type 0} where
   when◌then◌else◌ false m k = k
 
   unfoldable pub dispatched : Option Object → (OrdinaryObject → M A) → (ProxyObject → M A) → M A
-  dispatched none f g = fails (Refused 2)
-  dispatched (some (Ordinary r)) f g = f r
-  dispatched (some (Proxy p)) f g = throw_if 1 p.revoked >> g p  -- 10.5.14 ValidateNonRevokedProxy
+  dispatched None f g = fails (Refused 2)
+  dispatched (Some (Ordinary r)) f g = f r
+  dispatched (Some (Proxy p)) f g = throw_if 1 p.revoked >> g p  -- 10.5.14 ValidateNonRevokedProxy
 
   -- the internal methods that o has: those of 10.1, or those of 10.5
   unfoldable pub dispatch : Store → ℕ → (OrdinaryObject → M A) → (ProxyObject → M A) → M A

@@ -1,17 +1,13 @@
 -- ECMA-262 10.5 Proxy Object Internal Methods and Internal Slots, with the message numbers of docs/REFERENCE.md.
 -- Steps 1 to 5, the same in each, are `dispatch`, the proxy's fields and its trap mask. Assumes nothing.
-use Rattle.std.specs.Prelude.{ℕ, ◌/◌, ◌%◌, ◌^◌, Bool, true, false, not, ◌&&◌, ◌||◌, cond, List, [], ◌∷◌, eqb}
+use Rattle.std.specs.Prelude.{ℕ, ◌/◌, ◌%◌, ◌^◌, Bool, true, false, not, ◌&&◌, List, [], ◌∷◌, eqb, Option, None, Some}
 use Rattle.std.specs.Bool.{beq}
-use Rattle.std.proofs.Math.Option.{Option, none, some}
 use Rattle.value.specs.declared.Value.{Value}
 use Rattle.value.specs.declared.PropertyKey.{PropertyKey}
 use Rattle.value.specs.Value.{same_value, is_undefined}
 use Rattle.property.specs.declared.PropertyDescriptor.{PropertyDescriptor}
-use Rattle.property.specs.declared.DescriptorObject.{DescriptorObject}
 use Rattle.property.specs.declared.Property.{Property}
 use Rattle.property.specs.declared.Property.TheVariants.{Data, Accessor}
-use Rattle.property.specs.declared.OwnProperty.{OwnProperty}
-use Rattle.property.specs.declared.OwnProperty.TheVariants.{Absent, Present}
 use Rattle.property.specs.Fields.{is_false, writable_field, configurable}
 use Rattle.property.specs.Descriptor.{is_uncallable, is_mixed, to_property_descriptor, complete, descriptor_of}
 use Rattle.property.specs.Validate.{is_compatible}
@@ -25,14 +21,14 @@ use Rattle.internal_methods.specs.KeyList.{Sorted, duplicate, rejected}
 unfoldable pub has_trap : ProxyObject → ℕ → Bool
 has_trap p i = eqb (p.traps / 2 ^ i % 2) 1
 
-abbrev pub absent_or_configurable : OwnProperty → Bool
-absent_or_configurable Absent = true
-absent_or_configurable (Present p) = configurable p
+abbrev pub absent_or_configurable : Option Property → Bool
+absent_or_configurable None = true
+absent_or_configurable (Some p) = configurable p
 
-abbrev pub is_writable : OwnProperty → Bool
-is_writable Absent = false
-is_writable (Present (Data v w e c)) = w
-is_writable (Present (Accessor g s e c)) = false
+abbrev pub is_writable : Option Property → Bool
+is_writable None = false
+is_writable (Some (Data v w e c)) = w
+is_writable (Some (Accessor g s e c)) = false
 
 -- a data property that is not writable
 abbrev pub is_read_only : Property → Bool
@@ -90,22 +86,22 @@ proxy_prevent_extensions c call p =
             pure (true, c.store)  -- 9
 
 -- 10.5.5 [[GetOwnProperty]] ( P )
-unfoldable pub proxy_get_own_property : Methods → ProxyObject → PropertyKey → M OwnProperty
+unfoldable pub proxy_get_own_property : Methods → ProxyObject → PropertyKey → M (Option Property)
 proxy_get_own_property call p k =
     when not (has_trap p 4) then call.get_own_property p.target k  -- 6
     else do
       trap_result_obj ← ask_descriptor  -- 7, 8
       target_desc ← call.get_own_property p.target k  -- 9
       elim trap_result_obj [
-        | none ↦ elim target_desc [  -- 10
-          | Absent ↦ pure Absent  -- 10.a
-          | Present target ↦ do
+        | None ↦ elim target_desc [  -- 10
+          | None ↦ pure None  -- 10.a
+          | Some target ↦ do
             throw_if 8 (not (configurable target))  -- 10.b
             extensible_target ← call.is_extensible p.target  -- 10.c
             throw_if 9 (not extensible_target)  -- 10.d
-            pure Absent  -- 10.e
+            pure None  -- 10.e
         ]
-        | some object ↦ do
+        | Some object ↦ do
           extensible_target ← call.is_extensible p.target  -- 11
           throw_if 27 (is_uncallable object.get)  -- 12, 6.2.6.5 step 12.b
           throw_if 28 (is_uncallable object.set)  -- 12, 6.2.6.5 step 14.b
@@ -114,7 +110,7 @@ proxy_get_own_property call p k =
           throw_if 10 (not (is_compatible extensible_target (descriptor_of result_desc) target_desc))  -- 14, 15
           throw_if 12 (not (configurable result_desc) && absent_or_configurable target_desc)  -- 16.a
           throw_if 11 (not (configurable result_desc) && (is_read_only result_desc && is_writable target_desc))  -- 16.b
-          pure (Present result_desc)  -- 17
+          pure (Some result_desc)  -- 17
       ]
 
 -- 10.5.6 [[DefineOwnProperty]] ( P, Desc )
@@ -129,14 +125,14 @@ proxy_define_own_property c call p k d =
             extensible_target ← call.is_extensible p.target  -- 11
             let setting_config_false = is_false d.configurable  -- 12, 13
             elim target_desc [
-              | Absent ↦ do  -- 14
+              | None ↦ do  -- 14
                 throw_if 13 (not extensible_target)  -- 14.a
                 throw_if 13 setting_config_false  -- 14.b
                 pure (true, c.store)
-              | Present target ↦ do  -- 15
-                throw_if 14 (not (is_compatible extensible_target d (Present target)))  -- 15.a
+              | Some target ↦ do  -- 15
+                throw_if 14 (not (is_compatible extensible_target d (Some target)))  -- 15.a
                 throw_if 15 (setting_config_false && configurable target)  -- 15.b
-                throw_if 16 (not (configurable target) && (is_writable (Present target) && is_false (writable_field d.kind)))  -- 15.c
+                throw_if 16 (not (configurable target) && (is_writable (Some target) && is_false (writable_field d.kind)))  -- 15.c
                 pure (true, c.store)  -- 16
             ]
 
@@ -150,8 +146,8 @@ proxy_has_property c call p k =
           else do  -- 8
             target_desc ← call.get_own_property p.target k  -- 8.a
             elim target_desc [
-              | Absent ↦ pure false
-              | Present target ↦ do  -- 8.b
+              | None ↦ pure false
+              | Some target ↦ do  -- 8.b
                 throw_if 10 (not (configurable target))  -- 8.b.i
                 extensible_target ← call.is_extensible p.target  -- 8.b.ii
                 throw_if 10 (not extensible_target)  -- 8.b.iii
@@ -159,16 +155,16 @@ proxy_has_property c call p k =
             ]
 
 -- 10.5.8 step 9.a and 10.5.9 step 10.a: the target's property fixes another value
-abbrev pub fixes_other : OwnProperty → Value → Bool
-fixes_other Absent v = false
-fixes_other (Present (Data w wr e c)) v = not c && (not wr && not (same_value v w))
-fixes_other (Present (Accessor g s e c)) v = false
+abbrev pub fixes_other : Option Property → Value → Bool
+fixes_other None v = false
+fixes_other (Some (Data w wr e c)) v = not c && (not wr && not (same_value v w))
+fixes_other (Some (Accessor g s e c)) v = false
 
 -- 10.5.8 step 9.b: there is no getter, and a value is given
-abbrev pub lacks_getter : OwnProperty → Value → Bool
-lacks_getter Absent v = false
-lacks_getter (Present (Data w wr e c)) v = false
-lacks_getter (Present (Accessor g s e c)) v = not c && (is_undefined g && not (is_undefined v))
+abbrev pub lacks_getter : Option Property → Value → Bool
+lacks_getter None v = false
+lacks_getter (Some (Data w wr e c)) v = false
+lacks_getter (Some (Accessor g s e c)) v = not c && (is_undefined g && not (is_undefined v))
 
 -- 10.5.8 [[Get]] ( P, Receiver )
 unfoldable pub proxy_get : Methods → ProxyObject → PropertyKey → Value → M Value
@@ -182,10 +178,10 @@ proxy_get call p k receiver =
       pure trap_result  -- 10
 
 -- 10.5.9 step 10.b: there is no setter
-abbrev pub lacks_setter : OwnProperty → Bool
-lacks_setter Absent = false
-lacks_setter (Present (Data w wr e c)) = false
-lacks_setter (Present (Accessor g s e c)) = not c && is_undefined s
+abbrev pub lacks_setter : Option Property → Bool
+lacks_setter None = false
+lacks_setter (Some (Data w wr e c)) = false
+lacks_setter (Some (Accessor g s e c)) = not c && is_undefined s
 
 -- 10.5.9 [[Set]] ( P, V, Receiver )
 unfoldable pub proxy_set : Context → Methods → ProxyObject → PropertyKey → Value → Value → M Written
@@ -210,8 +206,8 @@ proxy_delete c call p k =
           else do
             target_desc ← call.get_own_property p.target k  -- 9
             elim target_desc [
-              | Absent ↦ pure (true, c.store)  -- 10
-              | Present target ↦ do
+              | None ↦ pure (true, c.store)  -- 10
+              | Some target ↦ do
                 throw_if 21 (not (configurable target))  -- 11
                 extensible_target ← call.is_extensible p.target  -- 12
                 throw_if 21 (not extensible_target)  -- 13
@@ -223,7 +219,7 @@ sorted_by k true s = record { configurable = k ∷ s.configurable; nonconfigurab
 sorted_by k false s = record { configurable = s.configurable; nonconfigurable = k ∷ s.nonconfigurable }  -- 16.b
 
 -- 10.5.11 steps 14 to 16
-unfoldable pub sorted : (PropertyKey → M OwnProperty) → List PropertyKey → M Sorted
+unfoldable pub sorted : (PropertyKey → M (Option Property)) → List PropertyKey → M Sorted
 sorted get_own [] = pure (record { configurable = []; nonconfigurable = [] })  -- 14, 15
 sorted get_own (k ∷ ks) = do
   desc ← get_own k  -- 16.a

@@ -1,13 +1,11 @@
 -- Refusal 9, as a table: which answers each trap, getter and setter can read. Assumes nothing.
-use Rattle.std.specs.Prelude.{ℕ, suc, ◌≡◌, Bool, true, false, [], ◌∷◌}
-use Rattle.std.proofs.Math.Option.{some}
+use Rattle.std.specs.Prelude.{ℕ, suc, ◌≡◌, Bool, true, false, [], ◌∷◌, Some}
 use Rattle.value.specs.declared.Value.{Value}
 use Rattle.value.specs.declared.Value.TheVariants as value
 use Rattle.value.specs.declared.PropertyKey.{PropertyKey}
 use Rattle.value.specs.Value.{is_undefined}
 use Rattle.property.specs.declared.PropertyDescriptor.{PropertyDescriptor}
 use Rattle.property.specs.declared.Property.TheVariants.{Accessor}
-use Rattle.property.specs.declared.OwnProperty.TheVariants.{Present}
 use Rattle.store.specs.declared.OrdinaryObject.{OrdinaryObject}
 use Rattle.store.specs.declared.ProxyObject.{ProxyObject}
 use Rattle.store.specs.declared.Object.TheVariants.{Ordinary, Proxy}
@@ -90,17 +88,17 @@ pub record ReadsAs (r : Reading) {A : Type 0} (m : M A) (calls : ℕ) : Type 0 w
 -- o is a proxy that is not revoked, with the trap of bit i
 pub record HasTrap (c : Context) (o i : ℕ) : Type 0 where
   pub proxy : ProxyObject
-  pub found : lookup c.store o ≡ some (Proxy proxy)
+  pub found : lookup c.store o ≡ Some (Proxy proxy)
   pub alive : proxy.revoked ≡ false
   pub trap : has_trap proxy i ≡ true
 
 -- o is an ordinary object, and its property k an accessor
 pub record HasAccessor (c : Context) (o : ℕ) (k : PropertyKey) (get set : Value) : Type 0 where
   pub object : OrdinaryObject
-  pub found : lookup c.store o ≡ some (Ordinary object)
+  pub found : lookup c.store o ≡ Some (Ordinary object)
   pub enumerable : Bool
   pub configurable : Bool
-  pub is : own c.store o k ≡ Present (Accessor get set enumerable configurable)
+  pub is : own c.store o k ≡ Some (Accessor get set enumerable configurable)
 
 -- every trap, getter and setter, in every context and at every depth, as long as calls are left
 pub record TableHolds (c : Context) (n calls o : ℕ) : Type 0 where

@@ -3,6 +3,7 @@
 
 use value::Value;
 
+// Refusals and messages are numbers here and in `Outcome`: the demands, the table of texts and the report for C tell them by number.
 #[derive(Clone, Copy)]
 pub enum Failure {
     Refused(u64),

@@ -1,21 +1,25 @@
 -- Keys of an answered list, checked off one by one. Assumes nothing.
-use Prim.Native.Nat.{ℕ, zero, suc, ◌+◌, ◌<◌, ◌≤◌}
+use Prim.Native.Nat.{ℕ, suc, ◌<◌, ◌≤◌}
 use native.Mathlib.Omega.{arith}
 use mathlib.Core.Path.{◌≡◌, refl, sym, ap, ◌∙◌}
-use mathlib.Core.Bool.{Bool, true, false, not, cond}
-use mathlib.Core.Option.{Option, none, some}
+use mathlib.Core.Bool.{Bool, true, false, not, ◌||◌, cond}
 use mathlib.Core.List.{List, [], ◌∷◌}
 use lib.Dec.{eqb, ltb}
-use lib.ListN.{length, get_or, take, drop, set}
-use lib.Seq.{length-take-le, take-set-lt}
-use borrow.Author.Tests.{eqb-true, eq-eqb, ne_eqb, lt-ltb, le-ltb, not-true, not-false}
+use lib.ListN.{length, set}
+use borrow.Author.Tests.{eqb-true, lt-ltb, le-ltb}
 use Rattle.value.specs.declared.PropertyKey.{PropertyKey}
 use Rattle.store_read.specs.Answers.{key_from_word, first_where}
-use Rattle.store_read.proofs.ListLaws.{next_word, no_more}
+use Rattle.store_read.proofs.ListLaws.{first-position}
 use Rattle.internal_methods.specs.KeyList.{has_key, without_key, is_empty, checked_off}
-use Rattle.key_lists.specs.KeyWords.{place_of_word}
+use Rattle.std.proofs.Common.{Some, None}
+use Rattle.std.specs.List.{list_any, position}
+use Rattle.std.proofs.lemmas.List.Quantifiers.{position-Some}
 use Rattle.key_lists.proofs.KeyWordLaws.{key-word, ltb-suc}
-use Rattle.key_lists.specs.Unchecked.{checked_mark, unchecked, unless_missing, is_due, due_keys, missing_message, turn_message, last_message}
+use Rattle.key_lists.specs.Unchecked.{checked_mark, unchecked}
+
+-- where a word stands first, or the length if it is missing
+abbrev place_of_word : ℕ → List ℕ → ℕ
+place_of_word word ws = first_where (λ (w : ℕ). eqb w word) ws
 
 -- Steps 19.b and 21.b: one key is checked off -----------------------------------------------------
 
@@ -46,19 +50,24 @@ module _ (word : ℕ) (other : word ≡ checked_mark → ⊥) where
       go false e true f ih l = rw (key-word w word ∙ f)
       go false e false f ih l = rw (e, key-word w word ∙ f) (ap (λ (ks : List PropertyKey). key_from_word w ∷ ks) (ih (omega arith)))
 
-  module _ (ws : List ℕ) (n i : ℕ) (h : n ≤ length ws) (p : i ≡ place_of_word word (take n ws)) where
-    has_first : has_key (key_from_word word) (unchecked (take n ws)) ≡ ltb i n
-    has_first = unchecked-has (take n ws) ∙ rw (p, length-take-le n ws h)
+  module _ (ws : List ℕ) where
+    has_first : has_key (key_from_word word) (unchecked ws) ≡ ltb (place_of_word word ws) (length ws)
+    has_first = unchecked-has ws
 
-    pub check-hit : i < n → some (unchecked (take n (set ws i checked_mark))) ≡ checked_off (key_from_word word ∷ []) (unchecked (take n ws))
+    pub check-hit : (i : ℕ) → position (λ (w : ℕ). eqb w word) ws ≡ Some i → Some (unchecked (set ws i checked_mark)) ≡ checked_off (key_from_word word ∷ []) (unchecked ws)
     unfolding checked_off
-    check-hit l =
-        rw (has_first, lt-ltb _ _ l, take-set-lt n ws i checked_mark l, p)
-        (ap some (unchecked-set (take n ws) (omega (arith, length-take-le n ws h))))
+    check-hit i e =
+        let p : i ≡ place_of_word word ws = rw e at (first-position (λ (w : ℕ). eqb w word) ws) in
+        let l = (position-Some (λ (w : ℕ). eqb w word) ws i 0 e).0 in
+        let g : place_of_word word ws < length ws = rw p at l in
+        rw (has_first, lt-ltb _ _ g, p) (ap Some (unchecked-set ws g))
 
-    pub check-miss : n ≤ i → none ≡ checked_off (key_from_word word ∷ []) (unchecked (take n ws))
+    pub check-miss : position (λ (w : ℕ). eqb w word) ws ≡ None → None ≡ checked_off (key_from_word word ∷ []) (unchecked ws)
     unfolding checked_off
-    check-miss l = rw (has_first, le-ltb _ _ l)
+    check-miss e =
+        let p : length ws ≡ place_of_word word ws = rw e at (first-position (λ (w : ℕ). eqb w word) ws) in
+        let g : length ws ≤ place_of_word word ws = omega arith in
+        rw (has_first, le-ltb _ _ g)
 
 -- the word that stands for a key checked off is no key's
 marked-has : (ws : List ℕ) → has_key (key_from_word checked_mark) (unchecked ws) ≡ false
@@ -70,66 +79,18 @@ marked-has (w ∷ ws) = go (eqb w checked_mark) refl (marked-has ws)
     go true e ih = ih
     go false e ih = rw (key-word w checked_mark ∙ e) ih
 
-pub check-marked : (word : ℕ) (ws : List ℕ) → word ≡ checked_mark → none ≡ checked_off (key_from_word word ∷ []) (unchecked ws)
+pub check-marked : (word : ℕ) (ws : List ℕ) → word ≡ checked_mark → None ≡ checked_off (key_from_word word ∷ []) (unchecked ws)
 unfolding checked_off
 check-marked word ws e = rw (e, marked-has ws)
 
 -- Step 22 ------------------------------------------------------------------------------------------
 
-abbrev pub none_left : List ℕ → ℕ → ℕ → Bool
-none_left ws n i = is_empty (unchecked (drop i (take n ws)))
-
-module _ (ws : List ℕ) (n i : ℕ) (h : n ≤ length ws) where
-  pub left-hit : i < n → (get_or ws i 0 ≡ checked_mark → ⊥) → none_left ws n i ≡ false
-  unfolding unchecked
-  left-hit l e = rw (next_word ws n i h l, ne_eqb _ _ e)
-
-  pub left_step : i < n → get_or ws i 0 ≡ checked_mark → none_left ws n i ≡ none_left ws n (i + 1)
-  unfolding unchecked
-  left_step l e = rw (next_word ws n i h l, eq-eqb _ _ e)
-
-  pub left_end : n ≤ i → none_left ws n i ≡ true
-  unfolding unchecked
-  left_end l = rw (no_more ws n i h l)
-
--- A turn ------------------------------------------------------------------------------------------
-
-module _ (first : Bool) (x c : Bool) (word s : ℕ) (z : s ≡ 0) (us vs : List PropertyKey) where
-  -- the key that is due
-  due : is_due x first c ≡ true → due_keys x first word c ≡ key_from_word word ∷ []
-  due d = rw d
-
-  pub was-there : is_due x first c ≡ true → (r : Bool) → r ≡ true → unless_missing r vs ≡ checked_off (key_from_word word ∷ []) us
-      → (0 ≡ turn_message first s (checked_off (due_keys x first word c) us)) × (some vs ≡ checked_off (due_keys x first word c) us)
-  was-there d r e h =
-      let k : some vs ≡ checked_off (key_from_word word ∷ []) us = rw e at h in
-      (rw (z, due d, ← k), rw (due d) k)
-
-  pub was-missing : is_due x first c ≡ true → (r : Bool) → r ≡ false → unless_missing r vs ≡ checked_off (key_from_word word ∷ []) us
-      → missing_message first ≡ turn_message first s (checked_off (due_keys x first word c) us)
-  was-missing d r e h =
-      let k : none ≡ checked_off (key_from_word word ∷ []) us = rw e at h in
-      rw (z, due d, ← k)
-
-  pub nothing-due : is_due x first c ≡ false → (0 ≡ turn_message first s (checked_off (due_keys x first word c) us)) × (some us ≡ checked_off (due_keys x first word c) us)
-  unfolding checked_off
-  nothing-due d = (rw (z, d), rw d)
-
-pub some-missing : (first : Bool) → missing_message first ≡ 0 → ⊥
-some-missing true e = omega arith
-some-missing false e = omega arith
-
-pub stays-first : (first : Bool) (s : ℕ) (left : Option (List PropertyKey)) → (s ≡ 0 → ⊥) → s ≡ turn_message first s left
-stays-first first zero left h = absurd (h refl)
-stays-first first (suc s) left h = refl
-
-pub stays-last : (x : Bool) (s : ℕ) (us : List PropertyKey) → (s ≡ 0 → ⊥) → s ≡ last_message x s us
-stays-last x zero us h = absurd (h refl)
-stays-last x (suc s) us h = refl
-
-module _ (x : Bool) (s : ℕ) (us : List PropertyKey) (z : s ≡ 0) (e : x ≡ false) (r : Bool) (h : r ≡ not (is_empty us)) where
-  pub one_left : r ≡ true → 26 ≡ last_message x s us
-  one_left t = let k : is_empty us ≡ false = not-true _ (sym h ∙ t) in rw (z, e, k)
-
-  pub none_left_lem : r ≡ false → 0 ≡ last_message x s us
-  none_left_lem t = let k : is_empty us ≡ true = not-false _ (sym h ∙ t) in rw (z, e, k)
+pub any-left : (ws : List ℕ) → list_any (λ (w : ℕ). not (eqb w checked_mark)) ws ≡ not (is_empty (unchecked ws))
+unfolding unchecked
+any-left [] = refl
+any-left (w ∷ ws) = go (eqb w checked_mark) (any-left ws)
+  where
+    go : (b : Bool) → list_any (λ (w : ℕ). not (eqb w checked_mark)) ws ≡ not (is_empty (unchecked ws))
+        → (not b || list_any (λ (w : ℕ). not (eqb w checked_mark)) ws) ≡ not (is_empty (cond b (unchecked ws) (key_from_word w ∷ unchecked ws)))
+    go true ih = ih
+    go false ih = refl

@@ -1,25 +1,23 @@
 -- Laws of key lists in words. Assumes nothing.
+use Rattle.std.specs.Prelude.{Option, None, Some}
 use Prim.Native.Nat.{ℕ, suc, ◌+◌, ◌/◌, ◌%◌, ◌<◌, ◌≤◌}
 use native.Mathlib.Omega.{arith}
-use native.Mathlib.Numerals.{add-one}
 use mathlib.Core.Path.{◌≡◌, refl, sym, ap, ◌∙◌}
-use mathlib.Core.Bool.{Bool, true, false, ◌||◌, cond}
-use mathlib.Core.Option.{Option, none}
+use mathlib.Core.Bool.{Bool, true, false, ◌||◌}
 use mathlib.Core.List.{List, [], ◌∷◌, ◌++◌, map}
 use lib.Dec.{eqb, ltb}
 use lib.ListN.{length, get_or, take, drop}
-use lib.Seq.{length-take-le, take-suc}
-use borrow.Author.Tests.{eqb-true, eqb-false, eq-eqb, ltb-true, lt-ltb, le-ltb}
+use borrow.Author.Tests.{eqb-true, eqb-false, eq-eqb, ltb-true, lt-ltb}
 use Rattle.value.specs.declared.PropertyKey.{PropertyKey}
 use Rattle.value.specs.declared.PropertyKey.TheVariants.{String, Symbol}
 use Rattle.value.specs.PropertyKey.{same_key}
 use Rattle.value.specs.Words.{pick}
 use Rattle.value.proofs.Bools.{bool-ext, or_swap}
 use Rattle.value.proofs.SameKey.{key-refl, key-eq}
-use Rattle.store_read.specs.Answers.{key_from_word, key_to_word, first_where}
-use Rattle.store_read.proofs.ListLaws.{map-append, next_word, no_more}
+use Rattle.store_read.specs.Answers.{key_from_word, key_to_word}
 use Rattle.internal_methods.specs.KeyList.{has_key, duplicate, duplicate_message}
-use Rattle.key_lists.specs.KeyWords.{message_number, place_of_word}
+use Rattle.std.specs.List.{list_any}
+use Rattle.std.proofs.lemmas.List.{drop_more, drop_all, map_more}
 
 -- One key in a word ---------------------------------------------------------------------------
 
@@ -51,15 +49,10 @@ ltb-suc a b = bool-ext _ _ (λ h. lt-ltb (suc a) (suc b) (omega (arith, ltb-true
 -- Step 9 --------------------------------------------------------------------------------------
 
 -- a word stands among others where its key does
-pub place-has : (word : ℕ) (ws : List ℕ) → has_key (key_from_word word) (map key_from_word ws) ≡ ltb (place_of_word word ws) (length ws)
-unfolding has_key first_where
-place-has word [] = sym (le-ltb 0 0 (omega arith))
-place-has word (w ∷ ws) = rw (key-word w word) (go (eqb w word) (place-has word ws))
-  where
-    go : (b : Bool) → has_key (key_from_word word) (map key_from_word ws) ≡ ltb (place_of_word word ws) (length ws)
-        → (b || has_key (key_from_word word) (map key_from_word ws)) ≡ ltb (cond b 0 (suc (place_of_word word ws))) (suc (length ws))
-    go true ih = sym (lt-ltb 0 (suc (length ws)) (omega arith))
-    go false ih = ih ∙ ltb-suc (place_of_word word ws) (length ws)
+any-has : (word : ℕ) (ws : List ℕ) → has_key (key_from_word word) (map key_from_word ws) ≡ list_any (λ (w : ℕ). eqb w word) ws
+unfolding has_key
+any-has word [] = refl
+any-has word (w ∷ ws) = rw (key-word w word) (ap (λ (b : Bool). eqb w word || b) (any-has word ws))
 
 snoc-has : (k l : PropertyKey) (ls : List PropertyKey) → has_key k (ls ++ (l ∷ [])) ≡ has_key k (l ∷ ls)
 unfolding has_key
@@ -74,28 +67,29 @@ duplicate-same before others (k ∷ ks) h =
     rw (h k, duplicate-same (k ∷ before) (k ∷ others) ks (λ l. ap (λ (x : Bool). same_key k l || x) (h l)))
 
 -- of the words from i on, with those before it
-abbrev pub duplicate_from : List ℕ → ℕ → ℕ → Option ℕ
-duplicate_from ws n i = duplicate (map key_from_word (take i ws)) (map key_from_word (drop i (take n ws)))
+abbrev pub duplicate_from : List ℕ → ℕ → Option ℕ
+duplicate_from ws i = duplicate (map key_from_word (take i ws)) (map key_from_word (drop i ws))
 
-module _ (ws : List ℕ) (n i : ℕ) (h : n ≤ length ws) (l : i < n) where
-  place-before : has_key (key_from_word (get_or ws i 0)) (map key_from_word (take i ws)) ≡ ltb (place_of_word (get_or ws i 0) (take i ws)) i
-  place-before = place-has (get_or ws i 0) (take i ws) ∙ ap (ltb (place_of_word (get_or ws i 0) (take i ws))) (length-take-le i ws (omega arith))
+module _ (ws : List ℕ) (i : ℕ) (l : i < length ws) where
+  abbrev stands : Bool
+  stands = list_any (λ (w : ℕ). eqb w (get_or ws i 0)) (take i ws)
 
-  pub duplicate-hit : place_of_word (get_or ws i 0) (take i ws) < i → 22 + get_or ws i 0 % 2 ≡ message_number (duplicate_from ws n i)
+  pub duplicate-hit : stands ≡ true → duplicate_from ws i ≡ Some (22 + get_or ws i 0 % 2)
   unfolding duplicate
-  duplicate-hit g = rw (next_word ws n i h l, place-before, lt-ltb _ _ g) (sym (message-word (get_or ws i 0)))
+  duplicate-hit g = rw (drop_more ws i 0 l, any-has (get_or ws i 0) (take i ws), g) (ap Some (message-word (get_or ws i 0)))
 
   -- a new word joins those before it
-  grown : duplicate (key_from_word (get_or ws i 0) ∷ map key_from_word (take i ws)) (map key_from_word (drop (i + 1) (take n ws))) ≡ duplicate_from ws n (i + 1)
+  grown : duplicate (key_from_word (get_or ws i 0) ∷ map key_from_word (take i ws)) (map key_from_word (drop (i + 1) ws)) ≡ duplicate_from ws (i + 1)
   grown =
       duplicate-same _ _ _ (λ k. sym (snoc-has k (key_from_word (get_or ws i 0)) (map key_from_word (take i ws))))
-      ∙ ap (λ (ks : List PropertyKey). duplicate ks (map key_from_word (drop (i + 1) (take n ws))))
-      (sym (rw (add-one i, take-suc ws i 0 (omega arith)) (map-append key_from_word (take i ws) (get_or ws i 0 ∷ []))))
+      ∙ ap (λ (ks : List PropertyKey). duplicate ks (map key_from_word (drop (i + 1) ws))) (sym (map_more key_from_word ws i 0 l))
 
-  pub duplicate-step : i ≤ place_of_word (get_or ws i 0) (take i ws) → duplicate_from ws n i ≡ duplicate_from ws n (i + 1)
+  pub duplicate-step : stands ≡ false → duplicate_from ws i ≡ duplicate_from ws (i + 1)
   unfolding duplicate
-  duplicate-step g = rw (next_word ws n i h l, place-before, le-ltb _ _ g) grown
+  duplicate-step g = rw (drop_more ws i 0 l, any-has (get_or ws i 0) (take i ws), g) grown
 
-pub duplicate-end : (ws : List ℕ) (n i : ℕ) → n ≤ length ws → n ≤ i → duplicate_from ws n i ≡ none
+pub duplicate-end : (ws : List ℕ) (i : ℕ) → length ws ≤ i → duplicate_from ws i ≡ None
 unfolding duplicate
-duplicate-end ws n i h g = rw (no_more ws n i h g)
+duplicate-end ws i h = rw (drop_all i ws h)
+
+pub ruleset duplicates = (duplicate-hit, duplicate-step, duplicate-end)

@@ -1,22 +1,22 @@
 -- Steps 17 to 22 over records: the turns of the check, which goes through the target's keys twice. Assumes nothing.
-use Prim.Native.Nat.{ℕ, zero, suc, ◌+◌, ◌*◌, ◌-◌, ◌%◌, ◌<◌, ◌≤◌}
+use Rattle.std.specs.Prelude.{Option, None, Some}
+use Prim.Native.Nat.{ℕ, suc, ◌+◌, ◌<◌, ◌≤◌}
 use native.Mathlib.Omega.{arith}
 use native.Mathlib.Numerals.{add-one}
-use native.Mathlib.Nat.{sub_self, mod-eq_of_lt, mod-eq-sub-mod}
 use mathlib.Core.Path.{◌≡◌, refl, sym, ap, ◌∙◌}
-use mathlib.Core.Bool.{Bool, true, false, ◌&&◌, beq, cond, false≢true}
-use mathlib.Core.Option.{Option, none, some}
+use mathlib.Core.Bool.{Bool, true, false, not, ◌&&◌, beq, cond, false≢true}
 use mathlib.Core.List.{List, [], ◌∷◌, ◌++◌, map}
-use lib.Dec.{eqb, ltb}
-use lib.ListN.{length, get_or, take, drop, set, drop_of_length-le}
-use lib.Seq.{length-take-le, drop-cons, get_or-take, take-suc, take-suc-set}
-use borrow.Author.Tests.{ltb-true, ltb-false, lt-ltb, le-ltb, ne_eqb}
+use lib.Dec.{eqb}
+use lib.ListN.{length, get_or, take, drop, set}
+use lib.Seq.{length-take-le, take-suc, take-suc-set}
+use borrow.Author.Tests.{ne_eqb, not-true, not-false}
 use Rattle.value.specs.declared.PropertyKey.{PropertyKey}
 use Rattle.store_read.specs.Answers.{key_from_word}
 use Rattle.internal_methods.specs.KeyList.{has_key, without_key, is_empty, checked_off, Sorted, remaining, required, rejected}
 use Rattle.internal_methods.specs.Proxy.{sorted_by}
-use Rattle.key_lists.specs.KeyWords.{message_number, sorted_from}
-use Rattle.key_lists.specs.Unchecked.{checked_mark, unchecked, is_due, due_keys, missing_message, turn_message, last_message}
+use Rattle.std.proofs.lemmas.List.{drop_more, drop_all}
+use Rattle.key_lists.specs.KeyWords.{sorted_from}
+use Rattle.key_lists.specs.Unchecked.{checked_mark, unchecked, unless_missing}
 use Rattle.key_lists.specs.declared.target_keys.TargetKey.{TargetKey}
 use Rattle.key_lists.specs.Records.{sorted_keys, records_of}
 
@@ -25,198 +25,88 @@ unfoldable pub marked_keys : Bool → List TargetKey → List PropertyKey
 marked_keys b [] = []
 marked_keys b (t ∷ ts) = cond (beq t.configurable b) (key_from_word t.key ∷ marked_keys b ts) (marked_keys b ts)
 
--- what stands past the end
-abbrev pub no_key : TargetKey
-no_key = record { key = 0; configurable = false }
+-- what is left of the check before key i of those that are not configurable, and then of those that are
+abbrev pub first_left : Bool → List TargetKey → ℕ → List PropertyKey → Option ℕ
+first_left x ts i us = required x (marked_keys true ts) (checked_off (marked_keys false (drop i ts)) us)
 
--- the message that the check ends with, from turn i on: through the keys that are not configurable, then through those that are
-unfoldable pub goes_on : Bool → List TargetKey → ℕ → ℕ → ℕ → List PropertyKey → ℕ
-goes_on x ts m i zero us =
-    cond (ltb i m)
-    (message_number (required x (marked_keys true (take m ts)) (checked_off (marked_keys false (drop i (take m ts))) us)))
-    (message_number (cond x none (remaining (checked_off (marked_keys true (drop (i - m) (take m ts))) us))))
-goes_on x ts m i (suc s) us = suc s
+abbrev pub second_left : List TargetKey → ℕ → List PropertyKey → Option ℕ
+second_left ts i us = remaining (checked_off (marked_keys true (drop i ts)) us)
 
 -- One key ---------------------------------------------------------------------------------------
 
-checked-more : (k : PropertyKey) (ks us vs : List PropertyKey) → some vs ≡ checked_off (k ∷ []) us → checked_off (k ∷ ks) us ≡ checked_off ks vs
+checked-more : (k : PropertyKey) (ks us vs : List PropertyKey) → Some vs ≡ checked_off (k ∷ []) us → checked_off (k ∷ ks) us ≡ checked_off ks vs
 unfolding checked_off
 checked-more k ks us vs h = go (has_key k us) h
   where
-    go : (b : Bool) → some vs ≡ cond b (some (without_key k us)) none → cond b (checked_off ks (without_key k us)) none ≡ checked_off ks vs
+    go : (b : Bool) → Some vs ≡ cond b (Some (without_key k us)) None → cond b (checked_off ks (without_key k us)) None ≡ checked_off ks vs
     go true h = let e : without_key k us ≡ vs = cc in rw e
     go false h = absurd (false≢true cc)
 
-checked-missing : (k : PropertyKey) (ks us : List PropertyKey) → none ≡ checked_off (k ∷ []) us → checked_off (k ∷ ks) us ≡ none
+checked-missing : (k : PropertyKey) (ks us : List PropertyKey) → None ≡ checked_off (k ∷ []) us → checked_off (k ∷ ks) us ≡ None
 unfolding checked_off
 checked-missing k ks us h = go (has_key k us) h
   where
-    go : (b : Bool) → none ≡ cond b (some (without_key k us)) none → cond b (checked_off ks (without_key k us)) none ≡ none
+    go : (b : Bool) → None ≡ cond b (Some (without_key k us)) None → cond b (checked_off ks (without_key k us)) None ≡ None
     go true h = absurd (false≢true cc)
     go false h = refl
 
-module _ (ts : List TargetKey) (m j : ℕ) (h : m ≤ length ts) where
-  next-key : j < m → drop j (take m ts) ≡ get_or ts j no_key ∷ drop (j + 1) (take m ts)
-  next-key l =
-      let s : j < length (take m ts) = omega (arith, length-take-le m ts h) in
-      rw (drop-cons (take m ts) j no_key s, get_or-take m ts j no_key l, add-one j)
+-- The keys, one by one -------------------------------------------------------------------------
 
-  no_more : m ≤ j → drop j (take m ts) ≡ []
-  no_more l = drop_of_length-le (take m ts) {i = j} (omega (arith, length-take-le m ts h))
+-- what stands past the end
+abbrev no_key : TargetKey
+no_key = record { key = 0; configurable = false }
 
-module _ (due : Bool) (k : PropertyKey) (ks us : List PropertyKey) where
-  due-there : (vs : List PropertyKey) → some vs ≡ checked_off (cond due (k ∷ []) []) us → checked_off (cond due (k ∷ ks) ks) us ≡ checked_off ks vs
-  unfolding checked_off
-  due-there vs h = go due h
-    where
-      go : (due : Bool) → some vs ≡ checked_off (cond due (k ∷ []) []) us → checked_off (cond due (k ∷ ks) ks) us ≡ checked_off ks vs
-      go true h = checked-more k ks us vs h
-      go false h = let e : us ≡ vs = cc in rw e
+module _ (ts : List TargetKey) (i : ℕ) (l : i < length ts) where
+  abbrev t : TargetKey
+  t = get_or ts i no_key
 
-  due-missing : none ≡ checked_off (cond due (k ∷ []) []) us → checked_off (cond due (k ∷ ks) ks) us ≡ none
-  unfolding checked_off
-  due-missing h = go due h
-    where
-      go : (due : Bool) → none ≡ checked_off (cond due (k ∷ []) []) us → checked_off (cond due (k ∷ ks) ks) us ≡ none
-      go true h = checked-missing k ks us h
-      go false h = absurd (false≢true cc)
+  next-key : (b : Bool) → marked_keys b (drop i ts) ≡ cond (beq t.configurable b) (key_from_word t.key ∷ marked_keys b (drop (i + 1) ts)) (marked_keys b (drop (i + 1) ts))
+  unfolding marked_keys
+  next-key b = rw (drop_more ts i no_key l)
 
--- A turn ------------------------------------------------------------------------------------------
+  module _ (us vs : List PropertyKey) (r : Bool) (h : unless_missing r vs ≡ checked_off (key_from_word t.key ∷ []) us) where
+    off : (ks : List PropertyKey) → r ≡ true → checked_off (key_from_word t.key ∷ ks) us ≡ checked_off ks vs
+    off ks q = checked-more (key_from_word t.key) ks us vs (rw q at h)
 
-is-not : (c : Bool) → beq c false ≡ is_due false true c
-is-not true = refl
-is-not false = refl
+    missing : (ks : List PropertyKey) → r ≡ false → checked_off (key_from_word t.key ∷ ks) us ≡ None
+    missing ks q = checked-missing (key_from_word t.key) ks us (rw q at h)
 
-is-so : (c : Bool) → beq c true ≡ c
-is-so true = refl
-is-so false = refl
+    pub first-off : (x : Bool) → t.configurable ≡ false → r ≡ true → first_left x ts i us ≡ first_left x ts (i + 1) vs
+    first-off x c q = rw (next-key false, c, off (marked_keys false (drop (i + 1) ts)) q)
 
--- the message of the first pass, and of the second
-first_of : Bool → List TargetKey → ℕ → ℕ → List PropertyKey → ℕ
-first_of x ts m j us = message_number (required x (marked_keys true (take m ts)) (checked_off (marked_keys false (drop j (take m ts))) us))
+    pub first-missing : (x : Bool) → t.configurable ≡ false → r ≡ false → first_left x ts i us ≡ Some 24
+    first-missing x c q = rw (next-key false, c, missing (marked_keys false (drop (i + 1) ts)) q)
 
-second_of : Bool → List TargetKey → ℕ → ℕ → List PropertyKey → ℕ
-second_of x ts m j us = message_number (cond x none (remaining (checked_off (marked_keys true (drop j (take m ts))) us)))
+    pub second-off : t.configurable ≡ true → r ≡ true → second_left ts i us ≡ second_left ts (i + 1) vs
+    second-off c q = rw (next-key true, c, off (marked_keys true (drop (i + 1) ts)) q)
 
-module _ (x : Bool) (ts : List TargetKey) (m : ℕ) (h : m ≤ length ts) where
-  -- the first pass ends where the second begins
-  passed : (us : List PropertyKey) → first_of x ts m m us ≡ second_of x ts m 0 us
-  unfolding first_of second_of checked_off marked_keys
-  passed us = rw (no_more ts m m h (omega arith))
+    pub second-missing : t.configurable ≡ true → r ≡ false → second_left ts i us ≡ Some 25
+    second-missing c q = rw (next-key true, c, missing (marked_keys true (drop (i + 1) ts)) q)
 
-  ended : (us : List PropertyKey) → second_of x ts m m us ≡ last_message x 0 us
-  unfolding second_of checked_off marked_keys
-  ended us = rw (no_more ts m m h (omega arith))
+  module _ (us : List PropertyKey) where
+    pub first-skip : (x : Bool) → t.configurable ≡ true → first_left x ts i us ≡ first_left x ts (i + 1) us
+    first-skip x c = rw (next-key false, c)
 
-  module _ (j : ℕ) (l : j < m) (us : List PropertyKey) where
-    abbrev at : TargetKey
-    at = get_or ts j no_key
+    pub second-skip : t.configurable ≡ false → second_left ts i us ≡ second_left ts (i + 1) us
+    second-skip c = rw (next-key true, c)
 
-    module _ (first : Bool) (o : Option (List PropertyKey)) where
-      abbrev Turn : Type 0
-      Turn = o ≡ checked_off (due_keys x first at.key at.configurable) us
+module _ (ts : List TargetKey) (i : ℕ) (h : length ts ≤ i) (us : List PropertyKey) where
+  pub first-over : (x : Bool) → x ≡ true → first_left x ts i us ≡ None
+  unfolding checked_off marked_keys
+  first-over x e = rw (drop_all i ts h, e)
 
-    first-there : (vs : List PropertyKey) → Turn true (some vs) → first_of x ts m j us ≡ first_of x ts m (j + 1) vs
-    unfolding first_of marked_keys
-    first-there vs e =
-        rw (next-key ts m j h l, is-not at.configurable, due-there (is_due false true at.configurable) (key_from_word at.key) (marked_keys false (drop (j + 1) (take m ts))) us vs e)
+  pub first-done : (x : Bool) → x ≡ false → first_left x ts i us ≡ second_left ts 0 us
+  unfolding checked_off marked_keys
+  first-done x e = rw (drop_all i ts h, e)
 
-    first-missing : Turn true none → first_of x ts m j us ≡ 24
-    unfolding first_of marked_keys
-    first-missing e =
-        rw (next-key ts m j h l, is-not at.configurable, due-missing (is_due false true at.configurable) (key_from_word at.key) (marked_keys false (drop (j + 1) (take m ts))) us e)
+  module _ (b : Bool) (q : b ≡ not (is_empty us)) where
+    pub some-left : b ≡ true → second_left ts i us ≡ Some 26
+    unfolding checked_off marked_keys
+    some-left e = let k : is_empty us ≡ false = not-true _ (sym q ∙ e) in rw (drop_all i ts h, k)
 
-    second-there : (vs : List PropertyKey) → Turn false (some vs) → second_of x ts m j us ≡ second_of x ts m (j + 1) vs
-    unfolding second_of marked_keys
-    second-there vs e = go x e
-      where
-        go : (x : Bool) → some vs ≡ checked_off (due_keys x false at.key at.configurable) us
-            → message_number (cond x none (remaining (checked_off (marked_keys true (drop j (take m ts))) us))) ≡ message_number (cond x none (remaining (checked_off (marked_keys true (drop (j + 1) (take m ts))) vs)))
-        go true e = refl
-        go false e =
-            rw (next-key ts m j h l, is-so at.configurable, due-there at.configurable (key_from_word at.key) (marked_keys true (drop (j + 1) (take m ts))) us vs e)
-
-    second-missing : Turn false none → second_of x ts m j us ≡ 25
-    unfolding second_of marked_keys checked_off
-    second-missing e = go x e
-      where
-        go : (x : Bool) → none ≡ checked_off (due_keys x false at.key at.configurable) us → message_number (cond x none (remaining (checked_off (marked_keys true (drop j (take m ts))) us))) ≡ 25
-        go true e = absurd (false≢true cc)
-        go false e =
-            rw (next-key ts m j h l, is-so at.configurable, due-missing at.configurable (key_from_word at.key) (marked_keys true (drop (j + 1) (take m ts))) us e)
-
--- The turns -----------------------------------------------------------------------------------------
-
-module _ (x : Bool) (ts : List TargetKey) (m : ℕ) (h : m ≤ length ts) where
-  at_first : (i : ℕ) (us : List PropertyKey) → i < m → goes_on x ts m i 0 us ≡ first_of x ts m i us
-  unfolding goes_on first_of
-  at_first i us l = rw (lt-ltb i m l)
-
-  at_second : (i : ℕ) (us : List PropertyKey) → m ≤ i → goes_on x ts m i 0 us ≡ second_of x ts m (i - m) us
-  unfolding goes_on second_of
-  at_second i us l = rw (le-ltb i m l)
-
-  -- where the first pass ends too
-  at-either : (i : ℕ) (us : List PropertyKey) → i ≤ m → goes_on x ts m i 0 us ≡ first_of x ts m i us
-  at-either i us l = go (ltb i m) refl
-    where
-      go : (b : Bool) → ltb i m ≡ b → goes_on x ts m i 0 us ≡ first_of x ts m i us
-      go true e = at_first i us (ltb-true i m e)
-      go false e =
-          let g : i ≡ m = omega (arith, ltb-false i m e) in
-          rw g (at_second m us (omega arith) ∙ rw (sub_self m) (sym (passed x ts m h us)))
-
-  stays : (i s : ℕ) (us : List PropertyKey) → (s ≡ 0 → ⊥) → goes_on x ts m i s us ≡ s
-  unfolding goes_on
-  stays i zero us n = absurd (n refl)
-  stays i (suc s) us n = refl
-
-  -- a turn: what it answers, and the keys that it leaves
-  module _ (i : ℕ) (l : i < 2 * m) (us vs : List PropertyKey) where
-    abbrev pub left : Option (List PropertyKey)
-    left = checked_off (due_keys x (ltb i m) (get_or ts (i % m) no_key).key (get_or ts (i % m) no_key).configurable) us
-
-    from-none : (o : Option (List PropertyKey)) → o ≡ left → (r : ℕ) → r ≡ turn_message (ltb i m) 0 o → (r ≡ 0 → some vs ≡ left) → goes_on x ts m i 0 us ≡ goes_on x ts m (i + 1) r vs
-    from-none none e r t k = go (ltb i m) refl
-      where
-        go : (b : Bool) → ltb i m ≡ b → goes_on x ts m i 0 us ≡ goes_on x ts m (i + 1) r vs
-        go true f =
-            let p : i < m = ltb-true i m f in
-            let a : none ≡ checked_off (due_keys x true (get_or ts i no_key).key (get_or ts i no_key).configurable) us = rw (f, mod-eq_of_lt p) at e in
-            let z : r ≡ 24 = rw f at t in
-            at_first i us p ∙ first-missing x ts m h i p us a ∙ rw z (sym (stays (i + 1) 24 vs (λ q. omega arith)))
-        go false f =
-            let p : m ≤ i = ltb-false i m f in
-            let g : i % m ≡ i - m = mod-eq-sub-mod p ∙ mod-eq_of_lt (omega arith) in
-            let a : none ≡ checked_off (due_keys x false (get_or ts (i - m) no_key).key (get_or ts (i - m) no_key).configurable) us = rw (f, g) at e in
-            let z : r ≡ 25 = rw f at t in
-            at_second i us p ∙ second-missing x ts m h (i - m) (omega arith) us a ∙ rw z (sym (stays (i + 1) 25 vs (λ q. omega arith)))
-    from-none (some ws) e r t k = go (ltb i m) refl
-      where
-        z : r ≡ 0
-        z = t
-
-        go : (b : Bool) → ltb i m ≡ b → goes_on x ts m i 0 us ≡ goes_on x ts m (i + 1) r vs
-        go true f =
-            let p : i < m = ltb-true i m f in
-            let a : some vs ≡ checked_off (due_keys x true (get_or ts i no_key).key (get_or ts i no_key).configurable) us = rw (f, mod-eq_of_lt p) at (k z) in
-            at_first i us p ∙ first-there x ts m h i p us vs a ∙ rw z (sym (at-either (i + 1) vs (omega arith)))
-        go false f =
-            let p : m ≤ i = ltb-false i m f in
-            let g : i % m ≡ i - m = mod-eq-sub-mod p ∙ mod-eq_of_lt (omega arith) in
-            let a : some vs ≡ checked_off (due_keys x false (get_or ts (i - m) no_key).key (get_or ts (i - m) no_key).configurable) us = rw (f, g) at (k z) in
-            let n : i + 1 - m ≡ i - m + 1 = omega arith in
-            at_second i us p ∙ second-there x ts m h (i - m) (omega arith) us vs a ∙ rw z (sym (at_second (i + 1) vs (omega arith) ∙ rw n))
-
-    pub goes_on_lem : (s r : ℕ) → r ≡ turn_message (ltb i m) s left → (s ≡ 0 → r ≡ 0 → some vs ≡ left) → goes_on x ts m i s us ≡ goes_on x ts m (i + 1) r vs
-    goes_on_lem zero r t k = from-none left refl r t (k refl)
-    goes_on_lem (suc s) r t k = stays i (suc s) us (λ q. omega arith) ∙ rw t (sym (stays (i + 1) (suc s) vs (λ q. omega arith)))
-
-  pub goes_last : (i : ℕ) (us : List PropertyKey) → i ≡ 2 * m → (s : ℕ) → goes_on x ts m i s us ≡ last_message x s us
-  goes_last i us e zero =
-      let n : 2 * m - m ≡ m = omega arith in
-      rw e (at_second (2 * m) us (omega arith) ∙ rw n (ended x ts m h us))
-  goes_last i us e (suc s) = stays i (suc s) us (λ q. omega arith)
+    pub all-found : b ≡ false → second_left ts i us ≡ None
+    unfolding checked_off marked_keys
+    all-found e = let k : is_empty us ≡ true = not-false _ (sym q ∙ e) in rw (drop_all i ts h, k)
 
 -- The whole check -------------------------------------------------------------------------------------
 
@@ -236,7 +126,7 @@ rejected-required : (x : Bool) (s : Sorted) (list : List PropertyKey) → reject
 unfolding rejected checked_off
 rejected-required x s list = go x s.nonconfigurable
   where
-    go : (x : Bool) (ks : List PropertyKey) → cond (x && is_empty ks) none (required x s.configurable (checked_off ks list)) ≡ required x s.configurable (checked_off ks list)
+    go : (x : Bool) (ks : List PropertyKey) → cond (x && is_empty ks) None (required x s.configurable (checked_off ks list)) ≡ required x s.configurable (checked_off ks list)
     go true [] = refl
     go true (k ∷ ks) = refl
     go false ks = refl
@@ -249,14 +139,11 @@ all-unchecked (w ∷ ws) h =
     let e : eqb w checked_mark ≡ false = ne_eqb w checked_mark (λ q. omega arith) in
     rw e (ap (λ (ks : List PropertyKey). key_from_word w ∷ ks) (all-unchecked ws (λ i l. h (suc i) (omega arith))))
 
-pub goes_first : (x : Bool) (ts : List TargetKey) (m : ℕ) → m ≤ length ts → (ws : List ℕ) (n : ℕ) → n ≤ length ws → ((i : ℕ) → i < n → get_or ws i 0 < 512)
-    → message_number (rejected x (sorted_keys (take m ts)) (map key_from_word (take n ws))) ≡ goes_on x ts m 0 0 (unchecked (take n ws))
-unfolding first_of
-goes_first x ts m g ws n h small =
-    let a : unchecked (take n ws) ≡ map key_from_word (take n ws)
-    = all-unchecked (take n ws) (λ i l. let z : i < n = omega (arith, length-take-le n ws h) in rw (get_or-take n ws i 0 z) (small i z)) in
-    let (p, q) = sorted-marked (take m ts) in
-    ap message_number (rejected-required x (sorted_keys (take m ts)) (map key_from_word (take n ws))) ∙ rw (p, q, a) (sym (at-either x ts m g 0 (map key_from_word (take n ws)) (omega arith)))
+pub first-start : (x : Bool) (ts : List TargetKey) (ws : List ℕ) → ((i : ℕ) → i < length ws → get_or ws i 0 < 512)
+    → rejected x (sorted_keys ts) (map key_from_word ws) ≡ first_left x ts 0 (unchecked ws)
+first-start x ts ws small =
+    let (p, q) = sorted-marked ts in
+    rejected-required x (sorted_keys ts) (map key_from_word ws) ∙ rw (p, q, all-unchecked ws small)
 
 -- words and marks sort as their records do
 pub sorted-records : (ws marks : List ℕ) → sorted_keys (records_of ws marks) ≡ sorted_from ws marks

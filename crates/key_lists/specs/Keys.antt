@@ -1,13 +1,12 @@
 -- The keys that were read, and which values a list of keys can be loaded from. Assumes nothing.
-use Rattle.std.specs.Prelude.{Bool, true, List, [], ltb}
-use Rattle.std.proofs.Math.Option.{Option, none, some}
+use Rattle.std.specs.Prelude.{Bool, true, List, [], ltb, Option, None, Some}
 use Rattle.value.specs.declared.Value.{Value}
 use Rattle.value.specs.declared.Value.TheVariants.{Undefined, Null, Boolean, Integer32, Float64, String, Symbol, Object, Function}
 use Rattle.value.specs.declared.PropertyKey.{PropertyKey}
 
 abbrev pub keys_held : Option (List PropertyKey) → List PropertyKey
-keys_held none = []
-keys_held (some ks) = ks
+keys_held None = []
+keys_held (Some ks) = ks
 
 -- the number of a string or a symbol is below 256, as all that there are have it
 unfoldable pub is_bounded_key : Value → Bool

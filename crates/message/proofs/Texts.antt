@@ -1,12 +1,12 @@
 -- The rows and lengths of the table are those of the messages' texts: antt computes them and compares. Assumes nothing.
 use Prim.Native.Nat.{ℕ, zero, suc, ◌≤◌, ◌<◌}
-use native.Mathlib.Nat.{le_of_suc-le-suc, not-suc-le-zero, le_trans}
+use native.Mathlib.Nat.{le_of_suc-le-suc, not-suc-le-zero}
 use Prim.Native.String.{String}
-use mathlib.Core.Path.{◌≡◌, refl, ap, ◌∙◌}
+use mathlib.Core.Path.{◌≡◌, refl, ap}
 use mathlib.Core.Bool.{Bool, true, false, ◌&&◌}
 use mathlib.Core.List.{List, [], ◌∷◌}
 use lib.Dec.{T, leb, leb→le}
-use lib.ListN.{length, get_or, get_or-eq_default}
+use lib.ListN.{length, take, get_or, get_or-eq_default}
 use Rattle.internal_methods.specs.Messages.{codes, texts, message_text}
 
 -- a text in a row of k bytes
@@ -15,12 +15,10 @@ padded zero l = []
 padded (suc k) [] = 0 ∷ padded k []
 padded (suc k) (x ∷ l) = x ∷ padded k l
 
-padded-get : (k : ℕ) (l : List ℕ) (i : ℕ) → i < k → get_or (padded k l) i 0 ≡ get_or l i 0
-padded-get zero l i h = absurd (not-suc-le-zero h)
-padded-get (suc k) [] zero h = refl
-padded-get (suc k) [] (suc i) h = padded-get k [] i (le_of_suc-le-suc h)
-padded-get (suc k) (x ∷ l) zero h = refl
-padded-get (suc k) (x ∷ l) (suc i) h = padded-get k l i (le_of_suc-le-suc h)
+take-padded : (k : ℕ) (l : List ℕ) → length l ≤ k → take (length l) (padded k l) ≡ l
+take-padded k [] h = refl
+take-padded zero (x ∷ l) h = absurd (not-suc-le-zero h)
+take-padded (suc k) (x ∷ l) h = ap (λ (m : List ℕ). x ∷ m) (take-padded k l (le_of_suc-le-suc h))
 
 unfoldable pub rows_of : List String → List (List ℕ)
 rows_of [] = []
@@ -49,22 +47,6 @@ rows = rows_of texts
 abbrev pub lengths : List ℕ
 lengths = lengths_of texts
 
-pub length-right : (n : ℕ) → n < 33 → get_or lengths n 0 ≡ length (message_text n)
-unfolding message_text
-length-right n h = length-of texts n h
-
-pub byte-right : (n i : ℕ) (d : List ℕ) → n < 33 → i < 90 → get_or (get_or rows n d) i 0 ≡ get_or (message_text n) i 0
-unfolding message_text
-byte-right n i d h l = ap (λ (r : List ℕ). get_or r i 0) (row_of texts n d h) ∙ padded-get 90 (codes (get_or texts n "")) i l
-
--- there are no other texts
-pub no_text : (n : ℕ) → 33 ≤ n → message_text n ≡ []
-unfolding message_text codes
-no_text n h = ap codes (get_or-eq_default texts "" h)
-
-pub no_byte : (n : ℕ) → 33 ≤ n → (i : ℕ) → get_or (message_text n) i 0 ≡ 0
-no_byte n h i = ap (λ (l : List ℕ). get_or l i 0) (no_text n h)
-
 -- and none is longer than a row
 AreShort : List String → Bool
 AreShort [] = true
@@ -84,6 +66,22 @@ short [] t n = Prim.Native.Nat.zero-le
 short (s ∷ ss) t zero = leb→le _ _ (short-left (leb (length (codes s)) 90) (AreShort ss) t)
 short (s ∷ ss) t (suc n) = short ss (short-right (leb (length (codes s)) 90) (AreShort ss) t) n
 
-pub past_row : (n i : ℕ) → 90 ≤ i → get_or (message_text n) i 0 ≡ 0
+fits : (n : ℕ) → length (message_text n) ≤ 90
 unfolding message_text AreShort codes
-past_row n i h = get_or-eq_default (message_text n) 0 (le_trans (short texts tt n) h)
+fits n = short texts tt n
+
+pub size_fits : (n : ℕ) → n < 33 → get_or lengths n 0 ≤ 90
+unfolding message_text
+size_fits n h = rw (length-of texts n h) (fits n)
+
+pub text-right : (n : ℕ) (d : List ℕ) → n < 33 → take (get_or lengths n 0) (get_or rows n d) ≡ message_text n
+unfolding message_text
+text-right n d h = rw (length-of texts n h, row_of texts n d h) (take-padded 90 (codes (get_or texts n "")) (fits n))
+
+pub text_short : (n : ℕ) (d : List ℕ) → n < 33 → length (take (get_or lengths n 0) (get_or rows n d)) ≤ 90
+text_short n d h = rw (text-right n d h) (fits n)
+
+-- there are no other texts
+pub no_text : (n : ℕ) → 33 ≤ n → message_text n ≡ []
+unfolding message_text codes
+no_text n h = ap codes (get_or-eq_default texts "" h)

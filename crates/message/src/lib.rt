@@ -2,7 +2,7 @@
 // writing: a text into lent bytes.
 #![tactic(auto)]
 
-ghost use Rattle.std.specs.Prelude.{◌≡◌, length, get_or};
+ghost use Rattle.std.specs.Prelude.{◌≡◌, ◌≤◌, length, get_or};
 ghost use Rattle.internal_methods.specs.Messages.{message_text};
 
 pub mod writing;
@@ -48,27 +48,29 @@ const ROWS: [[u8; 90]; 33] = [
     *b"Property definition was rejected\0\0\0\0\0\0\0\0\0\0\0\0\0\0\0\0\0\0\0\0\0\0\0\0\0\0\0\0\0\0\0\0\0\0\0\0\0\0\0\0\0\0\0\0\0\0\0\0\0\0\0\0\0\0\0\0\0\0",
 ];
 
+// The text of message n, which is empty where there is no such message.
+fn text_of(n: u64) -> &'static [u8]
+    ensures text { result.now ≡ message_text n }
+    ensures short { length result.now ≤ 90 }
+{
+    if n < 33 {
+        let row = n as usize;
+        let size = usize::from(LENGTHS[row]);
+        return &ROWS[row][..size];
+    }
+    &[]
+}
+
 // How long the text of message n is; 0 where there is no such message.
 pub fn message_length(n: u64) -> u8
     ensures { result ≡ length (message_text n) }
 {
-    if n < 33 {
-        let row = n as usize;
-        LENGTHS[row]
-    } else {
-        0
-    }
+    text_of(n).len() as u8
 }
 
 // Byte i of the text of message n; 0 past its end.
 pub fn message_byte(n: u64, i: usize) -> u8
     ensures { result ≡ get_or (message_text n) i 0 }
 {
-    if n < 33 {
-        if i < 90 {
-            let row = n as usize;
-            return ROWS[row][i];
-        }
-    }
-    0
+    text_of(n).get(i).copied().unwrap_or(0)
 }

@@ -1,4 +1,4 @@
-pub mod PartLaws
 pub mod ListLaws
+pub mod FitLaws
 pub mod OwnLaws
 pub mod MarkLaws

@@ -18,6 +18,6 @@ own-few strings words o h =
     rw (sym (ordered-keys strings words o (sized words h)))
     (simp (length-append, length-ascending) (omega (arith, classes-fit strings words o (sized words h))))
 
-pub own-listed-few : (strings : Strings) (words : List ℕ) (o : ℕ) → is_store words ≡ true → (before after : List ℕ) (n : ℕ)
-    → Listed before after n (ordinary_own_property_keys strings (store_of words) o) → n ≤ 256
-own-listed-few strings words o h before after n l = omega (arith, own-few strings words o h, listed-length _ _ _ _ l)
+pub own_listed_few : (strings : Strings) (words before after : List ℕ) (o n : ℕ)
+    → Listed before after n (ordinary_own_property_keys strings (store_of words) o) → is_store words ≡ true → n ≤ 256
+own_listed_few strings words before after o n l h = omega (arith, own-few strings words o h, listed-length _ _ _ _ l)

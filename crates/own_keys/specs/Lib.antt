@@ -1,5 +1,4 @@
-pub mod Trap
-pub mod Checked
 pub mod Lists
 pub mod Loading
 pub mod Marks
+pub mod Messages

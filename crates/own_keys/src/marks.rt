@@ -1,68 +1,34 @@
 // 10.5.11 steps 14 to 16: which of the target's keys count as configurable.
-ghost use Rattle.std.specs.Prelude.{◌≡◌, map, ◌≤◌, eqb, length, take};
+#![tactic(auto, using(crate::proofs::MarkLaws::sorted_start, crate::proofs::MarkLaws::sorted_failed, crate::proofs::MarkLaws::sorted_more, crate::proofs::MarkLaws::sorted_end))]
+
+ghost use Rattle.std.specs.Prelude.{◌≡◌, map, ◌≤◌, length, take};
 ghost use Rattle.store_read.specs.Answers.{key_from_word};
-ghost use Rattle.internal_methods.specs.Proxy.{absent_or_configurable, sorted};
+ghost use Rattle.internal_methods.specs.Proxy.{sorted};
 ghost use Rattle.internal_methods.specs.Internal.{methods};
-ghost use Rattle.calls.specs.Outs.{Readable, context, state_of};
+ghost use Rattle.calls.specs.Outs.{context_of, state_of};
 ghost use Rattle.own_keys.specs.Marks.{out_marks};
 
-use calls::{OwnPropertyOut, Progress};
+use calls::{Progress, Run};
 use internal_methods::Failure;
 use own_property::target_checks;
-use property::OwnProperty;
 
-#[derive(Clone, Copy)]
-pub enum MarksOut {
-    Failed(Failure, Progress),
-    Done(Progress),
-}
-
-const CONFIGURABLE: u64 = 1;
-
-const NONCONFIGURABLE: u64 = 0;
-
-fn mark_of(target: OwnProperty) -> u64
-    ensures { eqb result 1 ≡ absent_or_configurable target }
-{
-    if target_checks::absent_or_configurable(target) {
-        CONFIGURABLE
-    } else {
-        NONCONFIGURABLE
-    }
-}
-
-// 10.5.11 steps 14 to 16: for each of the first m keys, whether the target lacks it or has it configurable.
+// Marks each key by 1 if the target lacks it or has it configurable, and else by 0. An index, as a proof knows nothing of what a zip writes.
+// (Numbers, since `rejected_marked` and its edits take them.)
 pub fn mark_configurable(
-    words: &[u64],
-    strings: &[u16],
-    allowance: usize,
-    sheet: &[u8],
+    run: &Run<'_>,
     target: u64,
     keys: &[u64],
-    m: usize,
     marks: &mut [u64],
     depth: usize,
-    s: Progress,
-) -> MarksOut
-    requires { Readable words.now strings.now × ((m ≤ length keys.now) × (m ≤ length marks.old)) }
-    ensures { out_marks sheet.now (take m keys.now) (take m marks.new) result ≡ (sorted ((methods depth (context words.now strings.now allowance)).get_own_property target) (map key_from_word (take m keys.now))).run (state_of sheet.now s) }
+    progress: &mut Progress,
+) -> Result<(), Failure>
+    requires { length keys.now ≤ length marks.old }
+    ensures { out_marks run.now.sheet.now keys.now (take (length keys.now) marks.new) result progress.new ≡ (sorted ((methods depth (context_of run.now)).get_own_property target) (map key_from_word keys.now)).run (state_of run.now.sheet.now progress.old) }
 {
-    let mut t = s;
-    let mut i: usize = 0;
-    while i < m {
-        let key = store_read::key_from_word(keys[i]);
-        match own_property::get_own_property(
-            words, strings, allowance, sheet, target, key, depth, t,
-        ) {
-            OwnPropertyOut::Failed(f, u) => {
-                return MarksOut::Failed(f, u); // 16.a
-            }
-            OwnPropertyOut::Done(desc, u) => {
-                marks[i] = mark_of(desc); // 16.b, 16.c
-                t = u;
-                i += 1;
-            }
-        }
+    for (i, &word) in keys.iter().enumerate() {
+        let key = store_read::key_from_word(word);
+        let desc = own_property::get_own_property(run, target, key, depth, progress)?; // 16.a
+        marks[i] = u64::from(target_checks::absent_or_configurable(desc)); // 16.b, 16.c
     }
-    MarksOut::Done(t)
+    Ok(())
 }

@@ -1,115 +1,67 @@
 // 10.1.5 and 10.5.5 [[GetOwnProperty]].
 // results: 10.5.5 steps 10 to 17. target_checks: what all of 10.5 asks of the target's property.
-#![tactic(auto)]
+#![tactic(auto, using(calls::proofs::Steps::steps, calls::proofs::EnterLaws::get_own_property_goes_on), unfolding(internal_methods::specs::Proxy::proxy_get_own_property, crate::specs::Result::undefined_result, crate::specs::Result::descriptor_result))]
 
-ghost use Rattle.std.specs.Prelude.{◌≡◌, true};
-ghost use Rattle.store.specs.Words.{is_store, store_of};
+ghost use Rattle.std.specs.Prelude.{◌≡◌};
+ghost use Rattle.store.specs.Words.{store_of};
 ghost use Rattle.internal_methods.specs.Ordinary.{ordinary_get_own_property};
 ghost use Rattle.internal_methods.specs.Proxy.{proxy_get_own_property};
 ghost use Rattle.internal_methods.specs.Internal.{methods};
-ghost use Rattle.calls.specs.Outs.{Readable, context, state_of, out_own_property};
+ghost use Rattle.calls.specs.Outs.{context_of, out, state_of};
 
-use calls::{DescriptorOut, Entered, OwnPropertyOut, Progress, answers};
-use property::OwnProperty;
+use calls::{Entered, Progress, Run, answers};
+use internal_methods::Failure;
+use property::Property;
 use store::ProxyObject;
-use store_read::finding;
 use value::PropertyKey;
 
 mod results;
 pub mod target_checks;
 
 // 10.1.5.1 OrdinaryGetOwnProperty ( O, P )
-fn ordinary_get_own_property(words: &[u64], o: u64, key: PropertyKey) -> OwnProperty
-    requires { is_store words.now ≡ true }
-    ensures { result ≡ ordinary_get_own_property (store_of words.now) o key }
+fn ordinary_get_own_property(run: &Run<'_>, o: u64, key: PropertyKey) -> Option<Property>
+    ensures { result ≡ ordinary_get_own_property (store_of run.now.store.words.now) o key }
 {
-    finding::own(words, o, key)
+    run.store.own(o, key)
 }
 
 // 10.1.5 and 10.5.5 [[GetOwnProperty]] ( P )
 #[cycle(get_own_property_proxy_exotic_get_own_property)]
 pub fn get_own_property(
-    words: &[u64],
-    strings: &[u16],
-    allowance: usize,
-    sheet: &[u8],
+    run: &Run<'_>,
     o: u64,
     key: PropertyKey,
     depth: usize,
-    s: Progress,
-) -> OwnPropertyOut
-    requires { Readable words.now strings.now }
-    ensures { out_own_property sheet.now result ≡ ((methods depth (context words.now strings.now allowance)).get_own_property o key).run (state_of sheet.now s) }
+    progress: &mut Progress,
+) -> Result<Option<Property>, Failure>
+    ensures { out run.now.sheet.now result progress.new ≡ ((methods depth (context_of run.now)).get_own_property o key).run (state_of run.now.sheet.now progress.old) }
 {
-    match calls::enter(words, o, 4, depth, s) {
-        Entered::Failed(f, t) => {
-            return OwnPropertyOut::Failed(f, t);
-        }
-        Entered::Ordinary(q, _, t) => {
-            return OwnPropertyOut::Done(ordinary_get_own_property(words, q, key), t);
-        }
-        Entered::Proxy(p, n, t) => {
-            return proxy_exotic_get_own_property(words, strings, allowance, sheet, p, key, n, t);
-        }
+    match calls::enter(run.store, o, 4, depth, progress)? {
+        Entered::Ordinary(q, _) => Ok(ordinary_get_own_property(run, q, key)),
+        Entered::Proxy(p, n) => proxy_exotic_get_own_property(run, p, key, n, progress),
     }
 }
 
 // 10.5.5 [[GetOwnProperty]] ( P )
 #[cycle(get_own_property_proxy_exotic_get_own_property)]
 fn proxy_exotic_get_own_property(
-    words: &[u64],
-    strings: &[u16],
-    allowance: usize,
-    sheet: &[u8],
+    run: &Run<'_>,
     p: ProxyObject,
     key: PropertyKey,
     depth: usize,
-    s: Progress,
-) -> OwnPropertyOut
-    requires { Readable words.now strings.now }
-    ensures { out_own_property sheet.now result ≡ (proxy_get_own_property (methods depth (context words.now strings.now allowance)) p key).run (state_of sheet.now s) }
+    progress: &mut Progress,
+) -> Result<Option<Property>, Failure>
+    ensures { out run.now.sheet.now result progress.new ≡ (proxy_get_own_property (methods depth (context_of run.now)) p key).run (state_of run.now.sheet.now progress.old) }
 {
-    let target = p.target;
-    if calls::has_trap(p, 4) {
-        match answers::next_descriptor(sheet, s) {
-            DescriptorOut::Failed(f, t) => OwnPropertyOut::Failed(f, t), // 7, 8
-            DescriptorOut::Undefined(t) => {
-                match get_own_property(words, strings, allowance, sheet, target, key, depth, t) {
-                    OwnPropertyOut::Failed(f, u) => OwnPropertyOut::Failed(f, u), // 9
-                    OwnPropertyOut::Done(target_desc, u) => {
-                        results::undefined_result(
-                            words,
-                            strings,
-                            allowance,
-                            sheet,
-                            target,
-                            target_desc,
-                            depth,
-                            u,
-                        ) // 10
-                    }
-                }
-            }
-            DescriptorOut::Done(object, t) => {
-                match get_own_property(words, strings, allowance, sheet, target, key, depth, t) {
-                    OwnPropertyOut::Failed(f, u) => OwnPropertyOut::Failed(f, u), // 9
-                    OwnPropertyOut::Done(target_desc, u) => {
-                        results::descriptor_result(
-                            words,
-                            strings,
-                            allowance,
-                            sheet,
-                            target,
-                            object,
-                            target_desc,
-                            depth,
-                            u,
-                        ) // 11 to 17
-                    }
-                }
-            }
+    if !calls::has_trap(p, 4) {
+        return get_own_property(run, p.target, key, depth, progress); // 6
+    }
+    let answer = answers::next_descriptor(run.sheet, progress)?; // 7, 8
+    let current = get_own_property(run, p.target, key, depth, progress)?; // 9
+    match answer {
+        None => results::undefined_result(run, p.target, current, depth, progress), // 10
+        Some(object) => {
+            results::descriptor_result(run, p.target, object, current, depth, progress) // 11 to 17
         }
-    } else {
-        get_own_property(words, strings, allowance, sheet, target, key, depth, s) // 6
     }
 }

@@ -1,110 +1,76 @@
 // 10.5.5 steps 10 to 17: what [[GetOwnProperty]] makes of its trap's answer.
+#![tactic(auto, using(calls::proofs::Steps::steps), unfolding(crate::specs::Result::undefined_result, crate::specs::Result::descriptor_result))]
+
 ghost use Rattle.std.specs.Prelude.{◌≡◌};
 ghost use Rattle.internal_methods.specs.Internal.{methods};
-ghost use Rattle.calls.specs.Outs.{Readable, context, state_of, out_own_property};
-ghost use Rattle.own_property.specs.Result.{undefined_result, descriptor_result, result_message};
+ghost use Rattle.calls.specs.Outs.{context_of, out, state_of};
+ghost use Rattle.own_property.specs.Result.{undefined_result, descriptor_result};
 
 use crate::target_checks;
-use calls::{BooleanOut, OwnPropertyOut, Progress};
+use calls::{Progress, Run};
 use descriptors::{attributes, completion, errors};
+use extensibility::is_extensible;
 use internal_methods::Failure;
-use property::{DescriptorObject, OwnProperty, Property};
-
-// The TypeError of 10.5.5 steps 14 to 16 by its number, or 0.
-fn result_message(extensible: bool, desc: Property, target: OwnProperty) -> u64
-    ensures { result ≡ result_message extensible desc target }
-{
-    let d = completion::descriptor_of(desc);
-    if validation::is_compatible_property_descriptor(extensible, d, target) {
-        if attributes::is_configurable(desc) {
-            return 0;
-        }
-        if target_checks::absent_or_configurable(target) {
-            return 12; // 16.a
-        }
-        if target_checks::is_read_only(desc) {
-            if target_checks::is_writable(target) {
-                return 11; // 16.b
-            }
-        }
-        return 0;
-    }
-    10 // 15
-}
+use property::{DescriptorObject, Property};
 
 // 10.5.5 step 10: the trap answered undefined.
 pub fn undefined_result(
-    words: &[u64],
-    strings: &[u16],
-    allowance: usize,
-    sheet: &[u8],
+    run: &Run<'_>,
     target: u64,
-    current: OwnProperty,
+    current: Option<Property>,
     depth: usize,
-    s: Progress,
-) -> OwnPropertyOut
-    requires { Readable words.now strings.now }
-    ensures { out_own_property sheet.now result ≡ (undefined_result (methods depth (context words.now strings.now allowance)) target current).run (state_of sheet.now s) }
+    progress: &mut Progress,
+) -> Result<Option<Property>, Failure>
+    ensures { out run.now.sheet.now result progress.new ≡ (undefined_result (methods depth (context_of run.now)) target current).run (state_of run.now.sheet.now progress.old) }
 {
-    match current {
-        OwnProperty::Absent => OwnPropertyOut::Done(OwnProperty::Absent, s), // a
-        OwnProperty::Present(p) => {
-            if attributes::is_configurable(p) {
-                match extensibility::is_extensible(
-                    words, strings, allowance, sheet, target, depth, s,
-                ) {
-                    BooleanOut::Failed(f, t) => OwnPropertyOut::Failed(f, t), // c
-                    BooleanOut::Done(extensible, t) => {
-                        if extensible {
-                            OwnPropertyOut::Done(OwnProperty::Absent, t) // e
-                        } else {
-                            OwnPropertyOut::Failed(Failure::TypeError(9), t) // d
-                        }
-                    }
-                }
-            } else {
-                OwnPropertyOut::Failed(Failure::TypeError(8), s) // b
-            }
-        }
+    let Some(property) = current else {
+        return Ok(None); // a
+    };
+    if !attributes::is_configurable(property) {
+        return Err(Failure::TypeError(8)); // b
     }
+    let extensible = is_extensible(run, target, depth, progress)?; // c
+    if !extensible {
+        return Err(Failure::TypeError(9)); // d
+    }
+    Ok(None) // e
 }
 
 // 10.5.5 steps 11 to 17: the trap answered a descriptor.
+#[inline(always)]
 pub fn descriptor_result(
-    words: &[u64],
-    strings: &[u16],
-    allowance: usize,
-    sheet: &[u8],
+    run: &Run<'_>,
     target: u64,
     object: DescriptorObject,
-    current: OwnProperty,
+    current: Option<Property>,
     depth: usize,
-    s: Progress,
-) -> OwnPropertyOut
-    requires { Readable words.now strings.now }
-    ensures { out_own_property sheet.now result ≡ (descriptor_result (methods depth (context words.now strings.now allowance)) target object current).run (state_of sheet.now s) }
+    progress: &mut Progress,
+) -> Result<Option<Property>, Failure>
+    ensures { out run.now.sheet.now result progress.new ≡ (descriptor_result (methods depth (context_of run.now)) target object current).run (state_of run.now.sheet.now progress.old) }
 {
-    let get = object.get;
-    let set = object.set;
-    match extensibility::is_extensible(words, strings, allowance, sheet, target, depth, s) {
-        BooleanOut::Failed(f, t) => OwnPropertyOut::Failed(f, t), // 11
-        BooleanOut::Done(extensible, t) => {
-            if errors::is_uncallable(get) {
-                return OwnPropertyOut::Failed(Failure::TypeError(27), t); // 12
-            }
-            if errors::is_uncallable(set) {
-                return OwnPropertyOut::Failed(Failure::TypeError(28), t); // 12
-            }
-            if errors::is_mixed(object) {
-                return OwnPropertyOut::Failed(Failure::TypeError(29), t); // 12
-            }
-            let d = descriptors::to_property_descriptor(object); // 12
-            let desc = completion::complete_property_descriptor(d); // 13
-            let message = result_message(extensible, desc, current);
-            if message == 0 {
-                return OwnPropertyOut::Done(OwnProperty::Present(desc), t); // 17
-            }
-            OwnPropertyOut::Failed(Failure::TypeError(message), t) // 14 to 16
+    let extensible = is_extensible(run, target, depth, progress)?; // 11
+    if errors::is_uncallable(object.get) {
+        return Err(Failure::TypeError(27)); // 12
+    }
+    if errors::is_uncallable(object.set) {
+        return Err(Failure::TypeError(28)); // 12
+    }
+    if errors::is_mixed(object) {
+        return Err(Failure::TypeError(29)); // 12
+    }
+    let descriptor = descriptors::to_property_descriptor(object); // 12
+    let property = completion::complete_property_descriptor(descriptor); // 13
+    let complete = completion::descriptor_of(property);
+    if !validation::is_compatible_property_descriptor(extensible, complete, current) {
+        return Err(Failure::TypeError(10)); // 14, 15
+    }
+    if !attributes::is_configurable(property) {
+        if target_checks::absent_or_configurable(current) {
+            return Err(Failure::TypeError(12)); // 16.a
+        }
+        if target_checks::is_read_only(property) && target_checks::is_writable(current) {
+            return Err(Failure::TypeError(11)); // 16.b
         }
     }
+    Ok(Some(property)) // 17
 }

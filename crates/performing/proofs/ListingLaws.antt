@@ -18,7 +18,7 @@ use Rattle.internal_methods.specs.Monad.{Answer, State, failed, done, pure, next
 use Rattle.internal_methods.specs.Methods.{Context}
 use Rattle.internal_methods.specs.Internal.{methods}
 use Rattle.record.specs.Sheet.{sheet_of}
-use Rattle.calls.specs.declared.Progress.{Progress}
+use Rattle.calls.specs.declared.progress.Progress.{Progress}
 use Rattle.calls.specs.Outs.{context, state_of}
 use Rattle.steps.specs.declared.Report.{Report}
 use Rattle.steps.specs.Operation.{own_property_keys}
@@ -42,9 +42,9 @@ module _ (words cells output : List ℕ) (answers : List Answer) (s : State) (ks
       ≡ shown_by (ended (world_of words cells) answers output (done (keys ks) s, store_of words))
   keys-refused u e = rw (u, e)
 
-  pub keys-unread : (a : Answer) (rest : List Answer) (r : Report) → s.answers ≡ a ∷ rest → r ≡ report_of (refusal 13)
+  pub keys_unread : (a : Answer) (rest : List Answer) (r : Report) → s.answers ≡ a ∷ rest → r ≡ report_of (refusal 13)
       → shown r words cells output ≡ shown_by (ended (world_of words cells) answers output (done (keys ks) s, store_of words))
-  keys-unread a rest r u q = rw (u, q)
+  keys_unread a rest r u q = rw (u, q)
 
 -- keys in words of 64 bits
 short-key : (w : ℕ) → w < 2 ^ 64 → IsShort (key_from_word w)
@@ -83,16 +83,16 @@ module _ (words cells sheet output : List ℕ) (allowance : ℕ) (o : ℕ) (s : 
   abbrev listing : Shown
   listing = shown_by (ended (world_of words cells) (sheet_of sheet) output ((perform maximum_calls c (own_property_keys o)).run (state_of sheet (start sheet))))
 
-  pub listing-failed : (f : Failure) (t : State) (r : Report) → failed f t ≡ ((methods maximum_calls c).own_property_keys o).run (state_of sheet s)
+  pub listing_failed : (f : Failure) (t : State) (r : Report) → failed f t ≡ ((methods maximum_calls c).own_property_keys o).run (state_of sheet s)
       → r ≡ failure_report (sheet_of sheet) f t → shown r words cells output ≡ listing
   unfolding perform once pure next ◌>>=◌
-  listing-failed f t r h q =
+  listing_failed f t r h q =
       let k : failed f t ≡ ((methods maximum_calls c).own_property_keys o).run (state_of sheet (start sheet)) = h ∙ ap (λ (p : Progress). ((methods maximum_calls c).own_property_keys o).run (state_of sheet p)) e in
       rw (sym k, q) (failing words cells sheet output f t)
 
-  pub listing-done : (ks : List PropertyKey) (t : State) (x : Shown) → done ks t ≡ ((methods maximum_calls c).own_property_keys o).run (state_of sheet s)
+  pub listing_done : (ks : List PropertyKey) (t : State) (x : Shown) → done ks t ≡ ((methods maximum_calls c).own_property_keys o).run (state_of sheet s)
       → x ≡ shown_by (ended (world_of words cells) (sheet_of sheet) output (done (keys ks) t, c.store)) → x ≡ listing
   unfolding perform once pure next ◌>>=◌
-  listing-done ks t x h q =
+  listing_done ks t x h q =
       let k : done ks t ≡ ((methods maximum_calls c).own_property_keys o).run (state_of sheet (start sheet)) = h ∙ ap (λ (p : Progress). ((methods maximum_calls c).own_property_keys o).run (state_of sheet p)) e in
       rw (sym k) q

@@ -12,9 +12,9 @@ past : (n code : ℕ) → n ≤ code → (code ≡ n → ⊥) → suc n ≤ code
 past n code h d = omega (arith, h, d)
 
 -- the last of them
-pub last-writing : (code : ℕ) → is_reading code ≡ false → 4 ≤ code → code < 14 → (code ≡ 5 → ⊥) → (code ≡ 7 → ⊥) → (code ≡ 9 → ⊥) → (code ≡ 12 → ⊥) → code ≡ 13
+pub last_writing : (code : ℕ) → is_reading code ≡ false → 4 ≤ code → code < 14 → (code ≡ 5 → ⊥) → (code ≡ 7 → ⊥) → (code ≡ 9 → ⊥) → (code ≡ 12 → ⊥) → code ≡ 13
 unfolding is_reading
-last-writing code f low high a b c d =
+last_writing code f low high a b c d =
     let six : 6 ≤ code = past 5 code (past 4 code low (other-code code 4 refl f)) a in
     let eight : 8 ≤ code = past 7 code (past 6 code six (other-code code 6 refl f)) b in
     let ten : 10 ≤ code = past 9 code (past 8 code eight (other-code code 8 refl f)) c in

@@ -1,6 +1,5 @@
 -- What the code answers for the operations that make no calls. Assumes nothing.
-use Rattle.std.specs.Prelude.{ℕ, Bool, true, false, cond, ltb}
-use Rattle.std.proofs.Math.Option.{Option, none, some}
+use Rattle.std.specs.Prelude.{Result, Ok, Err, ℕ, Bool, true, false, cond, ltb, Option, None, Some}
 use Rattle.value.specs.declared.Value.{Value}
 use Rattle.value.specs.declared.Value.TheVariants as value
 use Rattle.store.specs.declared.Object.{Object}
@@ -8,29 +7,31 @@ use Rattle.store.specs.declared.Object.TheVariants.{Ordinary, Proxy}
 use Rattle.store.specs.Store.{Store, next_number, live_count, named, maximum_objects}
 use Rattle.store_write.specs.declared.write.Write.{Write}
 use Rattle.store_write.specs.declared.write.Write.TheVariants as write
+use Rattle.internal_methods.specs.declared.Failure.{Failure}
 use Rattle.internal_methods.specs.declared.Failure.TheVariants.{Refused}
-use Rattle.calls.specs.declared.Progress.{Progress}
 use Rattle.steps.specs.declared.Completion.TheVariants as completion
 use Rattle.steps.specs.Operation.{natural_of}
 use Rattle.reporting.specs.declared.Performed.{Performed}
-use Rattle.reporting.specs.declared.Performed.TheVariants.{Failed, Done}
 
-unfoldable pub make_out : Store → Object → Bool → Progress → Performed
-make_out σ x b s = cond (ltb (live_count σ) maximum_objects) (Done (completion.Value (named b (next_number σ))) (write.NewObject x b) s) (Failed (Refused 7) s)
+abbrev pub performed : Value → Write → Performed
+performed v w = record { completion = completion.Value v; write = w }
 
-abbrev pub make_object_out : Store → Value → Bool → Progress → Performed
-make_object_out σ v b s = make_out σ (Ordinary (record { prototype = v; extensible = true })) b s
+unfoldable pub make_out : Store → Object → Bool → Result Performed Failure
+make_out σ x b = cond (ltb (live_count σ) maximum_objects) (Ok (performed (named b (next_number σ)) (write.NewObject x b))) (Err (Refused 7))
 
-abbrev pub make_proxy_out : Store → ℕ → Value → Progress → Performed
-make_proxy_out σ o mask s = make_out σ (Proxy (record { target = o; traps = natural_of mask; revoked = false })) false s
+abbrev pub make_object_out : Store → Value → Bool → Result Performed Failure
+make_object_out σ v b = make_out σ (Ordinary (record { prototype = v; extensible = true })) b
+
+abbrev pub make_proxy_out : Store → ℕ → Value → Result Performed Failure
+make_proxy_out σ o mask = make_out σ (Proxy (record { target = o; traps = natural_of mask; revoked = false })) false
 
 abbrev pub revocation : ℕ → Object → Write
 revocation o (Ordinary r) = write.Nothing
 revocation o (Proxy p) = write.Object o (Proxy (record { target = p.target; traps = p.traps; revoked = true }))
 
-abbrev pub revoke_out : ℕ → Option Object → Progress → Performed
-revoke_out o none s = Done (completion.Value (value.Boolean true)) write.Nothing s
-revoke_out o (some x) s = Done (completion.Value (value.Boolean true)) (revocation o x) s
+abbrev pub revoke_out : ℕ → Option Object → Performed
+revoke_out o None = performed (value.Boolean true) write.Nothing
+revoke_out o (Some x) = performed (value.Boolean true) (revocation o x)
 
-abbrev pub release_out : ℕ → Progress → Performed
-release_out o s = Done (completion.Value (value.Boolean true)) (write.Release o) s
+abbrev pub release_out : ℕ → Performed
+release_out o = performed (value.Boolean true) (write.Release o)

@@ -2,17 +2,17 @@
 ghost use Rattle.std.specs.Prelude.{◌≡◌, true};
 ghost use Rattle.store.specs.Store.{named, lookup};
 ghost use Rattle.value.specs.Bits.{bit};
-ghost use Rattle.store.specs.Words.{is_store, store_of, word_at};
+ghost use Rattle.store.specs.Words.{store_of, word_at};
+ghost use Rattle.store_write.specs.Write.{FitsIn};
 ghost use Rattle.steps.specs.Operation.{natural_number, natural_of};
-ghost use Rattle.reporting.specs.Performed.{Taken};
+ghost use Rattle.reporting.specs.Performed.{Taken, is_plain};
 ghost use Rattle.performing.specs.Creation.{make_out, make_object_out, make_proxy_out, revoke_out, revocation, release_out};
 
-use calls::Progress;
 use internal_methods::Failure;
 use reporting::Performed;
 use steps::Completion;
 use store::{Object, OrdinaryObject, ProxyObject};
-use store_read::ObjectFound;
+use store_read::StoreWords;
 use store_write::Write;
 use value::Value;
 
@@ -21,48 +21,48 @@ fn named(callable: bool, o: u64) -> Value
     ensures { result ≡ named callable o }
 {
     if callable {
-        return Value::Function(o);
+        Value::Function(o)
+    } else {
+        Value::Object(o)
     }
-    Value::Object(o)
 }
 
 // An object has the next number, if there is room for it.
-fn make(words: &[u64], x: Object, callable: bool, s: Progress) -> Performed
-    requires { is_store words.now ≡ true }
-    ensures value { result ≡ make_out (store_of words.now) x callable s }
-    ensures taken { Taken words.now result }
+fn make(store: StoreWords<'_>, x: Object, callable: bool) -> Result<Performed, Failure>
+    ensures value { result ≡ make_out (store_of store.entry.words.now) x callable }
+    ensures taken { Taken store.entry.words.now result }
 {
-    if store_read::has_object_room(words) {
-        let number = store_read::next_number(words);
-        return Performed::Done(
-            Completion::Value(named(callable, number)),
-            Write::NewObject(x, callable),
-            s,
-        );
+    if store.has_object_room() {
+        let number = store.next_number();
+        Ok(Performed {
+            completion: Completion::Value(named(callable, number)),
+            write: Write::NewObject(x, callable),
+        })
+    } else {
+        Err(Failure::Refused(7))
     }
-    Performed::Failed(Failure::Refused(7), s)
 }
 
 // Codes 1 and 16: an ordinary object, callable or not
-pub fn make_object(words: &[u64], prototype: Value, callable: bool, s: Progress) -> Performed
-    requires { is_store words.now ≡ true }
-    ensures value { result ≡ make_object_out (store_of words.now) prototype callable s }
-    ensures taken { Taken words.now result }
+pub fn make_object(
+    store: StoreWords<'_>,
+    prototype: Value,
+    callable: bool,
+) -> Result<Performed, Failure>
+    ensures value { result ≡ make_object_out (store_of store.entry.words.now) prototype callable }
+    ensures taken { Taken store.entry.words.now result }
 {
     let object = OrdinaryObject {
         prototype,
         extensible: true,
     };
-    make(words, Object::Ordinary(object), callable, s)
+    make(store, Object::Ordinary(object), callable)
 }
 
 fn natural_number(n: i32) -> u64
     ensures { result ≡ natural_number n }
 {
-    if n < 0 {
-        return 0;
-    }
-    n as u64
+    if n < 0 { 0 } else { n as u64 }
 }
 
 // The natural number that a value is: a trap mask, or an integrity level.
@@ -76,17 +76,16 @@ pub fn natural_of(v: Value) -> u64
 }
 
 // Code 2: a proxy over an object
-pub fn make_proxy(words: &[u64], target: u64, mask: Value, s: Progress) -> Performed
-    requires { is_store words.now ≡ true }
-    ensures value { result ≡ make_proxy_out (store_of words.now) target mask s }
-    ensures taken { Taken words.now result }
+pub fn make_proxy(store: StoreWords<'_>, target: u64, mask: Value) -> Result<Performed, Failure>
+    ensures value { result ≡ make_proxy_out (store_of store.entry.words.now) target mask }
+    ensures taken { Taken store.entry.words.now result }
 {
     let proxy = ProxyObject {
         target,
         traps: natural_of(mask),
         revoked: false,
     };
-    make(words, Object::Proxy(proxy), false, s)
+    make(store, Object::Proxy(proxy), false)
 }
 
 // The write that revokes a proxy.
@@ -107,32 +106,30 @@ fn revocation(o: u64, x: Object) -> Write
 }
 
 // Code 3: a proxy is revoked; again is harmless
-pub fn revoke(words: &[u64], o: u64, s: Progress) -> Performed
-    requires { is_store words.now ≡ true }
-    ensures value { result ≡ revoke_out o (lookup (store_of words.now) o) s }
-    ensures taken { Taken words.now result }
+pub fn revoke(store: StoreWords<'_>, o: u64) -> Performed
+    ensures value { result ≡ revoke_out o (lookup (store_of store.entry.words.now) o) }
+    ensures fits { FitsIn result.write store.entry.words.now }
+    ensures plain { is_plain result.completion ≡ true }
 {
-    match store_read::object_at(words, o) {
-        ObjectFound::Missing => {
-            Performed::Done(Completion::Value(Value::Boolean(true)), Write::Nothing, s)
-        }
-        ObjectFound::Made(x) => Performed::Done(
-            Completion::Value(Value::Boolean(true)),
-            revocation(o, x),
-            s,
-        ),
+    let write = match store.object_at(o) {
+        None => Write::Nothing,
+        Some(x) => revocation(o, x),
+    };
+    Performed {
+        completion: Completion::Value(Value::Boolean(true)),
+        write,
     }
 }
 
 // Code 17: an object is released
-pub fn release(words: &[u64], o: u64, s: Progress) -> Performed
-    requires { (is_store words.now ≡ true) × (bit (word_at words.now 3) o ≡ true) }
-    ensures value { result ≡ release_out o s }
-    ensures taken { Taken words.now result }
+pub fn release(store: StoreWords<'_>, o: u64) -> Performed
+    requires { bit (word_at store.words.now 3) o ≡ true }
+    ensures value { result ≡ release_out o }
+    ensures fits { FitsIn result.write store.entry.words.now }
+    ensures plain { is_plain result.completion ≡ true }
 {
-    Performed::Done(
-        Completion::Value(Value::Boolean(true)),
-        Write::Release(o),
-        s,
-    )
+    Performed {
+        completion: Completion::Value(Value::Boolean(true)),
+        write: Write::Release(o),
+    }
 }

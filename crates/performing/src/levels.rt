@@ -1,53 +1,70 @@
 // Sealing and freezing an object, and the tests whether it is: codes 18 and 19.
-ghost use Rattle.std.specs.Prelude.{◌≡◌, true, List, ℕ, ◌≤◌, eqb, length};
-ghost use Rattle.value.specs.Words.{pick};
+ghost use Rattle.std.specs.Prelude.{◌≡◌, true, List, ℕ, ◌≤◌, length};
+ghost use Rattle.text.specs.Table.{is_table};
 ghost use Rattle.store.specs.Store.{maximum_properties};
 ghost use Rattle.store.specs.Words.{world_of};
 ghost use Rattle.record.specs.Bytes.{value_at};
 ghost use Rattle.record.specs.Sheet.{sheet_of, is_sheet};
-ghost use Rattle.calls.specs.Outs.{Readable, context, state_of};
+ghost use Rattle.calls.specs.Outs.{context, state_of};
 ghost use Rattle.own_keys.specs.Lists.{are_lists_fit};
-ghost use Rattle.steps.specs.Operation.{Level, natural_of, set_integrity_level, test_integrity_level};
+ghost use Rattle.integrity.specs.Levels.{integrity_level};
+ghost use Rattle.steps.specs.Operation.{level_of, set_integrity_level, test_integrity_level};
 ghost use Rattle.steps.specs.Perform.{perform, maximum_calls};
 ghost use Rattle.steps.specs.Step.{ended};
 ghost use Rattle.reporting.specs.Reports.{start};
-ghost use Rattle.reporting.specs.Memory.{shown, shown_by, WordsAfter};
+ghost use Rattle.reporting.specs.Memory.{is_memory, shown, shown_by, WordsAfter};
 
 use crate::{MAXIMUM_PROPERTIES, creation, reads};
 use byte_records::value_record;
+use calls::Run;
+use integrity::{Inputs, IntegrityLevel};
 use reporting::MAXIMUM_CALLS;
 use steps::{Outcome, Report};
+use store_read::{STORE_SIZE, StoreWords};
 
-// Whether the level of a step's bytes is frozen.
-pub fn is_frozen(bytes: &[u8]) -> bool
+// The level of a step's bytes.
+pub fn level_at(bytes: &[u8]) -> IntegrityLevel
     requires { 58 ≤ length bytes.now }
-    ensures { result ≡ eqb (natural_of (value_at bytes.now 11)) 1 }
+    ensures { integrity_level result ≡ level_of (value_at bytes.now 11) }
 {
-    creation::natural_of(value_record::value_at(bytes, 11)) == 1
+    if creation::natural_of(value_record::value_at(bytes, 11)) == 1 {
+        IntegrityLevel::Frozen
+    } else {
+        IntegrityLevel::Sealed
+    }
 }
 
 // Code 18. The words from before are kept for the case of a refusal.
-pub fn set_level(words: &mut [u64], strings: &[u16], sheet: &[u8], o: u64, frozen: bool) -> Report
-    requires { Readable words.old strings.now × ((is_sheet sheet.now ≡ true) × (are_lists_fit (sheet_of sheet.now) ≡ true)) }
-    ensures by_index { (output : List ℕ) → shown result words.new strings.now output ≡ shown_by (ended (world_of words.old strings.now) (sheet_of sheet.now) output ((perform maximum_calls (context words.old strings.now maximum_properties) (set_integrity_level o (pick frozen Level.frozen Level.sealed))).run (state_of sheet.now (start sheet.now)))) }
+#[tactic(auto, using(reporting::proofs::ContractLaws::store_is, reporting::proofs::ContractLaws::table_is))]
+pub fn set_level(
+    words: &mut [u64],
+    strings: &[u16],
+    sheet: &[u8],
+    o: u64,
+    level: IntegrityLevel,
+) -> Report
+    requires { (is_memory words.old strings.now ≡ true) × ((is_sheet sheet.now ≡ true) × (are_lists_fit (sheet_of sheet.now) ≡ true)) }
+    ensures by_index { (output : List ℕ) → shown result words.new strings.now output ≡ shown_by (ended (world_of words.old strings.now) (sheet_of sheet.now) output ((perform maximum_calls (context words.old strings.now maximum_properties) (set_integrity_level o (integrity_level level))).run (state_of sheet.now (start sheet.now)))) }
     ensures words_after { WordsAfter true result.outcome words.old words.new }
 {
-    let mut before = [0u64; 1670];
+    let mut before = [0u64; STORE_SIZE];
     store_write::copy_words(&mut before, words);
-    let s = reporting::start(sheet);
-    let out = integrity::set_integrity_level(
-        words,
+    let inputs = Inputs {
         strings,
-        MAXIMUM_PROPERTIES,
+        allowance: MAXIMUM_PROPERTIES,
         sheet,
+    };
+    let mut progress = reporting::start(sheet);
+    let done = integrity::set_integrity_level(
+        words,
+        &inputs,
         o,
-        frozen,
+        level,
         MAXIMUM_CALLS,
-        s,
+        &mut progress,
     );
-    let report = reads::boolean_result(sheet, out);
-    let outcome = report.outcome;
-    match outcome {
+    let report = reporting::reported(sheet, reads::boolean_result(done), progress);
+    match report.outcome {
         Outcome::Refused(_) => {
             store_write::copy_words(words, &before);
             report
@@ -57,20 +74,23 @@ pub fn set_level(words: &mut [u64], strings: &[u16], sheet: &[u8], o: u64, froze
 }
 
 // Code 19
-pub fn test_level(words: &[u64], strings: &[u16], sheet: &[u8], o: u64, frozen: bool) -> Report
-    requires { Readable words.now strings.now × ((is_sheet sheet.now ≡ true) × (are_lists_fit (sheet_of sheet.now) ≡ true)) }
-    ensures { (output : List ℕ) → shown result words.now strings.now output ≡ shown_by (ended (world_of words.now strings.now) (sheet_of sheet.now) output ((perform maximum_calls (context words.now strings.now maximum_properties) (test_integrity_level o (pick frozen Level.frozen Level.sealed))).run (state_of sheet.now (start sheet.now)))) }
+pub fn test_level(
+    store: StoreWords<'_>,
+    strings: &[u16],
+    sheet: &[u8],
+    o: u64,
+    level: IntegrityLevel,
+) -> Report
+    requires { (is_table strings.now ≡ true) × ((is_sheet sheet.now ≡ true) × (are_lists_fit (sheet_of sheet.now) ≡ true)) }
+    ensures { (output : List ℕ) → shown result store.entry.words.now strings.now output ≡ shown_by (ended (world_of store.entry.words.now strings.now) (sheet_of sheet.now) output ((perform maximum_calls (context store.entry.words.now strings.now maximum_properties) (test_integrity_level o (integrity_level level))).run (state_of sheet.now (start sheet.now)))) }
 {
-    let s = reporting::start(sheet);
-    let out = integrity::test_integrity_level(
-        words,
+    let run = Run {
+        store,
         strings,
-        MAXIMUM_PROPERTIES,
+        allowance: MAXIMUM_PROPERTIES,
         sheet,
-        o,
-        frozen,
-        MAXIMUM_CALLS,
-        s,
-    );
-    reads::boolean_result(sheet, out)
+    };
+    let mut progress = reporting::start(sheet);
+    let done = integrity::test_integrity_level(&run, o, level, MAXIMUM_CALLS, &mut progress);
+    reporting::reported(sheet, reads::boolean_result(done), progress)
 }

@@ -1,11 +1,11 @@
 // A step of [[OwnPropertyKeys]]: its keys stand at the output's start, 9 bytes each.
 ghost use Rattle.std.specs.Prelude.{◌≡◌, true, ◌≤◌, length};
-ghost use Rattle.text.specs.Table.{strings_of};
+ghost use Rattle.text.specs.Table.{is_table, strings_of};
 ghost use Rattle.store.specs.Store.{maximum_properties};
 ghost use Rattle.store.specs.Words.{store_of, world_of};
 ghost use Rattle.internal_methods.specs.Monad.{done};
 ghost use Rattle.record.specs.Sheet.{sheet_of, is_sheet};
-ghost use Rattle.calls.specs.Outs.{Readable, context, state_of};
+ghost use Rattle.calls.specs.Outs.{context, state_of};
 ghost use Rattle.own_keys.specs.Lists.{are_lists_fit};
 ghost use Rattle.own_keys.specs.Loading.{listed_keys, Loadable};
 ghost use Rattle.steps.specs.Operation.{own_property_keys};
@@ -16,59 +16,51 @@ ghost use Rattle.reporting.specs.Reports.{start};
 ghost use Rattle.reporting.specs.Memory.{shown, shown_by};
 
 use crate::MAXIMUM_PROPERTIES;
-use calls::Progress;
+use calls::{Progress, Run};
 use key_lists::key_bytes;
 use own_keys::loading;
-use own_keys::loading::{KeyList, KeysOut};
+use own_keys::loading::KeyList;
 use reporting::MAXIMUM_CALLS;
 use steps::{Completion, Report};
+use store_read::StoreWords;
 
 // Refusal 13 or 11, or the keys in the output.
-fn write_out(
-    words: &[u64],
-    strings: &[u16],
-    sheet: &[u8],
-    found: KeyList,
-    keys: &mut [u64],
-    s: Progress,
-    output: &mut [u8],
-) -> Report
-    requires { Readable words.now strings.now × ((is_sheet sheet.now ≡ true) × (Loadable sheet.now found × (256 ≤ length keys.old))) }
-    ensures { shown result words.now strings.now output.new ≡ shown_by (ended (world_of words.now strings.now) (sheet_of sheet.now) output.old (done (performed.keys (listed_keys sheet.now (strings_of strings.now) (store_of words.now) found)) (state_of sheet.now s), store_of words.now)) }
+fn write_out(run: &Run<'_>, found: KeyList, progress: Progress, output: &mut [u8]) -> Report
+    requires { (is_sheet run.now.sheet.now ≡ true) × Loadable run.now.sheet.now found }
+    ensures { shown result run.now.store.words.now run.now.strings.now output.new ≡ shown_by (ended (world_of run.now.store.words.now run.now.strings.now) (sheet_of run.now.sheet.now) output.old (done (performed.keys (listed_keys run.now.sheet.now (strings_of run.now.strings.now) (store_of run.now.store.words.now) found)) (state_of run.now.sheet.now progress), store_of run.now.store.words.now)) }
 {
-    if 0 < s.left {
+    if 0 < progress.left {
         return reporting::refused(13);
     }
-    let n = loading::load_list(words, strings, sheet, found, keys);
+    let mut keys = [0u64; 256];
+    let n = loading::load_list(run, found, &mut keys);
     if 9 * n <= output.len() {
-        key_bytes::write_keys(keys, n, output);
-        return reporting::completed(sheet, Completion::Keys(n as u64), s);
+        key_bytes::write_keys(&keys, n, output);
+        return reporting::completed(run.sheet, Completion::Keys(n as u64), progress);
     }
     reporting::refused(11)
 }
 
 // Code 14
-pub fn list(words: &[u64], strings: &[u16], sheet: &[u8], o: u64, output: &mut [u8]) -> Report
-    requires { Readable words.now strings.now × ((is_sheet sheet.now ≡ true) × (are_lists_fit (sheet_of sheet.now) ≡ true)) }
-    ensures { shown result words.now strings.now output.new ≡ shown_by (ended (world_of words.now strings.now) (sheet_of sheet.now) output.old ((perform maximum_calls (context words.now strings.now maximum_properties) (own_property_keys o)).run (state_of sheet.now (start sheet.now)))) }
+pub fn list(
+    store: StoreWords<'_>,
+    strings: &[u16],
+    sheet: &[u8],
+    o: u64,
+    output: &mut [u8],
+) -> Report
+    requires { (is_table strings.now ≡ true) × ((is_sheet sheet.now ≡ true) × (are_lists_fit (sheet_of sheet.now) ≡ true)) }
+    ensures { shown result store.entry.words.now strings.now output.new ≡ shown_by (ended (world_of store.entry.words.now strings.now) (sheet_of sheet.now) output.old ((perform maximum_calls (context store.entry.words.now strings.now maximum_properties) (own_property_keys o)).run (state_of sheet.now (start sheet.now)))) }
 {
-    let mut keys = [0u64; 256];
-    let mut marks = [0u64; 256];
-    let mut list = [0u64; 256];
-    let s = reporting::start(sheet);
-    match own_keys::own_property_keys(
-        words,
+    let run = Run {
+        store,
         strings,
-        MAXIMUM_PROPERTIES,
+        allowance: MAXIMUM_PROPERTIES,
         sheet,
-        o,
-        &mut keys,
-        &mut marks,
-        &mut list,
-        MAXIMUM_CALLS,
-        s,
-    ) {
-        KeysOut::Failed(f, t) => reporting::failed(sheet, f, t),
-        KeysOut::Done(found, t) => write_out(words, strings, sheet, found, &mut keys, t, output),
+    };
+    let mut progress = reporting::start(sheet);
+    match own_keys::own_property_keys(&run, o, MAXIMUM_CALLS, &mut progress) {
+        Err(f) => reporting::failed(sheet, f, progress),
+        Ok(found) => write_out(&run, found, progress, output),
     }
 }

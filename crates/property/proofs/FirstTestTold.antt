@@ -1,17 +1,14 @@
 -- Where a test of a validation fails, the number told is that of a test up to it: the half of the first test that the order of the tests decides. Assumes nothing.
+use Rattle.std.specs.Prelude.{Option, Some}
 use Prim.Native.Nat.{ℕ, ◌<◌, ◌≤◌}
 use native.Mathlib.Omega.{arith}
 use mathlib.Core.Path.{◌≡◌, refl, ap, ◌∙◌}
 use mathlib.Core.Bool.{Bool, true, false, not, beq, false≢true}
 use Rattle.value.specs.declared.Value.{Value}
 use Rattle.value.specs.Value.{same_value}
-use Rattle.property.specs.declared.Field.{Field}
-use Rattle.property.specs.declared.Field.TheVariants as field
 use Rattle.property.specs.declared.PropertyDescriptor.{PropertyDescriptor}
 use Rattle.property.specs.declared.Property.{Property}
 use Rattle.property.specs.declared.Property.TheVariants.{Data, Accessor}
-use Rattle.property.specs.declared.OwnProperty.{OwnProperty}
-use Rattle.property.specs.declared.OwnProperty.TheVariants.{Present}
 use Rattle.property.specs.declared.ValidationTest.{ValidationTest}
 use Rattle.property.specs.declared.ValidationTest.TheVariants as test
 use Rattle.property.specs.declared.Validation.{Validation}
@@ -27,7 +24,7 @@ flag-unlike true false h = refl
 flag-unlike false true h = refl
 flag-unlike false false h = absurd (h refl)
 
-field-unlike : (f : Field) (u v : Value) → f ≡ field.Present u → same_value u v ≡ false → unlike f v ≡ true
+field-unlike : (f : Option Value) (u v : Value) → f ≡ Some u → same_value u v ≡ false → unlike f v ≡ true
 field-unlike f u v h o = rw (h, o)
 
 pub positive : (t : ValidationTest) → 0 < test_number t
@@ -61,11 +58,11 @@ module _ (x : Bool) (d : PropertyDescriptor) where
   past-kind : (m : ℕ) (p : Property) → 4 ≤ m → UpTo m (validate_kind d p (Becomes (applied d p))) → UpTo m (validate_fixed d p (Becomes (applied d p)))
   past-kind m p l h = later _ _ _ _ (omega arith) (later _ _ _ _ (omega arith) (later _ _ _ _ (omega arith) h))
 
-  past-fields : (m : ℕ) (p : Property) → Reached d p → UpTo m (validate_fixed d p (Becomes (applied d p))) → UpTo m (validate x d (Present p))
+  past-fields : (m : ℕ) (p : Property) → Reached d p → UpTo m (validate_fixed d p (Becomes (applied d p))) → UpTo m (validate x d (Some p))
   unfolding validate
   past-fields m p a h = rw (a.fields, a.fixed) h
 
-  pub told : (t : OwnProperty) (m : ℕ) → Fails x d t m → UpTo m (validate x d t)
+  pub told : (t : Option Property) (m : ℕ) → Fails x d t m → UpTo m (validate x d t)
   unfolding validate
   told _ _ (Fails.not-extensible h) = here _ _ _ (ap not h)
   told _ _ (Fails.configurable-asked {p} a h) = past-fields _ p a (here _ _ _ (ap is_true h))

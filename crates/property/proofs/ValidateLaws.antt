@@ -1,40 +1,35 @@
 -- What ValidateAndApplyPropertyDescriptor keeps, adds and gives. Assumes nothing.
+use Rattle.std.specs.Prelude.{Option, None, Some}
 use mathlib.Core.Path.{◌≡◌, refl, ap, ◌∙◌, subst}
 use mathlib.Core.Bool.{Bool, true, false, not, ◌&&◌, ◌||◌, beq, cond, false≢true, true≢false}
 use borrow.Author.Tests.{not-false}
 use Rattle.value.specs.declared.Value.{Value}
 use Rattle.value.specs.Value.{same_value}
 use Rattle.value.proofs.SameValue.{same-like, same_refl, same-sym}
-use Rattle.property.specs.declared.Flag.{Flag}
-use Rattle.property.specs.declared.Flag.TheVariants as flag
-use Rattle.property.specs.declared.Field.{Field}
-use Rattle.property.specs.declared.Field.TheVariants as field
 use Rattle.property.specs.declared.DescriptorKind.{DescriptorKind}
 use Rattle.property.specs.declared.DescriptorKind.TheVariants as kind
 use Rattle.property.specs.declared.PropertyDescriptor.{PropertyDescriptor}
 use Rattle.property.specs.declared.Property.{Property}
 use Rattle.property.specs.declared.Property.TheVariants.{Data, Accessor}
-use Rattle.property.specs.declared.OwnProperty.{OwnProperty}
-use Rattle.property.specs.declared.OwnProperty.TheVariants.{Absent, Present}
 use Rattle.property.specs.declared.ValidationTest.{ValidationTest}
 use Rattle.property.specs.declared.ValidationTest.TheVariants as test
 use Rattle.property.specs.declared.Validation.{Validation}
 use Rattle.property.specs.declared.Validation.TheVariants.{Unchanged, Becomes}
-use Rattle.property.specs.Fields.{has, is_true, is_false, unlike, unlike_flag, or_else, or_else_flag, value_field, writable_field, get_field, set_field, enumerable, configurable}
+use Rattle.property.specs.Fields.{has, is_true, is_false, unlike, unlike_flag, or_else, value_field, writable_field, get_field, set_field, enumerable, configurable}
 use Rattle.property.specs.Descriptor.{is_accessor_descriptor, is_data_descriptor, is_generic_descriptor, complete}
 use Rattle.property.specs.Validate.{has_no_fields, is_other_kind, applied, reject_if, validate_kind, validate_fixed, validate, is_accepted, is_compatible}
 
 -- a data property that is neither writable nor configurable, with this value
-abbrev pub frozen_as : Value → OwnProperty → Bool
-frozen_as v Absent = false
-frozen_as v (Present (Data w wr e c)) = not wr && (not c && same_value w v)
-frozen_as v (Present (Accessor g s e c)) = false
+abbrev pub frozen_as : Value → Option Property → Bool
+frozen_as v None = false
+frozen_as v (Some (Data w wr e c)) = not wr && (not c && same_value w v)
+frozen_as v (Some (Accessor g s e c)) = false
 
-abbrev pub is_absent : OwnProperty → Bool
-is_absent Absent = true
-is_absent (Present p) = false
+abbrev pub is_absent : Option Property → Bool
+is_absent None = true
+is_absent (Some p) = false
 
-pub configurable-not-frozen : (p : Property) (v : Value) → configurable p ≡ true → frozen_as v (Present p) ≡ false
+pub configurable-not-frozen : (p : Property) (v : Value) → configurable p ≡ true → frozen_as v (Some p) ≡ false
 configurable-not-frozen (Data w true e c) v h = refl
 configurable-not-frozen (Data w false e true) v h = refl
 configurable-not-frozen (Data w false e false) v h = absurd (false≢true h)
@@ -42,20 +37,20 @@ configurable-not-frozen (Accessor g s e c) v h = refl
 
 -- the descriptor asks for a frozen property with this value
 pub record AsksFrozen (d : PropertyDescriptor) (w : Value) : Type 0 where
-  pub valued-w : value_field d.kind ≡ field.Present w
+  pub valued-w : value_field d.kind ≡ Some w
   pub fixed : is_false (writable_field d.kind) ≡ true
   pub lasting : is_false d.configurable ≡ true
 
-is_false_lem : (f : Flag) → is_false f ≡ true → f ≡ flag.Present false
-is_false_lem flag.Absent h = absurd (false≢true h)
-is_false_lem (flag.Present true) h = absurd (false≢true h)
-is_false_lem (flag.Present false) h = refl
+is_false_lem : (f : Option Bool) → is_false f ≡ true → f ≡ Some false
+is_false_lem None h = absurd (false≢true h)
+is_false_lem (Some true) h = absurd (false≢true h)
+is_false_lem (Some false) h = refl
 
 no-accessor : (d : PropertyDescriptor) (w : Value) → AsksFrozen d w → is_accessor_descriptor d ≡ false
 unfolding is_accessor_descriptor
 no-accessor d w a = go d.kind a.valued-w
   where
-    go : (k : DescriptorKind) → value_field k ≡ field.Present w → (has (get_field k) || has (set_field k)) ≡ false
+    go : (k : DescriptorKind) → value_field k ≡ Some w → (has (get_field k) || has (set_field k)) ≡ false
     go (kind.Data v f) h = refl
     go (kind.Accessor g s) h = absurd (false≢true cc)
     go kind.Generic h = absurd (false≢true cc)
@@ -112,20 +107,20 @@ fixed-kind d v e c next r a h =
 
 -- Of a frozen property nothing changes
 
-or-else-false : (f : Flag) → is_true f ≡ false → or_else_flag f false ≡ false
-or-else-false flag.Absent h = refl
-or-else-false (flag.Present b) h = h
+or-else-false : (f : Option Bool) → is_true f ≡ false → or_else f false ≡ false
+or-else-false None h = refl
+or-else-false (Some b) h = h
 
-or-else-same : (f : Field) (w v : Value) → unlike f w ≡ false → same_value w v ≡ true → same_value (or_else f w) v ≡ true
-or-else-same field.Absent w v h e = e
-or-else-same (field.Present u) w v h e = same-like u w v (not-false _ h) ∙ e
+or-else-same : (f : Option Value) (w v : Value) → unlike f w ≡ false → same_value w v ≡ true → same_value (or_else f w) v ≡ true
+or-else-same None w v h e = e
+or-else-same (Some u) w v h e = same-like u w v (not-false _ h) ∙ e
 
 became : (b : Bool) (z : Validation) (p : Property) → cond b Unchanged z ≡ Becomes p → z ≡ Becomes p
 became true z p h = absurd (false≢true cc)
 became false z p h = h
 
 applied-frozen : (d : PropertyDescriptor) (w v : Value) (e : Bool) (next r : Validation) → is_accepted r ≡ true → Passed d (Data w false e false) next r
-    → same_value w v ≡ true → frozen_as v (Present (applied d (Data w false e false))) ≡ true
+    → same_value w v ≡ true → frozen_as v (Some (applied d (Data w false e false))) ≡ true
 unfolding applied is_generic_descriptor
 applied-frozen d w v e next r ok a h =
     let f = fixed-kind d w e false next r ok a.five-de in
@@ -146,40 +141,40 @@ made d (Data w false e c) q p h =
     let h3 = became (has (value_field d.kind)) (Becomes q) p h2 in
     cc
 
-pub validate-keeps : (x : Bool) (d : PropertyDescriptor) (t : OwnProperty) (p : Property) → validate x d t ≡ Becomes p
-    → (v : Value) → frozen_as v t ≡ true → frozen_as v (Present p) ≡ true
+pub validate-keeps : (x : Bool) (d : PropertyDescriptor) (t : Option Property) (p : Property) → validate x d t ≡ Becomes p
+    → (v : Value) → frozen_as v t ≡ true → frozen_as v (Some p) ≡ true
 unfolding validate
-validate-keeps x d Absent p h v f = absurd (false≢true f)
-validate-keeps x d (Present (Accessor g s e c)) p h v f = absurd (false≢true f)
-validate-keeps x d (Present (Data w true e c)) p h v f = absurd (false≢true f)
-validate-keeps x d (Present (Data w false e true)) p h v f = absurd (false≢true f)
-validate-keeps x d (Present (Data w false e false)) p h v f =
+validate-keeps x d None p h v f = absurd (false≢true f)
+validate-keeps x d (Some (Accessor g s e c)) p h v f = absurd (false≢true f)
+validate-keeps x d (Some (Data w true e c)) p h v f = absurd (false≢true f)
+validate-keeps x d (Some (Data w false e true)) p h v f = absurd (false≢true f)
+validate-keeps x d (Some (Data w false e false)) p h v f =
     let a = passed d (Data w false e false) (Becomes (applied d (Data w false e false))) (Becomes p) refl (became (has_no_fields d) _ p h) in
     let q = made d (Data w false e false) (applied d (Data w false e false)) p a.five-de in
-    subst (λ (z : Property). frozen_as v (Present z) ≡ true) q (applied-frozen d w v e _ _ refl a f)
+    subst (λ (z : Property). frozen_as v (Some z) ≡ true) q (applied-frozen d w v e _ _ refl a f)
 
 -- Nothing is added to what is not extensible
 
-pub validate-adds : (x : Bool) (d : PropertyDescriptor) (t : OwnProperty) (p : Property) → validate x d t ≡ Becomes p → x ≡ false → is_absent t ≡ true → ⊥
+pub validate-adds : (x : Bool) (d : PropertyDescriptor) (t : Option Property) (p : Property) → validate x d t ≡ Becomes p → x ≡ false → is_absent t ≡ true → ⊥
 unfolding validate reject_if
-validate-adds true d Absent p h e a = true≢false e
-validate-adds false d Absent p h e a = false≢true cc
-validate-adds x d (Present q) p h e a = false≢true a
+validate-adds true d None p h e a = true≢false e
+validate-adds false d None p h e a = false≢true cc
+validate-adds x d (Some q) p h e a = false≢true a
 
-pub validate-refuses : (x : Bool) (d : PropertyDescriptor) (t : OwnProperty) → is_compatible x d t ≡ true → x ≡ false → is_absent t ≡ true → ⊥
+pub validate-refuses : (x : Bool) (d : PropertyDescriptor) (t : Option Property) → is_compatible x d t ≡ true → x ≡ false → is_absent t ≡ true → ⊥
 unfolding is_compatible validate reject_if
-validate-refuses true d Absent h e a = true≢false e
-validate-refuses false d Absent h e a = false≢true h
-validate-refuses x d (Present q) h e a = false≢true a
+validate-refuses true d None h e a = true≢false e
+validate-refuses false d None h e a = false≢true h
+validate-refuses x d (Some q) h e a = false≢true a
 
 -- What is asked is given
 
-complete-frozen : (d : PropertyDescriptor) (w : Value) → AsksFrozen d w → frozen_as w (Present (complete d)) ≡ true
+complete-frozen : (d : PropertyDescriptor) (w : Value) → AsksFrozen d w → frozen_as w (Some (complete d)) ≡ true
 unfolding complete
 complete-frozen d w a = rw (no-accessor d w a)
     (rw (a.valued-w, is_false_lem (writable_field d.kind) a.fixed, is_false_lem d.configurable a.lasting) (same_refl w))
 
-applied-asked : (d : PropertyDescriptor) (w : Value) (t : Property) → AsksFrozen d w → frozen_as w (Present (applied d t)) ≡ true
+applied-asked : (d : PropertyDescriptor) (w : Value) (t : Property) → AsksFrozen d w → frozen_as w (Some (applied d t)) ≡ true
 unfolding applied
 applied-asked d w (Data v wr e c) a = rw (no-accessor d w a)
     (rw (a.valued-w, is_false_lem (writable_field d.kind) a.fixed, is_false_lem d.configurable a.lasting) (same_refl w))
@@ -191,15 +186,15 @@ gives d t p true h = cc
 gives d t p false h = made d t (applied d t) p (passed d t (Becomes (applied d t)) (Becomes p) refl h).five-de
 
 -- a property that is there changes as step 6 says
-pub validate-changes : (x : Bool) (d : PropertyDescriptor) (t p : Property) → validate x d (Present t) ≡ Becomes p → applied d t ≡ p
+pub validate-changes : (x : Bool) (d : PropertyDescriptor) (t p : Property) → validate x d (Some t) ≡ Becomes p → applied d t ≡ p
 unfolding validate
 validate-changes x d t p h = gives d t p (configurable t) (became (has_no_fields d) _ p h)
 
-pub validate-gives : (x : Bool) (d : PropertyDescriptor) (t : OwnProperty) (p : Property) (w : Value) → validate x d t ≡ Becomes p → AsksFrozen d w → frozen_as w (Present p) ≡ true
+pub validate-gives : (x : Bool) (d : PropertyDescriptor) (t : Option Property) (p : Property) (w : Value) → validate x d t ≡ Becomes p → AsksFrozen d w → frozen_as w (Some p) ≡ true
 unfolding validate reject_if
-validate-gives false d Absent p w h a = absurd (false≢true cc)
-validate-gives true d Absent p w h a = let q : complete d ≡ p = cc in subst (λ (z : Property). frozen_as w (Present z) ≡ true) q (complete-frozen d w a)
-validate-gives x d (Present t) p w h a = subst (λ (z : Property). frozen_as w (Present z) ≡ true) (validate-changes x d t p h) (applied-asked d w t a)
+validate-gives false d None p w h a = absurd (false≢true cc)
+validate-gives true d None p w h a = let q : complete d ≡ p = cc in subst (λ (z : Property). frozen_as w (Some z) ≡ true) q (complete-frozen d w a)
+validate-gives x d (Some t) p w h a = subst (λ (z : Property). frozen_as w (Some z) ≡ true) (validate-changes x d t p h) (applied-asked d w t a)
 
 -- A property that is not configurable, and a descriptor that asks for a frozen one: 5.c and 5.e
 
@@ -211,11 +206,11 @@ asked-fixed : (d : PropertyDescriptor) (v : Value) (e : Bool) (next r : Validati
     → same_value v w ≡ true
 asked-fixed d v e next r w ok a f =
     let like : unlike (value_field d.kind) v ≡ false = (fixed-kind d v e false next r ok f.five-de).alike in
-    same-sym v w ∙ not-false (same_value w v) (subst (λ (z : Field). unlike z v ≡ false) a.valued-w like)
+    same-sym v w ∙ not-false (same_value w v) (subst (λ (z : Option Value). unlike z v ≡ false) a.valued-w like)
 
 -- where nothing changes, it was as asked
 unchanged : (d : PropertyDescriptor) (t : Property) (w : Value) → AsksFrozen d w
-    → cond (configurable t) (Becomes (applied d t)) (validate_fixed d t (Becomes (applied d t))) ≡ Unchanged → frozen_as w (Present t) ≡ true
+    → cond (configurable t) (Becomes (applied d t)) (validate_fixed d t (Becomes (applied d t))) ≡ Unchanged → frozen_as w (Some t) ≡ true
 unchanged d (Data v wr e true) w a h = absurd (false≢true cc)
 unchanged d (Accessor g s e true) w a h = absurd (false≢true cc)
 unchanged d (Accessor g s e false) w a h = absurd (asked-accessor d g s e _ Unchanged w a (passed d (Accessor g s e false) _ Unchanged refl h))
@@ -224,31 +219,31 @@ unchanged d (Data v true e false) w a h =
     absurd (false≢true cc)
 unchanged d (Data v false e false) w a h = asked-fixed d v e _ Unchanged w refl a (passed d (Data v false e false) _ Unchanged refl h)
 
-pub validate-unchanged : (x : Bool) (d : PropertyDescriptor) (t : OwnProperty) (w : Value) → validate x d t ≡ Unchanged → AsksFrozen d w → frozen_as w t ≡ true
+pub validate-unchanged : (x : Bool) (d : PropertyDescriptor) (t : Option Property) (w : Value) → validate x d t ≡ Unchanged → AsksFrozen d w → frozen_as w t ≡ true
 unfolding validate reject_if
-validate-unchanged false d Absent w h a = absurd (false≢true cc)
-validate-unchanged true d Absent w h a = absurd (false≢true cc)
-validate-unchanged x d (Present t) w h a = unchanged d t w a (otherwise (has_no_fields d) Unchanged _ Unchanged (some-fields d w a) h)
+validate-unchanged false d None w h a = absurd (false≢true cc)
+validate-unchanged true d None w h a = absurd (false≢true cc)
+validate-unchanged x d (Some t) w h a = unchanged d t w a (otherwise (has_no_fields d) Unchanged _ Unchanged (some-fields d w a) h)
 
 -- IsCompatiblePropertyDescriptor on a property that is not configurable
 
-passed-compatible : (x : Bool) (d : PropertyDescriptor) (t : Property) → has_no_fields d ≡ false → configurable t ≡ false → is_compatible x d (Present t) ≡ true
-    → Passed d t (Becomes (applied d t)) (validate x d (Present t))
+passed-compatible : (x : Bool) (d : PropertyDescriptor) (t : Property) → has_no_fields d ≡ false → configurable t ≡ false → is_compatible x d (Some t) ≡ true
+    → Passed d t (Becomes (applied d t)) (validate x d (Some t))
 unfolding is_compatible validate
 passed-compatible x d t n c h =
-    let v = validate x d (Present t) in
+    let v = validate x d (Some t) in
     passed d t (Becomes (applied d t)) v h (otherwise (configurable t) _ _ v c (otherwise (has_no_fields d) Unchanged _ v n refl))
 
-pub compatible-accessor : (x : Bool) (d : PropertyDescriptor) (g s : Value) (e : Bool) (w : Value) → AsksFrozen d w → is_compatible x d (Present (Accessor g s e false)) ≡ true → ⊥
+pub compatible-accessor : (x : Bool) (d : PropertyDescriptor) (g s : Value) (e : Bool) (w : Value) → AsksFrozen d w → is_compatible x d (Some (Accessor g s e false)) ≡ true → ⊥
 compatible-accessor x d g s e w a h = asked-accessor d g s e _ _ w a (passed-compatible x d (Accessor g s e false) (some-fields d w a) refl h)
 
-pub compatible-fixed : (x : Bool) (d : PropertyDescriptor) (v : Value) (e : Bool) (w : Value) → AsksFrozen d w → is_compatible x d (Present (Data v false e false)) ≡ true
+pub compatible-fixed : (x : Bool) (d : PropertyDescriptor) (v : Value) (e : Bool) (w : Value) → AsksFrozen d w → is_compatible x d (Some (Data v false e false)) ≡ true
     → same_value v w ≡ true
 unfolding is_compatible
 compatible-fixed x d v e w a h = asked-fixed d v e _ _ w h a (passed-compatible x d (Data v false e false) (some-fields d w a) refl h)
 
 -- what a descriptor that is compatible with a frozen property makes of it
-pub compatible-keeps : (x : Bool) (d : PropertyDescriptor) (w v : Value) (e : Bool) → has_no_fields d ≡ false → is_compatible x d (Present (Data w false e false)) ≡ true
-    → same_value w v ≡ true → frozen_as v (Present (applied d (Data w false e false))) ≡ true
+pub compatible-keeps : (x : Bool) (d : PropertyDescriptor) (w v : Value) (e : Bool) → has_no_fields d ≡ false → is_compatible x d (Some (Data w false e false)) ≡ true
+    → same_value w v ≡ true → frozen_as v (Some (applied d (Data w false e false))) ≡ true
 unfolding is_compatible
 compatible-keeps x d w v e n h f = applied-frozen d w v e _ _ h (passed-compatible x d (Data w false e false) n refl h) f

@@ -1,15 +1,12 @@
 -- What is known of the values of a descriptor and of a property is known of what validation makes of them. Assumes nothing.
+use Rattle.std.specs.Prelude.{Option, None, Some}
 use mathlib.Core.Path.{◌≡◌, refl, subst}
 use mathlib.Core.Bool.{Bool, true, false, cond, false≢true}
 use Rattle.value.specs.declared.Value.{Value}
 use Rattle.value.specs.declared.Value.TheVariants.{Undefined}
-use Rattle.property.specs.declared.Field.{Field}
-use Rattle.property.specs.declared.Field.TheVariants as field
 use Rattle.property.specs.declared.PropertyDescriptor.{PropertyDescriptor}
 use Rattle.property.specs.declared.Property.{Property}
 use Rattle.property.specs.declared.Property.TheVariants.{Data, Accessor}
-use Rattle.property.specs.declared.OwnProperty.{OwnProperty}
-use Rattle.property.specs.declared.OwnProperty.TheVariants.{Absent, Present}
 use Rattle.property.specs.declared.Validation.TheVariants.{Becomes}
 use Rattle.property.specs.Fields.{or_else, value_field, get_field, set_field}
 use Rattle.property.specs.Descriptor.{is_accessor_descriptor, is_data_descriptor, complete}
@@ -17,8 +14,8 @@ use Rattle.property.specs.Validate.{applied, reject_if, validate}
 use Rattle.property.proofs.ValidateLaws.{validate-changes}
 
 -- of the value of a field, if it has one
-abbrev pub FieldBy : (Value → Type 0) → Field → Type 0
-FieldBy Val f = (v : Value) → f ≡ field.Present v → Val v
+abbrev pub FieldBy : (Value → Type 0) → Option Value → Type 0
+FieldBy Val f = (v : Value) → f ≡ Some v → Val v
 
 pub record DescriptorBy (Val : Value → Type 0) (d : PropertyDescriptor) : Type 0 where
   pub value : FieldBy Val (value_field d.kind)
@@ -34,9 +31,9 @@ either P true h k = h
 either P false h k = k
 
 module _ {Val : Value → Type 0} where
-  or-else : (f : Field) (v : Value) → FieldBy Val f → Val v → Val (or_else f v)
-  or-else field.Absent v h m = m
-  or-else (field.Present u) v h m = h u refl
+  or-else : (f : Option Value) (v : Value) → FieldBy Val f → Val v → Val (or_else f v)
+  or-else None v h m = m
+  or-else (Some u) v h m = h u refl
 
   -- as it is of undefined, which stands where nothing else does
   module _ (m : Val Undefined) (d : PropertyDescriptor) (h : DescriptorBy Val d) where
@@ -49,8 +46,8 @@ module _ {Val : Value → Type 0} where
     applied_by (Data v w e c) n = either (PropertyBy Val) (is_accessor_descriptor d) (or-else _ _ h.get m, or-else _ _ h.set m) (or-else _ _ h.value n)
     applied_by (Accessor g s e c) n = either (PropertyBy Val) (is_data_descriptor d) (or-else _ _ h.value m) (or-else _ _ h.get n.0, or-else _ _ h.set n.1)
 
-    pub validate-by : (x : Bool) (t : OwnProperty) → ((q : Property) → t ≡ Present q → PropertyBy Val q) → (p : Property) → validate x d t ≡ Becomes p → PropertyBy Val p
+    pub validate-by : (x : Bool) (t : Option Property) → ((q : Property) → t ≡ Some q → PropertyBy Val q) → (p : Property) → validate x d t ≡ Becomes p → PropertyBy Val p
     unfolding validate reject_if
-    validate-by true Absent n p e = subst (PropertyBy Val) (let q : complete d ≡ p = cc in q) complete-by
-    validate-by false Absent n p e = absurd (false≢true cc)
-    validate-by x (Present t) n p e = subst (PropertyBy Val) (validate-changes x d t p e) (applied_by t (n t refl))
+    validate-by true None n p e = subst (PropertyBy Val) (let q : complete d ≡ p = cc in q) complete-by
+    validate-by false None n p e = absurd (false≢true cc)
+    validate-by x (Some t) n p e = subst (PropertyBy Val) (validate-changes x d t p e) (applied_by t (n t refl))

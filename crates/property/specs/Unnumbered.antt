@@ -1,11 +1,9 @@
 -- 10.1.6.3 without numbers: yes or no, and what becomes of the property. Assumes nothing.
-use Rattle.std.specs.Prelude.{Bool, true, false, not, ◌&&◌, cond}
+use Rattle.std.specs.Prelude.{Bool, true, false, not, ◌&&◌, cond, Option, None, Some}
 use Rattle.std.specs.Bool.{beq}
 use Rattle.property.specs.declared.PropertyDescriptor.{PropertyDescriptor}
 use Rattle.property.specs.declared.Property.{Property}
 use Rattle.property.specs.declared.Property.TheVariants.{Data, Accessor}
-use Rattle.property.specs.declared.OwnProperty.{OwnProperty}
-use Rattle.property.specs.declared.OwnProperty.TheVariants.{Absent, Present}
 use Rattle.property.specs.declared.Validation.{Validation}
 use Rattle.property.specs.declared.Validation.TheVariants as validation
 use Rattle.property.specs.Fields.{has, is_true, unlike, unlike_flag, value_field, writable_field, get_field, set_field, enumerable, configurable, is_accessor}
@@ -43,12 +41,12 @@ answer_fixed d current next =
     (cond (not (is_generic_descriptor d) && not (beq (is_accessor_descriptor d) (is_accessor current))) Answer.Rejected  -- 5.c
     (answer_kind d current next)))  -- 5.d, 5.e
 
-unfoldable pub unnumbered : Bool → PropertyDescriptor → OwnProperty → Answer
-unnumbered extensible d Absent =
+unfoldable pub unnumbered : Bool → PropertyDescriptor → Option Property → Answer
+unnumbered extensible d None =
     cond extensible
     (Answer.Becomes (complete d))  -- 2.c, 2.d, 2.e
     Answer.Rejected  -- 2.a
-unnumbered extensible d (Present current) =
+unnumbered extensible d (Some current) =
     cond (has_no_fields d) Answer.Unchanged  -- 4
     (cond (configurable current) (Answer.Becomes (applied d current))  -- 6, 7
     (answer_fixed d current (Answer.Becomes (applied d current))))  -- 5
@@ -59,7 +57,7 @@ is_yes Answer.Unchanged = true
 is_yes (Answer.Becomes p) = true
 
 -- the property after it
-abbrev pub stored : OwnProperty → Answer → OwnProperty
+abbrev pub stored : Option Property → Answer → Option Property
 stored current Answer.Rejected = current
 stored current Answer.Unchanged = current
-stored current (Answer.Becomes p) = Present p
+stored current (Answer.Becomes p) = Some p

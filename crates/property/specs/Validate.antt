@@ -1,44 +1,37 @@
 -- ECMA-262 10.1.6.3 ValidateAndApplyPropertyDescriptor, 10.1.6.2, and the merging of two descriptors. Assumes nothing.
-use Rattle.std.specs.Prelude.{ℕ, Bool, true, false, not, ◌&&◌, ◌||◌, cond}
+use Rattle.std.specs.Prelude.{ℕ, Bool, true, false, not, ◌&&◌, cond, Option, None, Some}
 use Rattle.std.specs.Bool.{beq}
-use Rattle.std.proofs.Math.Option.{Option, none, some}
 use Rattle.value.specs.declared.Value.{Value}
 use Rattle.value.specs.declared.Value.TheVariants.{Undefined}
-use Rattle.property.specs.declared.Flag.{Flag}
-use Rattle.property.specs.declared.Flag.TheVariants as flag
-use Rattle.property.specs.declared.Field.{Field}
-use Rattle.property.specs.declared.Field.TheVariants as field
 use Rattle.property.specs.declared.DescriptorKind.{DescriptorKind}
 use Rattle.property.specs.declared.DescriptorKind.TheVariants as kind
 use Rattle.property.specs.declared.PropertyDescriptor.{PropertyDescriptor}
 use Rattle.property.specs.declared.Property.{Property}
 use Rattle.property.specs.declared.Property.TheVariants.{Data, Accessor}
-use Rattle.property.specs.declared.OwnProperty.{OwnProperty}
-use Rattle.property.specs.declared.OwnProperty.TheVariants.{Absent, Present}
 use Rattle.property.specs.declared.ValidationTest.{ValidationTest}
 use Rattle.property.specs.declared.ValidationTest.TheVariants as test
 use Rattle.property.specs.declared.Validation.{Validation}
 use Rattle.property.specs.declared.Validation.TheVariants.{Rejected, Unchanged, Becomes}
-use Rattle.property.specs.Fields.{has, has_flag, is_true, unlike, unlike_flag, or_else, or_else_flag, value_field, writable_field, get_field, set_field, enumerable, configurable, is_accessor}
+use Rattle.property.specs.Fields.{has, is_true, unlike, unlike_flag, or_else, value_field, writable_field, get_field, set_field, enumerable, configurable, is_accessor}
 use Rattle.property.specs.Descriptor.{is_accessor_descriptor, is_data_descriptor, is_generic_descriptor, complete}
 
 abbrev pub has_no_fields : PropertyDescriptor → Bool
-has_no_fields d = is_generic_descriptor d && (not (has_flag d.enumerable) && not (has_flag d.configurable))
+has_no_fields d = is_generic_descriptor d && (not (has d.enumerable) && not (has d.configurable))
 
 -- step 6: what the descriptor makes of the property
 unfoldable pub applied : PropertyDescriptor → Property → Property
 applied d (Data v w e c) =
     cond (is_accessor_descriptor d)
     (Accessor (or_else (get_field d.kind) Undefined) (or_else (set_field d.kind) Undefined)  -- 6.a
-    (or_else_flag d.enumerable e) (or_else_flag d.configurable c))
-    (Data (or_else (value_field d.kind) v) (or_else_flag (writable_field d.kind) w)  -- 6.c
-    (or_else_flag d.enumerable e) (or_else_flag d.configurable c))
+    (or_else d.enumerable e) (or_else d.configurable c))
+    (Data (or_else (value_field d.kind) v) (or_else (writable_field d.kind) w)  -- 6.c
+    (or_else d.enumerable e) (or_else d.configurable c))
 applied d (Accessor g s e c) =
     cond (is_data_descriptor d)
-    (Data (or_else (value_field d.kind) Undefined) (or_else_flag (writable_field d.kind) false)  -- 6.b
-    (or_else_flag d.enumerable e) (or_else_flag d.configurable c))
+    (Data (or_else (value_field d.kind) Undefined) (or_else (writable_field d.kind) false)  -- 6.b
+    (or_else d.enumerable e) (or_else d.configurable c))
     (Accessor (or_else (get_field d.kind) g) (or_else (set_field d.kind) s)  -- 6.c
-    (or_else_flag d.enumerable e) (or_else_flag d.configurable c))
+    (or_else d.enumerable e) (or_else d.configurable c))
 
 -- 'if .., return false', with the test that fails; else the page goes on
 unfoldable pub reject_if : ValidationTest → Bool → Validation → Validation
@@ -70,11 +63,11 @@ validate_fixed d current next =
     (validate_kind d current next)))  -- 5.d, 5.e
 
 -- 10.1.6.3 ValidateAndApplyPropertyDescriptor ( O, P, extensible, Desc, current )
-unfoldable pub validate : Bool → PropertyDescriptor → OwnProperty → Validation
-validate extensible d Absent =
+unfoldable pub validate : Bool → PropertyDescriptor → Option Property → Validation
+validate extensible d None =
     reject_if test.Extensible (not extensible)  -- 2.a
     (Becomes (complete d))  -- 2.c, 2.d, 2.e
-validate extensible d (Present current) =
+validate extensible d (Some current) =
     cond (has_no_fields d) Unchanged  -- 4
     (cond (configurable current) (Becomes (applied d current))  -- 5, where it is configurable: 6, 7
     (validate_fixed d current (Becomes (applied d current))))  -- 5, else 6, 7
@@ -101,34 +94,34 @@ is_accepted Unchanged = true
 is_accepted (Becomes p) = true
 
 -- 10.1.6.2 IsCompatiblePropertyDescriptor ( Extensible, Desc, Current )
-unfoldable pub is_compatible : Bool → PropertyDescriptor → OwnProperty → Bool
+unfoldable pub is_compatible : Bool → PropertyDescriptor → Option Property → Bool
 is_compatible extensible d current = is_accepted (validate extensible d current)
 
 -- the property after validation: as it was, unless validation says what it becomes
-abbrev pub settled : OwnProperty → Validation → OwnProperty
+abbrev pub settled : Option Property → Validation → Option Property
 settled current (Rejected t) = current
 settled current Unchanged = current
-settled current (Becomes p) = Present p
+settled current (Becomes p) = Some p
 
 -- a property of the fields of a descriptor, if it has all that its kind needs
-abbrev pub data_of : Field → Flag → Flag → Flag → Option Property
-data_of (field.Present v) (flag.Present w) (flag.Present e) (flag.Present c) = some (Data v w e c)
-data_of (field.Present v) (flag.Present w) (flag.Present e) flag.Absent = none
-data_of (field.Present v) (flag.Present w) flag.Absent c = none
-data_of (field.Present v) flag.Absent e c = none
-data_of field.Absent w e c = none
+abbrev pub data_of : Option Value → Option Bool → Option Bool → Option Bool → Option Property
+data_of (Some v) (Some w) (Some e) (Some c) = Some (Data v w e c)
+data_of (Some v) (Some w) (Some e) None = None
+data_of (Some v) (Some w) None c = None
+data_of (Some v) None e c = None
+data_of None w e c = None
 
-abbrev pub accessor_of : Field → Field → Flag → Flag → Option Property
-accessor_of (field.Present g) (field.Present s) (flag.Present e) (flag.Present c) = some (Accessor g s e c)
-accessor_of (field.Present g) (field.Present s) (flag.Present e) flag.Absent = none
-accessor_of (field.Present g) (field.Present s) flag.Absent c = none
-accessor_of (field.Present g) field.Absent e c = none
-accessor_of field.Absent s e c = none
+abbrev pub accessor_of : Option Value → Option Value → Option Bool → Option Bool → Option Property
+accessor_of (Some g) (Some s) (Some e) (Some c) = Some (Accessor g s e c)
+accessor_of (Some g) (Some s) (Some e) None = None
+accessor_of (Some g) (Some s) None c = None
+accessor_of (Some g) None e c = None
+accessor_of None s e c = None
 
-abbrev pub populated : DescriptorKind → Flag → Flag → Option Property
+abbrev pub populated : DescriptorKind → Option Bool → Option Bool → Option Property
 populated (kind.Data v w) e c = data_of v w e c
 populated (kind.Accessor g s) e c = accessor_of g s e c
-populated kind.Generic e c = none
+populated kind.Generic e c = None
 
 unfoldable pub property_of : PropertyDescriptor → Option Property
 property_of d = populated d.kind d.enumerable d.configurable

@@ -1,31 +1,13 @@
 -- Columns written one after another, and the line that they make. Assumes nothing.
-use Prim.Native.Nat.{ℕ, zero, suc, ◌+◌, ◌<◌, ◌≤◌}
-use native.Mathlib.Numerals.{add-one}
+use Prim.Native.Nat.{ℕ, suc, ◌+◌}
 use native.Mathlib.Omega.{arith}
-use mathlib.Core.Path.{◌≡◌, refl, sym, ◌∙◌}
+use mathlib.Core.Path.{◌≡◌, sym, ◌∙◌}
 use mathlib.Core.List.{List, [], ◌∷◌, ◌++◌}
-use lib.ListN.{length, get_or, set, drop, replicate, drop_of_length-le}
-use lib.Seq.{sets, drop-cons}
+use lib.ListN.{length, set}
+use lib.Seq.{sets}
 use Rattle.record.specs.Characters.{space, line_feed}
 use Rattle.byte_records.proofs.ByteLaws.{sets-append}
-use Rattle.steps.specs.Page.{columns, padded}
-
--- spaces, one by one
-get_d_replicate : (n i : ℕ) → i < n → get_or (replicate n space) i 0 ≡ space
-get_d_replicate zero i h = absurd (omega arith)
-get_d_replicate (suc n) zero h = refl
-get_d_replicate (suc n) (suc i) h = get_d_replicate n i (omega arith)
-
-module _ (l : List ℕ) (at i : ℕ) where
-  pub fill-next : i < 18 → sets l (at + i) (drop i (padded 18 [])) ≡ sets (set l (at + i) space) (at + (i + 1)) (drop (i + 1) (padded 18 []))
-  unfolding padded
-  fill-next h =
-      let e : at + (i + 1) ≡ suc (at + i) = omega arith in
-      rw (e, drop-cons (replicate 18 space) i 0 h, add-one i, get_d_replicate 18 i h)
-
-  pub fill_end : 18 ≤ i → sets l (at + i) (drop i (padded 18 [])) ≡ l
-  unfolding padded
-  fill_end h = rw (drop_of_length-le (padded 18 []) {i = i} h)
+use Rattle.steps.specs.Page.{columns}
 
 -- a column, and the byte after it
 then : (column l : List ℕ) (i j n x : ℕ) (rest : List ℕ) → j ≡ i + length column → n ≡ suc j → sets l i (column ++ (x ∷ rest)) ≡ sets (set (sets l i column) j x) n rest

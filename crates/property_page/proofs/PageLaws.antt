@@ -1,31 +1,30 @@
 -- Lines written one after another, and the page that they make. Assumes nothing.
-use Prim.Native.Nat.{ℕ, ◌+◌, ◌*◌, ◌<◌, ◌≤◌}
+use Rattle.std.specs.Prelude.{Option, None, Some}
+use Rattle.std.proofs.Common.{drop-cons}
+use Prim.Native.Nat.{ℕ, suc, ◌+◌, ◌*◌, ◌<◌, ◌≤◌}
 use native.Mathlib.Omega.{arith}
 use mathlib.Core.Path.{◌≡◌, refl, sym, ◌∙◌}
 use mathlib.Core.Bool.{true, false≢true}
 use mathlib.Core.List.{List, ◌++◌, map}
-use lib.ListN.{length, get_or, take, drop}
+use lib.ListN.{length, get_or, take, drop, drop_of_length-le}
 use lib.Seq.{sets, sets-eq, take_at}
 use borrow.Author.Tests.{le-leb, lt-leb}
 use Rattle.value.specs.declared.PropertyKey.{PropertyKey}
 use Rattle.property.specs.declared.Property.{Property}
-use Rattle.property.specs.declared.OwnProperty.{OwnProperty}
-use Rattle.property.specs.declared.OwnProperty.TheVariants.{Absent, Present}
 use Rattle.text.specs.Table.{strings_of}
 use Rattle.store.specs.Store.{Store, World, own}
 use Rattle.store.specs.OwnKeys.{ordinary_own_property_keys}
 use Rattle.store.specs.Words.{store_of, world_of}
 use Rattle.store_read.specs.Answers.{key_from_word, Listed}
-use Rattle.store_read.proofs.ListLaws.{next_word, no_more, listed-length}
+use Rattle.store_read.proofs.ListLaws.{listed-length}
 use Rattle.internal_methods.specs.declared.Failure.{Failure}
 use Rattle.internal_methods.specs.Monad.{State, failed, done}
 use Rattle.byte_records.proofs.ByteLaws.{sets-append}
-use Rattle.calls.specs.declared.Progress.{Progress}
-use Rattle.calls.specs.declared.OwnPropertyOut.{OwnPropertyOut}
-use Rattle.calls.specs.declared.OwnPropertyOut.TheVariants as answer
-use Rattle.calls.specs.Outs.{state_of, out_own_property}
+use Rattle.calls.specs.declared.progress.Progress.{Progress}
+use Rattle.std.specs.Prelude.{Result, Ok, Err}
+use Rattle.calls.specs.Outs.{state_of, out}
 use Rattle.steps.specs.declared.Completion.TheVariants.{Page}
-use Rattle.steps.specs.declared.Outcome.TheVariants.{Result}
+use Rattle.steps.specs.declared.Outcome.TheVariants as outcome
 use Rattle.steps.specs.Perform as result
 use Rattle.steps.specs.Response.{report_of, refusal}
 use Rattle.steps.specs.Step.{output_holds}
@@ -34,30 +33,30 @@ use Rattle.steps.proofs.Pages.{length-line, length-names, length-page}
 use Rattle.reporting.specs.Memory.{shown, shown_by}
 
 -- a run of [[GetOwnProperty]] that is done
-module _ (sheet : List ℕ) (x : OwnPropertyOut) (d : OwnProperty) (s : State) (h : out_own_property sheet x ≡ done d s) where
-  pub read_done : {p : OwnProperty} {t : Progress} → x ≡ answer.Done p t → p ≡ d
-  read_done {p} {t} e = let z : done p (state_of sheet t) ≡ done d s = rw e at h in cc
+module _ (sheet : List ℕ) (x : Result (Option Property) Failure) (t : Progress) (d : Option Property) (s : State) (h : out sheet x t ≡ done d s) where
+  pub read_done : {p : Option Property} → x ≡ Ok p → p ≡ d
+  read_done {p} e = let z : done p (state_of sheet t) ≡ done d s = rw e at h in cc
 
-  pub read-failed : {f : Failure} {t : Progress} → x ≡ answer.Failed f t → ⊥
-  read-failed {f} {t} e = let z : failed f (state_of sheet t) ≡ done d s = rw e at h in false≢true cc
+  pub read-failed : {f : Failure} → x ≡ Err f → ⊥
+  read-failed {f} e = let z : failed f (state_of sheet t) ≡ done d s = rw e at h in false≢true cc
 
-module _ (σ : Store) (o : ℕ) (keys : List ℕ) (n i : ℕ) (out : List ℕ) (at : ℕ) where
+module _ (σ : Store) (o : ℕ) (keys : List ℕ) (i : ℕ) (out : List ℕ) (at : ℕ) where
   -- the lines of the keys from i on
   abbrev left : ℕ → List ℕ
-  left j = lines (own_of σ o (map key_from_word (drop j (take n keys))))
+  left j = lines (own_of σ o (map key_from_word (drop j keys)))
 
-  pub line-next : (k : PropertyKey) (p : Property) → i < n → n ≤ length keys → k ≡ key_from_word (get_or keys i 0) → own σ o k ≡ Present p
+  pub line_next : (k : PropertyKey) (p : Property) → i < length keys → k ≡ key_from_word (get_or keys i 0) → own σ o k ≡ Some p
       → sets out at (left i) ≡ sets (sets out at (line k p)) (at + 47) (left (i + 1))
   unfolding own_of lines
-  line-next k p h l e f = rw (next_word keys n i l h, sym e, f) (sets-append (line k p) out at (left (i + 1)) ∙ rw (length-line k p))
+  line_next k p h e f = let q : i + 1 ≡ suc i = omega arith in rw (q, drop-cons keys i 0 h, sym e, f) (sets-append (line k p) out at (left (suc i)) ∙ rw (length-line k p))
 
-  pub line-none : (k : PropertyKey) → i < n → n ≤ length keys → k ≡ key_from_word (get_or keys i 0) → own σ o k ≡ Absent → sets out at (left i) ≡ sets out at (left (i + 1))
+  pub line_none : (k : PropertyKey) → i < length keys → k ≡ key_from_word (get_or keys i 0) → own σ o k ≡ None → sets out at (left i) ≡ sets out at (left (i + 1))
   unfolding own_of
-  line-none k h l e f = rw (next_word keys n i l h, sym e, f)
+  line_none k h e f = let q : i + 1 ≡ suc i = omega arith in rw (q, drop-cons keys i 0 h, sym e, f)
 
-  pub line-end : n ≤ i → n ≤ length keys → sets out at (left i) ≡ out
+  pub line_end : length keys ≤ i → sets out at (left i) ≡ out
   unfolding own_of lines
-  line-end h l = rw (no_more keys n i l h)
+  line_end h = rw (drop_of_length-le keys {i = i} h)
 
 -- what is set from the start on is the front
 front-set : (text l : List ℕ) → length text ≤ length l → sets l 0 text ≡ text ++ drop (length text) l
@@ -71,7 +70,7 @@ module _ (words cells : List ℕ) (o : ℕ) (output : List ℕ) where
 
   -- a text that stands at the output's start
   text-shown : (text out : List ℕ) (n : ℕ) → n ≡ length text → out ≡ text ++ drop (length text) output
-      → shown (record { outcome = Result (Page n); answers = 0; calls = 0 }) words cells out ≡ shown_by (writing ω text output true)
+      → shown (record { outcome = outcome.Result (Page n); answers = 0; calls = 0 }) words cells out ≡ shown_by (writing ω text output true)
   text-shown text out n e f = rw (e, f, take_at text (drop (length text) output) (length text) refl)
 
   module _ (z keys : List ℕ) (n : ℕ) (h : Listed z keys n (ordinary_own_property_keys (strings_of cells) (store_of words) o)) where
@@ -83,7 +82,7 @@ module _ (words cells : List ℕ) (o : ℕ) (output : List ℕ) where
     joined = rw h.listed (sym (sets-append names output 0 (lines (shown_on ω o)) ∙ rw length-names))
 
     pub page-put : (out : List ℕ) → 47 + 47 * n ≤ length output → out ≡ sets (sets output 0 names) 47 (lines (own_of (store_of words) o (map key_from_word (take n keys))))
-        → shown (record { outcome = Result (Page (47 + 47 * n)); answers = 0; calls = 0 }) words cells out
+        → shown (record { outcome = outcome.Result (Page (47 + 47 * n)); answers = 0; calls = 0 }) words cells out
         ≡ shown_by (writing ω (page ω o) output (output_holds (result.page (page ω o)) output))
     page-put out l e = rw (le-leb (length (page ω o)) (length output) (omega (arith, l, page-size))) (text-shown (page ω o) out (47 + 47 * n) page-size (e ∙ (joined ∙ front-set (page ω o) output (omega (arith, l, page-size)))))
 

@@ -1,4 +1,5 @@
 // A line of a page, in lent bytes: key, attributes, value or getter, setter.
+// Columns have fixed places in what the caller lends, so each is put there; `write!` into a String would take a heap.
 ghost use Rattle.std.specs.Prelude.{◌≡◌, [], ◌+◌, ◌≤◌, length};
 ghost use Rattle.std.proofs.lemmas.List.Edits.{sets};
 ghost use Rattle.steps.specs.Page.{names, padded, class_letter, key_column, mark, attributes_column, value_column, first_column, second_column, line};
@@ -17,20 +18,15 @@ pub fn put_names(out: &mut [u8])
     requires { 47 ≤ length out.old }
     ensures { out.new ≡ sets out.old 0 names }
 {
-    let text = *b"key  ecw value or get       set               \n";
-    let mut i: usize = 0;
-    while i < LINE_SIZE {
-        out[i] = text[i];
-        i += 1;
-    }
+    out[..LINE_SIZE].copy_from_slice(b"key  ecw value or get       set               \n");
 }
 
 fn class_letter(key: PropertyKey) -> u8
     ensures { result ≡ class_letter key }
 {
     match key {
-        PropertyKey::String(_) => 115,
-        PropertyKey::Symbol(_) => 121,
+        PropertyKey::String(_) => b's',
+        PropertyKey::Symbol(_) => b'y',
     }
 }
 
@@ -50,7 +46,7 @@ fn put_key(out: &mut [u8], at: usize, key: PropertyKey)
 fn mark(b: bool, letter: u8) -> u8
     ensures { result ≡ mark b letter }
 {
-    if b { letter } else { 46 }
+    if b { letter } else { b'.' }
 }
 
 fn put_attributes(out: &mut [u8], at: usize, p: Property)
@@ -59,14 +55,14 @@ fn put_attributes(out: &mut [u8], at: usize, p: Property)
 {
     match p {
         Property::Data(_, writable, enumerable, configurable) => {
-            out[at] = mark(enumerable, 101);
-            out[at + 1] = mark(configurable, 99);
-            out[at + 2] = mark(writable, 119);
+            out[at] = mark(enumerable, b'e');
+            out[at + 1] = mark(configurable, b'c');
+            out[at + 2] = mark(writable, b'w');
         }
         Property::Accessor(_, _, enumerable, configurable) => {
-            out[at] = mark(enumerable, 101);
-            out[at + 1] = mark(configurable, 99);
-            out[at + 2] = 45;
+            out[at] = mark(enumerable, b'e');
+            out[at + 1] = mark(configurable, b'c');
+            out[at + 2] = b'-';
         }
     }
 }
@@ -86,11 +82,7 @@ fn put_spaces(out: &mut [u8], at: usize)
     requires { at + 18 ≤ length out.old }
     ensures { out.new ≡ sets out.old at (padded 18 []) }
 {
-    let mut i: usize = 0;
-    while i < 18 {
-        out[at + i] = 32;
-        i += 1;
-    }
+    out[at..at + 18].copy_from_slice(&[b' '; 18]);
 }
 
 // The value or the getter.
@@ -99,11 +91,8 @@ fn put_first(out: &mut [u8], at: usize, p: Property)
     ensures { out.new ≡ sets out.old at (first_column p) }
 {
     match p {
-        Property::Data(value, _, _, _) => {
-            put_value(out, at, value);
-        }
-        Property::Accessor(getter, _, _, _) => {
-            put_value(out, at, getter);
+        Property::Data(first, _, _, _) | Property::Accessor(first, _, _, _) => {
+            put_value(out, at, first)
         }
     }
 }
@@ -114,12 +103,8 @@ fn put_second(out: &mut [u8], at: usize, p: Property)
     ensures { out.new ≡ sets out.old at (second_column p) }
 {
     match p {
-        Property::Data(_, _, _, _) => {
-            put_spaces(out, at);
-        }
-        Property::Accessor(_, setter, _, _) => {
-            put_value(out, at, setter);
-        }
+        Property::Data(_, _, _, _) => put_spaces(out, at),
+        Property::Accessor(_, setter, _, _) => put_value(out, at, setter),
     }
 }
 
@@ -129,11 +114,11 @@ pub fn put_line(out: &mut [u8], at: usize, key: PropertyKey, p: Property)
     ensures { out.new ≡ sets out.old at (line key p) }
 {
     put_key(out, at, key);
-    out[at + 4] = 32;
+    out[at + 4] = b' ';
     put_attributes(out, at + 5, p);
-    out[at + 8] = 32;
+    out[at + 8] = b' ';
     put_first(out, at + 9, p);
-    out[at + 27] = 32;
+    out[at + 27] = b' ';
     put_second(out, at + 28, p);
-    out[at + 46] = 10;
+    out[at + 46] = b'\n';
 }

@@ -1,14 +1,15 @@
 // 10.1.1 and 10.5.1 [[GetPrototypeOf]].
-// set_prototype, set_prototype_trap: 10.1.2 and 10.5.2 [[SetPrototypeOf]]. chain: the walk of 10.1.2.1 step 7.
-#![tactic(auto)]
+// set_prototype: 10.1.2 and 10.5.2 [[SetPrototypeOf]]. chain: the walk of 10.1.2.1 step 7.
+#![tactic(auto, using(calls::proofs::Steps::steps, calls::proofs::EnterLaws::get_prototype_of_goes_on), unfolding(internal_methods::specs::Proxy::proxy_get_prototype_of))]
 
 ghost use Rattle.std.specs.Prelude.{◌≡◌};
 ghost use Rattle.internal_methods.specs.Ordinary.{ordinary_get_prototype_of};
 ghost use Rattle.internal_methods.specs.Proxy.{proxy_get_prototype_of};
 ghost use Rattle.internal_methods.specs.Internal.{methods};
-ghost use Rattle.calls.specs.Outs.{Readable, context, state_of, out_value};
+ghost use Rattle.calls.specs.Outs.{context_of, out, state_of};
 
-use calls::{BooleanOut, Entered, Progress, ValueOut, answers};
+use calls::{Entered, Progress, Run, answers};
+use extensibility::is_extensible;
 use internal_methods::Failure;
 use store::{OrdinaryObject, ProxyObject};
 use value::Value;
@@ -16,7 +17,6 @@ use value_operations::equality;
 
 mod chain;
 mod set_prototype;
-mod set_prototype_trap;
 
 pub use set_prototype::set_prototype_of;
 
@@ -30,73 +30,40 @@ fn ordinary_get_prototype_of(object: OrdinaryObject) -> Value
 // O.[[GetPrototypeOf]]()
 #[cycle(get_prototype_of_proxy_exotic_get_prototype_of)]
 pub fn get_prototype_of(
-    words: &[u64],
-    strings: &[u16],
-    allowance: usize,
-    sheet: &[u8],
+    run: &Run<'_>,
     o: u64,
     depth: usize,
-    s: Progress,
-) -> ValueOut
-    requires { Readable words.now strings.now }
-    ensures { out_value sheet.now result ≡ ((methods depth (context words.now strings.now allowance)).get_prototype_of o).run (state_of sheet.now s) }
+    progress: &mut Progress,
+) -> Result<Value, Failure>
+    ensures { out run.now.sheet.now result progress.new ≡ ((methods depth (context_of run.now)).get_prototype_of o).run (state_of run.now.sheet.now progress.old) }
 {
-    match calls::enter(words, o, 0, depth, s) {
-        Entered::Failed(f, t) => {
-            return ValueOut::Failed(f, t);
-        }
-        Entered::Ordinary(q, _, t) => {
-            let object = calls::ordinary_at(words, q);
-            return ValueOut::Done(ordinary_get_prototype_of(object), t);
-        }
-        Entered::Proxy(p, n, t) => {
-            return proxy_exotic_get_prototype_of(words, strings, allowance, sheet, p, n, t);
-        }
+    match calls::enter(run.store, o, 0, depth, progress)? {
+        Entered::Ordinary(q, _) => Ok(ordinary_get_prototype_of(calls::ordinary_at(run.store, q))),
+        Entered::Proxy(p, n) => proxy_exotic_get_prototype_of(run, p, n, progress),
     }
 }
 
 // 10.5.1 [[GetPrototypeOf]] ( )
 #[cycle(get_prototype_of_proxy_exotic_get_prototype_of)]
 fn proxy_exotic_get_prototype_of(
-    words: &[u64],
-    strings: &[u16],
-    allowance: usize,
-    sheet: &[u8],
+    run: &Run<'_>,
     p: ProxyObject,
     depth: usize,
-    s: Progress,
-) -> ValueOut
-    requires { Readable words.now strings.now }
-    ensures { out_value sheet.now result ≡ (proxy_get_prototype_of (methods depth (context words.now strings.now allowance)) p).run (state_of sheet.now s) }
+    progress: &mut Progress,
+) -> Result<Value, Failure>
+    ensures { out run.now.sheet.now result progress.new ≡ (proxy_get_prototype_of (methods depth (context_of run.now)) p).run (state_of run.now.sheet.now progress.old) }
 {
-    let target = p.target;
-    if calls::has_trap(p, 0) {
-        match answers::next_prototype(sheet, s) {
-            ValueOut::Failed(f, t) => ValueOut::Failed(f, t), // 7, 8
-            ValueOut::Done(answer, t) => {
-                match extensibility::is_extensible(
-                    words, strings, allowance, sheet, target, depth, t,
-                ) {
-                    BooleanOut::Failed(f, u) => ValueOut::Failed(f, u), // 9
-                    BooleanOut::Done(extensible, u) => {
-                        if extensible {
-                            return ValueOut::Done(answer, u); // 10
-                        }
-                        match get_prototype_of(words, strings, allowance, sheet, target, depth, u) {
-                            ValueOut::Failed(f, w) => ValueOut::Failed(f, w), // 11
-                            ValueOut::Done(prototype, w) => {
-                                if equality::same_value(answer, prototype) {
-                                    ValueOut::Done(answer, w) // 13
-                                } else {
-                                    ValueOut::Failed(Failure::TypeError(3), w) // 12
-                                }
-                            }
-                        }
-                    }
-                }
-            }
-        }
-    } else {
-        get_prototype_of(words, strings, allowance, sheet, target, depth, s) // 6
+    if !calls::has_trap(p, 0) {
+        return get_prototype_of(run, p.target, depth, progress); // 6
     }
+    let answer = answers::next_prototype(run.sheet, progress)?; // 7, 8
+    let extensible = is_extensible(run, p.target, depth, progress)?; // 9
+    if extensible {
+        return Ok(answer); // 10
+    }
+    let prototype = get_prototype_of(run, p.target, depth, progress)?; // 11
+    if !equality::same_value(answer, prototype) {
+        return Err(Failure::TypeError(3)); // 12
+    }
+    Ok(answer) // 13
 }

@@ -1,9 +1,9 @@
 -- Bytes in hexadecimal digits: how many there are, that they are printable, and that they tell the bytes. Assumes nothing.
+use Rattle.std.specs.Prelude.{Some}
 use Prim.Native.Nat.{ℕ, zero, suc, ◌+◌, ◌-◌, ◌*◌, ◌/◌, ◌%◌, ◌<◌, ◌≤◌}
 use native.Mathlib.Omega.{arith}
 use mathlib.Core.Path.{◌≡◌, refl}
 use mathlib.Core.Bool.{Bool, true, false, ◌&&◌, cond}
-use mathlib.Core.Option.{some}
 use mathlib.Core.List.{List, [], ◌∷◌, ◌++◌}
 use lib.Dec.{ltb, leb}
 use lib.ListN.{length}
@@ -40,11 +40,11 @@ digit-printable n digits h e = go (ltb n 10)
 
 -- Reading back ----------------------------------------------------------------------------
 
-digit-back : (n : ℕ) → n < 16 → digit_of (cond (ltb n 10) (48 + n) (87 + n)) ≡ some n
+digit-back : (n : ℕ) → n < 16 → digit_of (cond (ltb n 10) (48 + n) (87 + n)) ≡ Some n
 unfolding digit_of
 digit-back n h = go (ltb n 10) refl
   where
-    go : (b : Bool) → ltb n 10 ≡ b → digit_of (cond b (48 + n) (87 + n)) ≡ some n
+    go : (b : Bool) → ltb n 10 ≡ b → digit_of (cond b (48 + n) (87 + n)) ≡ Some n
     go true e =
         let l = ltb-true n 10 e in
         let z : 48 + n - 48 ≡ n = omega arith in
@@ -58,7 +58,7 @@ unfoldable AreBytes : List ℕ → Type 0
 AreBytes [] = Unit {0}
 AreBytes (b ∷ bytes) = (b < 256) × AreBytes bytes
 
-bytes_back : (bytes : List ℕ) → AreBytes bytes → bytes_in (hexadecimal bytes) ≡ some bytes
+bytes_back : (bytes : List ℕ) → AreBytes bytes → bytes_in (hexadecimal bytes) ≡ Some bytes
 unfolding AreBytes hexadecimal bytes_in
 bytes_back [] h = refl
 bytes_back (b ∷ bytes) h =
@@ -87,7 +87,7 @@ kind-small (value.Symbol s) = omega arith
 kind-small (value.Object o) = omega arith
 kind-small (value.Function f) = omega arith
 
-pub value-digits-back : (v : Value) → bytes_in (hexadecimal (value_bytes v)) ≡ some (value_bytes v)
+pub value-digits-back : (v : Value) → bytes_in (hexadecimal (value_bytes v)) ≡ Some (value_bytes v)
 unfolding AreBytes value_bytes
 value-digits-back v = bytes_back (kind_of v ∷ bytes_of 8 (payload_of v)) (kind-small v, low-bytes 8 (payload_of v))
 

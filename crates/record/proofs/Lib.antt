@@ -1,4 +1,3 @@
 pub mod RoundTrip
 pub mod CharacterLaws
-pub mod RefusalLaws
 pub mod SheetLength

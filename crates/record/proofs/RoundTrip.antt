@@ -1,4 +1,5 @@
 -- What is written in bytes reads back: values, descriptors, steps and answer sheets. Assumes nothing.
+use Rattle.std.specs.Prelude.{Option, None, Some}
 use Prim.Native.Nat.{ℕ, zero, suc, ◌+◌, ◌*◌, ◌/◌, ◌^◌, ◌≤◌, ◌<◌, zero-le, suc-le-suc}
 use native.Mathlib.Nat.{le_trans, zero-lt-suc, add-zero, pow-suc, mod-add-div, div-lt_iff_lt-mul}
 use native.Mathlib.Numerals.{add-one}
@@ -20,12 +21,8 @@ use Rattle.value.specs.declared.Value.{Value}
 use Rattle.value.specs.declared.Value.TheVariants.{Undefined, Null, Boolean, Integer32, Float64, String, Symbol, Object, Function}
 use Rattle.value.specs.Words.{kind_of, payload_of, value_of, is_formed}
 use Rattle.value.proofs.Bools.{and-true, and_both, beq-eq}
-use Rattle.property.specs.declared.Flag.{Flag}
-use Rattle.property.specs.declared.Flag.TheVariants as flag
-use Rattle.property.specs.declared.Field.{Field}
-use Rattle.property.specs.declared.Field.TheVariants as field
 use Rattle.property.specs.declared.DescriptorObject.{DescriptorObject}
-use Rattle.property.specs.Fields.{has, has_flag, is_true, or_else}
+use Rattle.property.specs.Fields.{has, is_true, or_else}
 use Rattle.internal_methods.specs.Monad.{Answer, value, descriptor, keys, throw}
 use Rattle.record.specs.declared.Step.{Step}
 use Rattle.record.specs.Bytes.{byte_at, number_at, bytes_of, are_zero, value_at, is_value_at, value_bytes, is_part_at}
@@ -205,9 +202,9 @@ flags-made a b c =
 record Bits (m n : ℕ) (d : DescriptorObject) : Type 0 where
   mask-small : ltb m 64 ≡ true
   flags-small : ltb n 8 ≡ true
-  has-enumerable : bit m 0 ≡ has_flag d.enumerable
-  has-configurable : bit m 1 ≡ has_flag d.configurable
-  has-writable : bit m 2 ≡ has_flag d.writable
+  has-enumerable : bit m 0 ≡ has d.enumerable
+  has-configurable : bit m 1 ≡ has d.configurable
+  has-writable : bit m 2 ≡ has d.writable
   has_value : bit m 3 ≡ has d.value
   has-get : bit m 4 ≡ has d.get
   has-set : bit m 5 ≡ has d.set
@@ -217,7 +214,7 @@ record Bits (m n : ℕ) (d : DescriptorObject) : Type 0 where
 
 bits : (d : DescriptorObject) → Bits (mask_of d) (flags_of d) d
 bits d =
-    let (small, h₀) = and-true _ _ (mask-made (has_flag d.enumerable) (has_flag d.configurable) (has_flag d.writable) (has d.value) (has d.get) (has d.set)) in
+    let (small, h₀) = and-true _ _ (mask-made (has d.enumerable) (has d.configurable) (has d.writable) (has d.value) (has d.get) (has d.set)) in
     let (b₀, h₁) = and-true _ _ h₀ in
     let (b₁, h₂) = and-true _ _ h₁ in
     let (b₂, h₃) = and-true _ _ h₂ in
@@ -240,25 +237,25 @@ bits d =
       writable = beq-eq _ _ c₂;
     }
 
-flag_is : (x : Flag) (a b : Bool) → a ≡ has_flag x → b ≡ is_true x → flag_of a b ≡ x
-flag_is flag.Absent a b e f = ap (λ (t : Bool). flag_of t b) e
-flag_is (flag.Present t) a b e f = ap (λ (u : Bool). flag_of u b) e ∙ ap flag.Present f
+flag_is : (x : Option Bool) (a b : Bool) → a ≡ has x → b ≡ is_true x → flag_of a b ≡ x
+flag_is None a b e f = ap (λ (t : Bool). flag_of t b) e
+flag_is (Some t) a b e f = ap (λ (u : Bool). flag_of u b) e ∙ ap Some f
 
-flag-formed : (x : Flag) (a b : Bool) → a ≡ has_flag x → b ≡ is_true x → (a || not b) ≡ true
-flag-formed flag.Absent a b e f = rw (e, f)
-flag-formed (flag.Present t) a b e f = rw e
+flag-formed : (x : Option Bool) (a b : Bool) → a ≡ has x → b ≡ is_true x → (a || not b) ≡ true
+flag-formed None a b e f = rw (e, f)
+flag-formed (Some t) a b e f = rw e
 
 -- the value of a field that is present fits
-abbrev pub FitsField : Field → Type 0
-FitsField field.Absent = Unit {0}
-FitsField (field.Present v) = Fits v
+abbrev pub FitsField : Option Value → Type 0
+FitsField None = Unit {0}
+FitsField (Some v) = Fits v
 
 pub record FitsDescriptor (d : DescriptorObject) : Type 0 where
   pub value : FitsField d.value
   pub get : FitsField d.get
   pub set : FitsField d.set
 
-abbrev field_bytes : Field → List ℕ
+abbrev field_bytes : Option Value → List ℕ
 field_bytes x = value_bytes (or_else x Undefined)
 
 pub length-descriptor : (d : DescriptorObject) → length (descriptor_bytes d) ≡ 29
@@ -266,14 +263,14 @@ unfolding descriptor_bytes value_bytes bytes_of
 length-descriptor d = refl
 
 module _ (bytes : List ℕ) where
-  field_is : (i : ℕ) (x : Field) (b : Bool) → b ≡ has x → FitsField x → Stand bytes i (field_bytes x) → field_of b bytes i ≡ x
-  field_is i field.Absent b e f s = ap (λ (t : Bool). field_of t bytes i) e
-  field_is i (field.Present v) b e f s = ap (λ (t : Bool). field_of t bytes i) e ∙ ap field.Present (value-is bytes i v f s)
+  field_is : (i : ℕ) (x : Option Value) (b : Bool) → b ≡ has x → FitsField x → Stand bytes i (field_bytes x) → field_of b bytes i ≡ x
+  field_is i None b e f s = ap (λ (t : Bool). field_of t bytes i) e
+  field_is i (Some v) b e f s = ap (λ (t : Bool). field_of t bytes i) e ∙ ap Some (value-is bytes i v f s)
 
-  field-formed : (i : ℕ) (x : Field) (b : Bool) → b ≡ has x → FitsField x → Stand bytes i (field_bytes x) → is_part_at b bytes i ≡ true
+  field-formed : (i : ℕ) (x : Option Value) (b : Bool) → b ≡ has x → FitsField x → Stand bytes i (field_bytes x) → is_part_at b bytes i ≡ true
   unfolding is_part_at are_zero value_bytes payload_of
-  field-formed i field.Absent b e f s = rw e (rw s.0 (zero-at bytes 8 (suc i) s.1))
-  field-formed i (field.Present v) b e f s = rw e (value-formed bytes i v f s)
+  field-formed i None b e f s = rw e (rw s.0 (zero-at bytes 8 (suc i) s.1))
+  field-formed i (Some v) b e f s = rw e (value-formed bytes i v f s)
 
 -- the parts of a descriptor at i
 record Parts (bytes : List ℕ) (i : ℕ) (d : DescriptorObject) : Type 0 where

@@ -1,6 +1,5 @@
 -- Characters of texts: separators, numbers in decimal digits, bytes in lowercase hexadecimal ones and back. Assumes nothing.
-use Rattle.std.specs.Prelude.{ℕ, zero, suc, ◌+◌, ◌-◌, ◌*◌, ◌/◌, ◌%◌, Bool, true, ◌&&◌, cond, List, [], ◌∷◌, ◌++◌, ltb, leb}
-use Rattle.std.proofs.Math.Option.{Option, none, some}
+use Rattle.std.specs.Prelude.{ℕ, zero, suc, ◌+◌, ◌-◌, ◌*◌, ◌/◌, ◌%◌, Bool, true, ◌&&◌, cond, List, [], ◌∷◌, ◌++◌, ltb, leb, Option, None, Some}
 
 abbrev pub space : ℕ
 space = 32
@@ -31,16 +30,16 @@ hexadecimal (b ∷ bytes) = digit_for (b / 16) ∷ digit_for (b % 16) ∷ hexade
 
 -- the number that a digit is: 0 to 9, a to f
 unfoldable pub digit_of : ℕ → Option ℕ
-digit_of b = cond (leb 48 b && leb b 57) (some (b - 48)) (cond (leb 97 b && leb b 102) (some (b - 87)) none)
+digit_of b = cond (leb 48 b && leb b 57) (Some (b - 48)) (cond (leb 97 b && leb b 102) (Some (b - 87)) None)
 
 abbrev pub with_byte : Option ℕ → Option ℕ → Option (List ℕ) → Option (List ℕ)
-with_byte none low rest = none
-with_byte (some high) none rest = none
-with_byte (some high) (some low) none = none
-with_byte (some high) (some low) (some bytes) = some ((16 * high + low) ∷ bytes)
+with_byte None low rest = None
+with_byte (Some high) None rest = None
+with_byte (Some high) (Some low) None = None
+with_byte (Some high) (Some low) (Some bytes) = Some ((16 * high + low) ∷ bytes)
 
 -- the bytes that digits are, two for each; none where one is no digit or the last byte has one alone
 unfoldable pub bytes_in : List ℕ → Option (List ℕ)
-bytes_in [] = some []
-bytes_in (a ∷ []) = none
+bytes_in [] = Some []
+bytes_in (a ∷ []) = None
 bytes_in (a ∷ b ∷ digits) = with_byte (digit_of a) (digit_of b) (bytes_in digits)

@@ -1,25 +1,22 @@
 -- A descriptor is 29 bytes: a presence mask, a byte of booleans, then value, get and set. Assumes nothing.
-use Rattle.std.specs.Prelude.{ℕ, ◌+◌, Bool, true, false, not, ◌&&◌, ◌||◌, List, ◌∷◌, ◌++◌, ltb}
+use Rattle.std.specs.Prelude.{ℕ, ◌+◌, Bool, true, false, not, ◌&&◌, ◌||◌, List, ◌∷◌, ◌++◌, ltb, Option, None, Some}
 use Rattle.value.specs.Bits.{bit, weight}
 use Rattle.value.specs.declared.Value.TheVariants.{Undefined}
-use Rattle.property.specs.declared.Flag.{Flag}
-use Rattle.property.specs.declared.Flag.TheVariants as flag
-use Rattle.property.specs.declared.Field.{Field}
-use Rattle.property.specs.declared.Field.TheVariants as field
 use Rattle.property.specs.declared.DescriptorObject.{DescriptorObject}
-use Rattle.property.specs.Fields.{has, has_flag, is_true, or_else}
+use Rattle.property.specs.Fields.{has, is_true, or_else}
 use Rattle.record.specs.Bytes.{byte_at, value_at, is_part_at, value_bytes}
+use Rattle.value.specs.declared.Value.{Value}
 
 abbrev pub descriptor_size : ℕ
 descriptor_size = 29
 
-abbrev pub flag_of : Bool → Bool → Flag
-flag_of true b = flag.Present b
-flag_of false b = flag.Absent
+abbrev pub flag_of : Bool → Bool → Option Bool
+flag_of true b = Some b
+flag_of false b = None
 
-abbrev pub field_of : Bool → List ℕ → ℕ → Field
-field_of true bytes i = field.Present (value_at bytes i)
-field_of false bytes i = field.Absent
+abbrev pub field_of : Bool → List ℕ → ℕ → Option Value
+field_of true bytes i = Some (value_at bytes i)
+field_of false bytes i = None
 
 -- mask bits: enumerable 1, configurable 2, writable 4, value 8, get 16, set 32
 unfoldable pub descriptor_at : List ℕ → ℕ → DescriptorObject
@@ -54,7 +51,7 @@ is_descriptor_at bytes i =
 -- the presence mask, and the byte of booleans
 abbrev pub mask_of : DescriptorObject → ℕ
 mask_of d =
-    weight (has_flag d.enumerable) 1 + weight (has_flag d.configurable) 2 + weight (has_flag d.writable) 4
+    weight (has d.enumerable) 1 + weight (has d.configurable) 2 + weight (has d.writable) 4
     + weight (has d.value) 8 + weight (has d.get) 16 + weight (has d.set) 32
 
 abbrev pub flags_of : DescriptorObject → ℕ

@@ -1,12 +1,11 @@
 -- An answer sheet: a count, then that many answers; its length is exact. Assumes nothing.
-use Rattle.std.specs.Prelude.{ℕ, zero, suc, ◌+◌, ◌*◌, Bool, true, false, ◌&&◌, cond, List, [], ◌∷◌, ◌++◌, eqb, leb, ltb, length}
-use Rattle.std.proofs.Math.Option.{Option, none, some}
+use Rattle.std.specs.Prelude.{ℕ, zero, suc, ◌+◌, ◌*◌, Bool, true, false, ◌&&◌, List, [], ◌∷◌, ◌++◌, eqb, leb, ltb, length}
 use Rattle.value.specs.declared.Value.{Value}
 use Rattle.value.specs.Words.{pick}
 use Rattle.internal_methods.specs.Monad.{Answer, value, descriptor, keys, throw}
 use Rattle.record.specs.Bytes.{byte_at, number_at, bytes_of, value_size, value_at, is_value_at, value_bytes}
 use Rattle.record.specs.Descriptor.{descriptor_size, descriptor_at, is_descriptor_at, descriptor_bytes}
-use Rattle.record.specs.Tests.{Counts, is_made, is_known, descriptor_passes}
+use Rattle.record.specs.Tests.{descriptor_passes}
 
 -- n values from i on
 unfoldable pub values_at : List ℕ → ℕ → ℕ → List Value

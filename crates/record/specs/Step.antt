@@ -1,6 +1,5 @@
 -- A step is 58 bytes: code, object, key, value, receiver, descriptor. Assumes nothing.
-use Rattle.std.specs.Prelude.{ℕ, ◌+◌, Bool, true, false, not, ◌&&◌, ◌||◌, cond, List, [], ◌∷◌, ◌++◌, eqb, leb, pos, negsuc, length}
-use Rattle.std.proofs.Math.Option.{Option, none, some}
+use Rattle.std.specs.Prelude.{ℕ, Bool, true, false, not, ◌&&◌, ◌||◌, cond, List, ◌∷◌, ◌++◌, eqb, leb, pos, negsuc, length, Option, None, Some}
 use Rattle.value.specs.declared.Value.{Value}
 use Rattle.value.specs.declared.Value.TheVariants.{Undefined, Null, Boolean, Integer32, Float64, String, Symbol, Object, Function}
 use Rattle.value.specs.Bits.{bit}
@@ -112,8 +111,8 @@ unfoldable pub are_objects_made : Counts → Step → Bool
 are_objects_made n s = unless (uses_object s.code) (bit n.live s.object) && step_passes (is_made n) s
 
 abbrev pub is_some : {A : Type 0} → Option A → Bool
-is_some none = false
-is_some (some a) = true
+is_some None = false
+is_some (Some a) = true
 
 abbrev pub is_null_or_object : Value → Bool
 is_null_or_object v = eqb (kind_of v) 1 || (eqb (kind_of v) 7 || eqb (kind_of v) 8)

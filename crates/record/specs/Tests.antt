@@ -1,18 +1,11 @@
 -- Refusals 2, 3 and 4 over a value and a descriptor. Assumes nothing.
-use Rattle.std.specs.Prelude.{ℕ, List, [], ◌∷◌, Bool, true, false, not, ◌&&◌, ltb}
-use Rattle.std.proofs.Math.Option.{Option, none, some}
+use Rattle.std.specs.Prelude.{ℕ, List, [], ◌∷◌, Bool, true, false, not, ◌&&◌, ltb, Option, None, Some}
 use Rattle.value.specs.Bits.{bit}
 use Rattle.value.specs.declared.Value.{Value}
 use Rattle.value.specs.declared.Value.TheVariants.{Undefined, Null, Boolean, Integer32, Float64, String, Symbol, Object, Function}
-use Rattle.property.specs.declared.Field.{Field}
-use Rattle.property.specs.declared.Field.TheVariants.{Absent, Present}
 use Rattle.property.specs.declared.DescriptorObject.{DescriptorObject}
 use Rattle.property.specs.Descriptor.{is_uncallable, is_mixed}
 use Rattle.record.specs.declared.Counts as counts
-use Rattle.record.specs.declared.Test.{Test}
-use Rattle.record.specs.declared.Test.TheVariants.{Made, Known}
-use Rattle.record.specs.declared.Refusal.{Refusal}
-use Rattle.record.specs.declared.Refusal.TheVariants.{Passed, Failed}
 
 -- which objects are live and which are callable, and how many strings there are
 abbrev pub Counts : Type 0
@@ -42,14 +35,9 @@ is_known n (Symbol s) = ltb s 256
 is_known n (Object o) = not (bit n.callable o)
 is_known n (Function f) = bit n.callable f
 
--- what refusals 2 and 3 ask of each value
-abbrev pub asks : Test → Counts → Value → Bool
-asks Made n = is_made n
-asks Known n = is_known n
-
-abbrev pub field_passes : (Value → Bool) → Field → Bool
-field_passes test Absent = true
-field_passes test (Present v) = test v
+abbrev pub field_passes : (Value → Bool) → Option Value → Bool
+field_passes test None = true
+field_passes test (Some v) = test v
 
 -- a test of the values of a descriptor
 abbrev pub descriptor_passes : (Value → Bool) → DescriptorObject → Bool
@@ -61,14 +49,10 @@ is_descriptor d = not (is_mixed d) && (not (is_uncallable d.get) && not (is_unca
 
 -- the number of a test that does not pass, or what the later tests give
 abbrev pub failing : Bool → ℕ → Option ℕ → Option ℕ
-failing false n later = some n
+failing false n later = Some n
 failing true n later = later
 
 -- the number of the first test that does not pass
 unfoldable pub first_failing : List (ℕ × Bool) → Option ℕ
-first_failing [] = none
+first_failing [] = None
 first_failing (t ∷ ts) = failing t.1 t.0 (first_failing ts)
-
-abbrev pub refusal : Option ℕ → Refusal
-refusal none = Passed
-refusal (some i) = Failed i

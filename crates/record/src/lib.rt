@@ -21,17 +21,3 @@ pub struct Counts {
     pub strings: u64,
     pub callable: u64,
 }
-
-// The number of the first test that does not pass, if there is one.
-#[derive(Clone, Copy)]
-pub enum Refusal {
-    Passed,
-    Failed(u64),
-}
-
-// Refusals 2 and 3: what is asked of each value.
-#[derive(Clone, Copy)]
-pub enum Test {
-    Made,
-    Known,
-}

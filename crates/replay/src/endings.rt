@@ -1,51 +1,41 @@
-// What a call ends in, for comparing.
+// What a call ends in, for comparing; its completion is written.
 use crate::comparison::Ending;
-use crate::readout;
+use crate::readout::Bytes;
 use descriptor_entries::operations::Verdict;
 use reporting::report_words;
 use steps::Report;
 
-pub fn ended(report: Report, ours: &mut [u8]) -> Ending {
-    let outcome = report.outcome;
-    let answers = report.answers;
-    let size = readout::put_outcome(ours, outcome);
+pub fn ended(report: Report, completion: &mut Bytes<'_>) -> Ending {
+    completion.put_outcome(report.outcome);
     Ending {
-        outcome: report_words::outcome_number(outcome),
-        number: report_words::refusal_or_message(outcome),
-        answers: answers,
-        size: size,
+        outcome: report_words::outcome_number(report.outcome),
+        number: report_words::refusal_or_message(report.outcome),
+        answers: report.answers,
     }
 }
 
-pub fn refused(n: u64) -> Ending {
+fn refused(number: u64) -> Ending {
     Ending {
         outcome: 0,
-        number: n,
+        number,
         answers: 0,
-        size: 0,
     }
 }
 
-fn result(size: usize) -> Ending {
+pub fn result() -> Ending {
     Ending {
         outcome: 1,
         number: 0,
         answers: 0,
-        size: size,
     }
 }
 
-pub fn judged(verdict: Verdict, ours: &mut [u8]) -> Ending {
+pub fn judged(verdict: Result<Verdict, u64>, completion: &mut Bytes<'_>) -> Ending {
     match verdict {
-        Verdict::Refused(n) => refused(n),
-        Verdict::Verdict(accepted, test, own) => {
-            result(readout::put_verdict(ours, accepted, test, own))
+        Err(n) => refused(n),
+        Ok(v) => {
+            completion.put_verdict(v.accepted, v.failed_test, v.after);
+            result()
         }
     }
-}
-
-pub fn emptied(words: &mut [u64], strings: &mut [u16]) -> Ending {
-    store_write::make_empty(words);
-    text::make_empty(strings);
-    result(0)
 }

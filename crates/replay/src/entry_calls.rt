@@ -1,66 +1,83 @@
 // A call of an entry by its kind (tests/engines/1-records.js), and what it ends in.
-ghost use Rattle.std.specs.Prelude.{◌+◌, ◌*◌, true};
-
 use crate::comparison::Ending;
 use crate::endings;
-use byte_records::numbers;
+use crate::line_input::Call;
+use crate::readout::Bytes;
+use steps::Report;
 
 const UNKNOWN: u64 = 255;
 
-fn enter(strings: &mut [u16], bytes: &[u8], ours: &mut [u8]) -> Ending {
-    let mut units = [0u16; 64];
-    let size = numbers::unit_count(bytes);
-    let mut i: usize = 0;
-    while i < size {
-        units[i] = numbers::unit_at(bytes, 2 * i);
-        i += 1;
-    }
-    endings::ended(step::enter_string(strings, &units[..size]), ours)
+// The memory that calls are over.
+#[derive(Drop)]
+pub struct Memory {
+    pub words: [u64; 1670],
+    pub strings: [u16; 8449],
 }
 
-// The page of the object whose number the record holds.
-fn page(
-    words: &[u64],
-    strings: &[u16],
-    bytes: &[u8],
-    output: &mut [u8],
-    ours: &mut [u8],
-) -> Ending {
-    if bytes.len() < 8 {
-        return endings::refused(UNKNOWN);
+impl Memory {
+    pub fn new() -> Memory {
+        let mut memory = Memory {
+            words: [0; 1670],
+            strings: [0; 8449],
+        };
+        memory.make_empty();
+        memory
     }
-    let o = numbers::word_at(bytes, 0);
-    endings::ended(property_page::page(words, strings, o, output), ours)
-}
 
-// The completion is written to the start of ours.
-pub fn perform(
-    words: &mut [u64],
-    strings: &mut [u16],
-    kind: u8,
-    bytes: &[u8],
-    given: &[u8],
-    output: &mut [u8],
-    ours: &mut [u8],
-) -> Ending {
-    match kind {
-        0 => endings::emptied(words, strings),
-        1 => endings::ended(step::step(words, strings, bytes, given, output), ours),
-        2 => enter(strings, bytes, ours),
-        3 => endings::ended(descriptor_entries::complete(words, strings, bytes), ours),
-        4 => endings::judged(
-            descriptor_entries::validate(words, strings, false, bytes, given),
-            ours,
-        ),
-        5 => endings::judged(
-            descriptor_entries::validate(words, strings, true, bytes, given),
-            ours,
-        ),
-        6 => endings::ended(
-            descriptor_entries::merge(words, strings, given, bytes),
-            ours,
-        ),
-        7 => page(words, strings, bytes, output, ours),
-        _ => endings::refused(UNKNOWN),
+    fn make_empty(&mut self) {
+        store_write::make_empty(&mut self.words);
+        text::make_empty(&mut self.strings);
+    }
+
+    // Of a longer string the first 64 code units, which are too many too.
+    fn enter(&mut self, record: &[u8]) -> Report {
+        let chunks = record.as_chunks().0;
+        let mut units = [0; 64];
+        for (unit, bytes) in units.iter_mut().zip(chunks) {
+            *unit = u16::from_le_bytes(*bytes);
+        }
+        step::enter_string(&mut self.strings, &units[..chunks.len().min(64)])
+    }
+
+    // The page of the object whose number the record holds.
+    fn page(&self, record: &[u8], output: &mut [u8]) -> Report {
+        match record.first_chunk() {
+            Some(bytes) => {
+                let o = u64::from_le_bytes(*bytes);
+                property_page::page(&self.words, &self.strings, o, output)
+            }
+            None => reporting::refused(UNKNOWN),
+        }
+    }
+
+    // The completion is written where it is to stand.
+    pub fn perform(
+        &mut self,
+        call: &Call<'_>,
+        output: &mut [u8],
+        completion: &mut Bytes<'_>,
+    ) -> Ending {
+        let Memory { words, strings } = self;
+        let Call { record, given, .. } = *call;
+        let report = match call.kind {
+            0 => {
+                self.make_empty();
+                return endings::result();
+            }
+            1 => step::step(words, strings, record, given, output),
+            2 => self.enter(record),
+            3 => descriptor_entries::complete(words, strings, record),
+            4 | 5 => {
+                let extensible = call.kind == 5;
+                let verdict = descriptor_entries::validate(
+                    words, strings, extensible, record, given,
+                );
+                return endings::judged(verdict, completion);
+            }
+            6 => descriptor_entries::merge(words, strings, given, record),
+            7 => self.page(record, output),
+            _ => reporting::refused(UNKNOWN),
+        };
+        endings::ended(report, completion)
     }
 }

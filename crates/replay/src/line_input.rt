@@ -1,74 +1,66 @@
 // Lines of hexadecimal digits from the standard input.
-ghost use Rattle.std.specs.Prelude.{IfOk, ◌*◌, ◌≤◌, length};
-
 use std::io;
-use std::io::Read;
+use std::io::{ErrorKind, Read};
 
-// The value of a hexadecimal digit, and 16 of anything else.
-fn digit(b: u8) -> u8
-    ensures { result ≤ 16 }
-{
-    match b {
-        48..=57 => b - 48,
-        97..=102 => b - 87,
-        _ => 16,
+// The parts of a line: what is called, how much room there is for output, the record, what is given with it, and what is expected.
+// (What is called is a number of the format of these lines.)
+#[derive(Clone, Copy)]
+pub struct Call<'a> {
+    pub kind: u8,
+    pub room: u16,
+    pub record: &'a [u8],
+    pub given: &'a [u8],
+    pub expected: &'a [u8],
+}
+
+fn value_of(digit: u8) -> Option<u8> {
+    match digit {
+        b'0'..=b'9' => Some(digit - b'0'),
+        b'a'..=b'f' => Some(digit - b'a' + 10),
+        _ => None,
     }
 }
 
-fn is_digit(b: u8) -> bool {
-    digit(b) < 16
-}
-
-fn joined(high: u8, low: u8) -> u8 {
-    (digit(high) % 16) * 16 + digit(low) % 16
-}
-
-// Each two digits as a byte, n of them from the start; false where one is no digit.
-pub fn decode(text: &mut [u8], n: usize) -> bool
-    requires { 2 * n ≤ length text.old }
-{
-    let mut i: usize = 0;
-    let mut formed = true;
-    while i < n {
-        let high = text[2 * i];
-        let low = text[2 * i + 1];
-        formed = formed && is_digit(high) && is_digit(low);
-        text[i] = joined(high, low);
-        i += 1;
+// Each two digits as a byte.
+fn decode(digits: &[u8], bytes: &mut [u8]) -> io::Result<()> {
+    for (byte, [high, low]) in bytes.iter_mut().zip(digits.as_chunks::<2>().0) {
+        let (Some(high), Some(low)) = (value_of(*high), value_of(*low)) else {
+            return Err(io::Error::from(ErrorKind::InvalidData));
+        };
+        *byte = high << 4 | low;
     }
-    formed
+    Ok(())
 }
 
-pub fn fill(output: &mut [u8]) {
-    let n = output.len();
-    let mut i: usize = 0;
-    while i < n {
-        output[i] = 238;
-        i += 1;
+// The call of the next line, if there is one. A line that is cut off is an unexpected end, and another broken one is invalid data.
+pub fn read_call<'a>(
+    input: &mut impl Read,
+    digits: &mut [u8; 65536],
+    bytes: &'a mut [u8; 32768],
+) -> io::Result<Option<Call<'a>>> {
+    let mut head_digits = [0; 18];
+    let size = input.read(&mut head_digits)?;
+    if size == 0 {
+        return Ok(None);
     }
-}
-
-// Reads until the bytes are filled or the input ends, and answers how many were read.
-pub fn read_full(input: &mut impl Read, bytes: &mut [u8]) -> io::Result<usize>
-    ensures { IfOk result (λ size. size ≤ length bytes.new) }
-{
-    let mut done: usize = 0;
-    while done < bytes.len() {
-        let n = input.read(&mut bytes[done..])?;
-        if n == 0 {
-            return Ok(done);
-        }
-        done += n;
-    }
-    Ok(done)
-}
-
-// The rest of a line, decoded; false where it is broken off or has something else than digits.
-pub fn read_rest(input: &mut impl Read, text: &mut [u8], n: usize) -> io::Result<bool>
-    requires { 2 * n ≤ length text.old }
-{
-    if read_full(input, text)? < text.len() {
-        return Ok(false);
-    }
-    Ok(decode(text, n))
+    input.read_exact(&mut head_digits[size..])?;
+    let mut head = [0; 9];
+    decode(&head_digits, &mut head)?;
+    let short = |at: usize| u16::from_le_bytes([head[at], head[at + 1]]);
+    let record_end = usize::from(short(3));
+    let given_end = record_end + usize::from(short(5));
+    let end = given_end + usize::from(short(7));
+    let Some(digits) = digits.get_mut(..2 * end + 1) else {
+        return Err(io::Error::from(ErrorKind::InvalidData));
+    };
+    input.read_exact(digits)?;
+    let bytes = &mut bytes[..end];
+    decode(digits, bytes)?;
+    Ok(Some(Call {
+        kind: head[0],
+        room: short(1),
+        record: &bytes[..record_end],
+        given: &bytes[record_end..given_end],
+        expected: &bytes[given_end..],
+    }))
 }

@@ -5,7 +5,7 @@ use native.Mathlib.Omega.{arith}
 use mathlib.Core.Path.{◌≡◌, refl, sym}
 use mathlib.Core.Bool.{Bool, true, false, false≢true}
 use mathlib.Core.List.{List, [], ◌∷◌}
-use Rattle.value.specs.declared.Value.{Value}
+use Rattle.std.specs.Prelude.{Result, Ok, Err}
 use Rattle.store.specs.Store.{Store}
 use Rattle.store.specs.Words.{store_of, is_store, world_of}
 use Rattle.store_write.specs.declared.write.Write.{Write}
@@ -14,7 +14,7 @@ use Rattle.internal_methods.specs.declared.Failure.{Failure}
 use Rattle.internal_methods.specs.declared.Failure.TheVariants.{Refused, TypeError, Thrown}
 use Rattle.internal_methods.specs.Monad.{Answer, State, failed, done}
 use Rattle.record.specs.Sheet.{sheet_of}
-use Rattle.calls.specs.declared.Progress.{Progress}
+use Rattle.calls.specs.declared.progress.Progress.{Progress}
 use Rattle.calls.specs.Outs.{state_of}
 use Rattle.steps.specs.declared.Completion.{Completion}
 use Rattle.steps.specs.declared.Completion.TheVariants as completion
@@ -24,9 +24,8 @@ use Rattle.steps.specs.declared.Report.{Report}
 use Rattle.steps.specs.Response.{Effect}
 use Rattle.steps.specs.Step.{refusing_unread, ended}
 use Rattle.reporting.specs.declared.Performed.{Performed}
-use Rattle.reporting.specs.declared.Performed.TheVariants.{Failed, Done}
-use Rattle.reporting.specs.Performed.{Taken, out_performed, result_of, is_plain}
-use Rattle.reporting.specs.Reports.{unless_unread, failure_report, completion_report, performed_report, Written, Finished}
+use Rattle.reporting.specs.Performed.{Taken, out_performed, out_completed, Plain, result_of, is_plain}
+use Rattle.reporting.specs.Reports.{unless_unread, failure_report, completion_report, reported, performed_report, Written, Finished}
 use Rattle.reporting.specs.Memory.{shown, shown_by, Wrote, WroteBefore, WordsAfter}
 use Rattle.reporting.proofs.SheetLaws.{none_left, some_left}
 
@@ -81,18 +80,24 @@ module _ (words cells sheet output : List ℕ) where
   written-left after c w s (suc left) e h = let (a, (rest, q)) = some_left sheet s (omega (arith, e)) in rw q h
 
   -- what `finish` reports and leaves
-  pub finished : (after : List ℕ) (p : Performed) → Taken words p → Finished words after p
-      → shown (performed_report sheet p) after cells output ≡ shown_by (ended (world_of words cells) (sheet_of sheet) output (out_performed sheet (store_of words) p))
-  finished after (Failed f s) t e = rw e (failing f (state_of sheet s))
-  finished after (Done c w s) t e = completes-shown words cells output (sheet_of sheet) after (applied w (store_of words)) c (state_of sheet s) t.1 (written-left after c w s s.left refl e)
+  pub finished : (after : List ℕ) (r : Result Performed Failure) (s : Progress) → Taken words r → Finished words after r s
+      → shown (performed_report sheet r s) after cells output ≡ shown_by (ended (world_of words cells) (sheet_of sheet) output (out_performed sheet (store_of words) r s))
+  finished after (Err f) s t e = rw e (failing f (state_of sheet s))
+  finished after (Ok p) s t e = completes-shown words cells output (sheet_of sheet) after (applied p.write (store_of words)) p.completion (state_of sheet s) t.1 (written-left after p.completion p.write s s.left refl e)
+
+  -- what is reported of an operation that writes nothing
+  pub reports : (r : Result Completion Failure) (s : Progress) → Plain r
+      → shown (reported sheet r s) words cells output ≡ shown_by (ended (world_of words cells) (sheet_of sheet) output (out_completed sheet (store_of words) r s))
+  reports (Err f) s h = failing f (state_of sheet s)
+  reports (Ok c) s h = completing c (state_of sheet s) h
 
 -- the one write, by the answers left
 module _ (w : Write) (words after : List ℕ) (left : ℕ) where
-  pub is-written : left ≡ 0 → Becomes after (written_to w words) (applied w (store_of words)) → Written left w words after
-  is-written e h = rw e h
+  pub is_written : left ≡ 0 → Becomes after (written_to w words) (applied w (store_of words)) → Written left w words after
+  is_written e h = rw e h
 
-  pub is-unwritten : (left ≡ 0 → ⊥) → after ≡ words → Written left w words after
-  is-unwritten h e = go left h
+  pub is_unwritten : (left ≡ 0 → ⊥) → after ≡ words → Written left w words after
+  is_unwritten h e = go left h
     where
       go : (n : ℕ) → (n ≡ 0 → ⊥) → Written n w words after
       go zero i = absurd (i refl)
@@ -115,14 +120,14 @@ module _ (words after : List ℕ) (h : is_store words ≡ true) (e : after ≡ w
   kept-words in_turn (outcome.Thrown v) = not-written-before in_turn
 
 -- the words after one write
-pub finished-words : (words sheet : List ℕ) → is_store words ≡ true → (in_turn : Bool) (after : List ℕ) (p : Performed) → Finished words after p → WordsAfter in_turn (performed_report sheet p).outcome words after
+pub finished-words : (words sheet : List ℕ) → is_store words ≡ true → (in_turn : Bool) (after : List ℕ) (r : Result Performed Failure) (s : Progress) → Finished words after r s → WordsAfter in_turn (performed_report sheet r s).outcome words after
 unfolding written_all
-finished-words words sheet h in_turn after (Failed f s) e = kept-words words after h e in_turn (failure_report (sheet_of sheet) f (state_of sheet s)).outcome
-finished-words words sheet h in_turn after (Done c w s) e = by_left s.left refl e
+finished-words words sheet h in_turn after (Err f) s e = kept-words words after h e in_turn (failure_report (sheet_of sheet) f (state_of sheet s)).outcome
+finished-words words sheet h in_turn after (Ok p) s e = by_left s.left refl e
   where
-    by_left : (left : ℕ) → s.left ≡ left → Written left w words after → WordsAfter in_turn (completion_report (sheet_of sheet) c (state_of sheet s)).outcome words after
-    by_left zero q i = rw (none_left sheet s q) (record { committed = record { writes = w ∷ []; words = i.words; kept = i.kept }; one = λ _. le_refl 1 })
-    by_left (suc left) q i = kept-words words after h i in_turn (completion_report (sheet_of sheet) c (state_of sheet s)).outcome
+    by_left : (left : ℕ) → s.left ≡ left → Written left p.write words after → WordsAfter in_turn (completion_report (sheet_of sheet) p.completion (state_of sheet s)).outcome words after
+    by_left zero q i = rw (none_left sheet s q) (record { committed = record { writes = p.write ∷ []; words = i.words; kept = i.kept }; one = λ _. le_refl 1 })
+    by_left (suc left) q i = kept-words words after h i in_turn (completion_report (sheet_of sheet) p.completion (state_of sheet s)).outcome
 
 abbrev pub is_refused : Outcome → Bool
 is_refused (outcome.Refused n) = true

@@ -14,7 +14,7 @@ use Rattle.record.specs.Sheet.{sheet_of, is_sheet}
 use Rattle.record.proofs.SheetLength.{sheet-length}
 use Rattle.sheet.specs.Next.{answers_from}
 use Rattle.sheet.proofs.FromLaws.{from-length, sheet-from}
-use Rattle.calls.specs.declared.Progress.{Progress}
+use Rattle.calls.specs.declared.progress.Progress.{Progress}
 use Rattle.calls.specs.Outs.{state_of}
 use Rattle.steps.specs.declared.Outcome.{Outcome}
 use Rattle.steps.specs.Response.{report_of, refusal}
@@ -38,18 +38,18 @@ module _ (sheet : List ℕ) (s : Progress) where
       go (a ∷ rest) i = (a, (rest, refl))
 
 module _ (sheet : List ℕ) (h : is_sheet sheet ≡ true) where
-  pub sheet-there : 0 < length sheet
+  pub sheet_there : 0 < length sheet
   unfolding is_sheet
-  sheet-there = ltb-true _ _ (and-true _ _ h).0
+  sheet_there = ltb-true _ _ (and-true _ _ h).0
 
   pub begins : state_of sheet (start sheet) ≡ state (sheet_of sheet) maximum_calls
   begins = rw (sheet-from sheet h)
 
-  pub ended-unread : (o : Outcome) (s : Progress) → 0 < s.left → report_of (refusal 13) ≡ ended_report (sheet_of sheet) o (state_of sheet s)
-  ended-unread o s i = let (a, (rest, e)) = some_left sheet s i in rw e
+  pub ended_unread : (o : Outcome) (s : Progress) → 0 < s.left → report_of (refusal 13) ≡ ended_report (sheet_of sheet) o (state_of sheet s)
+  ended_unread o s i = let (a, (rest, e)) = some_left sheet s i in rw e
 
-  pub ended-read : (o : Outcome) (s : Progress) (n : ℕ) → s.left ≤ 0 → n ≡ byte_at sheet 0
+  pub ended_read : (o : Outcome) (s : Progress) (n : ℕ) → s.left ≤ 0 → n ≡ byte_at sheet 0
       → record { outcome = o; answers = n; calls = maximum_calls - s.calls } ≡ ended_report (sheet_of sheet) o (state_of sheet s)
-  ended-read o s n i e =
+  ended_read o s n i e =
       let all : byte_at sheet 0 - 0 ≡ byte_at sheet 0 = omega arith in
       rw (none_left sheet s (omega (arith, i)), sheet-length sheet h, e, all)

@@ -1,5 +1,5 @@
 -- What the code reports once a run has ended, and the words after it. Assumes nothing.
-use Rattle.std.specs.Prelude.{ℕ, zero, suc, ◌-◌, ◌≡◌, List, [], ◌∷◌, length}
+use Rattle.std.specs.Prelude.{ℕ, zero, suc, ◌-◌, ◌≡◌, List, [], ◌∷◌, length, Result, Ok, Err}
 use Rattle.store.specs.Words.{store_of}
 use Rattle.store_write.specs.declared.write.Write.{Write}
 use Rattle.store_write.specs.Write.{applied, written_to, Becomes}
@@ -8,8 +8,8 @@ use Rattle.internal_methods.specs.declared.Failure.TheVariants.{Refused, TypeErr
 use Rattle.internal_methods.specs.Monad.{Answer, State}
 use Rattle.record.specs.Bytes.{byte_at}
 use Rattle.record.specs.Sheet.{sheet_of}
-use Rattle.calls.specs.declared.Progress.{Progress}
-use Rattle.calls.specs.Entering.{progress}
+use Rattle.calls.specs.declared.progress.Progress.{Progress}
+use Rattle.calls.specs.Place.{progress}
 use Rattle.calls.specs.Outs.{state_of}
 use Rattle.steps.specs.declared.Completion.{Completion}
 use Rattle.steps.specs.declared.Outcome.{Outcome}
@@ -18,7 +18,6 @@ use Rattle.steps.specs.declared.Report.{Report}
 use Rattle.steps.specs.Perform.{maximum_calls}
 use Rattle.steps.specs.Response.{refusal, report_of}
 use Rattle.reporting.specs.declared.Performed.{Performed}
-use Rattle.reporting.specs.declared.Performed.TheVariants.{Failed, Done}
 
 -- at the first answer, with all its calls
 abbrev pub start : List ℕ → Progress
@@ -41,9 +40,13 @@ failure_report answers (Thrown v) s = ended_report answers (outcome.Thrown v) s
 abbrev pub completion_report : List Answer → Completion → State → Report
 completion_report answers c s = ended_report answers (outcome.Result c) s
 
-abbrev pub performed_report : List ℕ → Performed → Report
-performed_report sheet (Failed f s) = failure_report (sheet_of sheet) f (state_of sheet s)
-performed_report sheet (Done c w s) = completion_report (sheet_of sheet) c (state_of sheet s)
+abbrev pub reported : List ℕ → Result Completion Failure → Progress → Report
+reported sheet (Err f) s = failure_report (sheet_of sheet) f (state_of sheet s)
+reported sheet (Ok c) s = completion_report (sheet_of sheet) c (state_of sheet s)
+
+abbrev pub performed_report : List ℕ → Result Performed Failure → Progress → Report
+performed_report sheet (Err f) s = failure_report (sheet_of sheet) f (state_of sheet s)
+performed_report sheet (Ok p) s = completion_report (sheet_of sheet) p.completion (state_of sheet s)
 
 -- the one write is made if no answer is left
 abbrev pub Written : ℕ → Write → List ℕ → List ℕ → Type 0
@@ -51,6 +54,6 @@ Written zero w before after = Becomes after (written_to w before) (applied w (st
 Written (suc left) w before after = after ≡ before
 
 -- the words after it: as they were, or with the one write
-abbrev pub Finished : List ℕ → List ℕ → Performed → Type 0
-Finished before after (Failed f s) = after ≡ before
-Finished before after (Done c w s) = Written s.left w before after
+abbrev pub Finished : List ℕ → List ℕ → Result Performed Failure → Progress → Type 0
+Finished before after (Err f) s = after ≡ before
+Finished before after (Ok p) s = Written s.left p.write before after

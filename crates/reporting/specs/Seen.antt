@@ -1,6 +1,5 @@
 -- What a caller reads: a response from a report and, where it counts keys or a page's bytes, from the output's bytes. Assumes nothing.
-use Rattle.std.specs.Prelude.{ℕ, zero, suc, ◌+◌, List, [], ◌∷◌, take}
-use Rattle.std.proofs.Math.Option.{Option, none, some}
+use Rattle.std.specs.Prelude.{ℕ, zero, suc, ◌+◌, List, [], ◌∷◌, take, Option, None, Some}
 use Rattle.value.specs.declared.PropertyKey.{PropertyKey}
 use Rattle.value.specs.declared.PropertyKey.TheVariants.{String}
 use Rattle.value.specs.PropertyKey.{key_of}
@@ -15,8 +14,8 @@ use Rattle.steps.specs.Response.{Ending, refused, result, type_error, thrown, Re
 
 -- every value reads as a key; one that is none, as string 0
 abbrev pub key_told : Option PropertyKey → PropertyKey
-key_told none = String 0
-key_told (some k) = k
+key_told None = String 0
+key_told (Some k) = k
 
 -- n keys from i on, 9 bytes each
 unfoldable pub keys_at : List ℕ → ℕ → ℕ → List PropertyKey

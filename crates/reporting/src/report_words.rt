@@ -1,5 +1,6 @@
 // A report as ten words, for C: outcome, refusal or message, answers, calls, form, flags or number of keys,
 // then two values, each as its kind and its payload.
+// Each form is written out whole: ten words in the order of docs/REFERENCE.md.
 ghost use Rattle.std.specs.Prelude.{◌≡◌};
 ghost use Rattle.store.specs.Words.{flags_of};
 ghost use Rattle.steps.specs.declared.Completion.TheVariants.{Descriptor};

@@ -1,15 +1,17 @@
-// 10.1.9.2 steps 2.c to 2.e: [[Set]] on a receiver that is an object.
-ghost use Rattle.std.specs.Prelude.{◌≡◌, true};
+// 10.1.9.2 step 2: [[Set]] of data, on a receiver that is an object.
+#![tactic(auto, using(calls::proofs::Steps::steps), unfolding(internal_methods::specs::Ordinary::set_data, internal_methods::specs::Ordinary::set_on_receiver))]
+
+ghost use Rattle.std.specs.Prelude.{◌≡◌};
 ghost use Rattle.store.specs.Words.{store_of};
-ghost use Rattle.internal_methods.specs.Ordinary.{value_descriptor, set_on_receiver};
+ghost use Rattle.internal_methods.specs.Ordinary.{value_descriptor, set_data, set_on_receiver};
 ghost use Rattle.internal_methods.specs.Internal.{methods};
-ghost use Rattle.calls.specs.Outs.{context, state_of, out_write, Fitting};
+ghost use Rattle.calls.specs.Outs.{Fitting, context_of, out_write, state_of};
 ghost use Rattle.definition.specs.Define.{Definable};
 
-use calls::{OwnPropertyOut, Progress, WriteOut};
+use calls::{Progress, Run, Written};
 use descriptors::completion;
-use property::{DescriptorKind, Field, Flag, OwnProperty, Property, PropertyDescriptor};
-use store_write::Write;
+use internal_methods::Failure;
+use property::{DescriptorKind, Property, PropertyDescriptor};
 use value::{PropertyKey, Value};
 
 // { [[Value]]: V }
@@ -17,52 +19,52 @@ fn value_descriptor(v: Value) -> PropertyDescriptor
     ensures { result ≡ value_descriptor v }
 {
     PropertyDescriptor {
-        enumerable: Flag::Absent,
-        configurable: Flag::Absent,
-        kind: DescriptorKind::Data(Field::Present(v), Flag::Absent),
+        enumerable: None,
+        configurable: None,
+        kind: DescriptorKind::Data(Some(v), None),
     }
 }
 
 // 10.1.9.2 steps 2.c to 2.e, on a receiver that is an object
-pub fn set_on_receiver(
-    words: &[u64],
-    strings: &[u16],
-    allowance: usize,
-    sheet: &[u8],
+fn set_on_receiver(
+    run: &Run<'_>,
     key: PropertyKey,
     v: Value,
     receiver: u64,
     depth: usize,
-    s: Progress,
-) -> WriteOut
-    requires { Definable words.now strings.now allowance key }
-    ensures result_value { out_write sheet.now (store_of words.now) result ≡ (set_on_receiver (context words.now strings.now allowance) (methods depth (context words.now strings.now allowance)) key v receiver).run (state_of sheet.now s) }
-    ensures fitting { Fitting words.now result }
+    progress: &mut Progress,
+) -> Result<Written, Failure>
+    requires { Definable run.now.allowance key }
+    ensures result_value { out_write run.now.sheet.now (store_of run.now.store.words.now) result progress.new ≡ (set_on_receiver (context_of run.now) (methods depth (context_of run.now)) key v receiver).run (state_of run.now.sheet.now progress.old) }
+    ensures fitting { Fitting run.now.store.words.now result }
 {
-    match own_property::get_own_property(
-        words, strings, allowance, sheet, receiver, key, depth, s,
-    ) {
-        OwnPropertyOut::Failed(f, t) => WriteOut::Failed(f, t), // 2.c
-        OwnPropertyOut::Done(existing, t) => match existing {
-            OwnProperty::Present(p) => match p {
-                Property::Accessor(_, _, _, _) => WriteOut::Done(false, Write::Nothing, t), // 2.d.i
-                Property::Data(_, writable, _, _) => {
-                    if writable {
-                        let d = value_descriptor(v); // 2.d.iii
-                        definition::define_own_property(
-                            words, strings, allowance, sheet, receiver, key, d, depth, t,
-                        ) // 2.d.iv
-                    } else {
-                        WriteOut::Done(false, Write::Nothing, t) // 2.d.ii
-                    }
-                }
-            },
-            OwnProperty::Absent => {
-                let d = completion::descriptor_of(Property::Data(v, true, true, true)); // 2.e, 7.3.5 CreateDataProperty
-                definition::define_own_property(
-                    words, strings, allowance, sheet, receiver, key, d, depth, t,
-                )
-            }
-        },
+    // 2.c
+    let d = match own_property::get_own_property(run, receiver, key, depth, progress)? {
+        Some(Property::Data(_, true, _, _)) => value_descriptor(v), // 2.d.iii
+        None => completion::descriptor_of(Property::Data(v, true, true, true)), // 2.e, 7.3.5 CreateDataProperty
+        _ => return Ok(Written::nothing(false)), // 2.d.i, 2.d.ii
+    };
+    definition::define_own_property(run, receiver, key, d, depth, progress) // 2.d.iv, 2.e
+}
+
+// 10.1.9.2 step 2
+pub fn set_data(
+    run: &Run<'_>,
+    key: PropertyKey,
+    v: Value,
+    writable: bool,
+    receiver: Value,
+    depth: usize,
+    progress: &mut Progress,
+) -> Result<Written, Failure>
+    requires { Definable run.now.allowance key }
+    ensures result_value { out_write run.now.sheet.now (store_of run.now.store.words.now) result progress.new ≡ (set_data (context_of run.now) (methods depth (context_of run.now)) key v writable receiver).run (state_of run.now.sheet.now progress.old) }
+    ensures fitting { Fitting run.now.store.words.now result }
+{
+    match value_operations::object_of(receiver) {
+        Some(o) if writable => {
+            set_on_receiver(run, key, v, o, depth, progress) // 2.c to 2.e
+        }
+        _ => Ok(Written::nothing(false)), // 2.a, 2.b
     }
 }

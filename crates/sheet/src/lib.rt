@@ -9,19 +9,18 @@ mod answers;
 
 pub use answers::{answer_end, next_answer};
 
-// Where an answer ends, or that it would end past the sheet.
+// An answer as it is read. A key list is its first place and its count.
 #[derive(Clone, Copy)]
-pub enum AnswerEnd {
-    At(usize),
-    Past,
+pub enum Answer {
+    Value(Value),
+    Descriptor(DescriptorObject),
+    Keys(usize, usize),
+    Throw(Value),
 }
 
-// The next answer of a sheet, and the place of the one after it. A key list is its first place and its count.
+// The next answer of a sheet, and the place of the one after it.
 #[derive(Clone, Copy)]
-pub enum NextAnswer {
-    NoAnswer,
-    Value(Value, usize),
-    Descriptor(DescriptorObject, usize),
-    Keys(usize, usize, usize),
-    Throw(Value, usize),
+pub struct NextAnswer {
+    pub answer: Answer,
+    pub end: usize,
 }

@@ -1,6 +1,5 @@
 pub mod RefusalLaws
 pub mod ValueLaws
-pub mod KindLaws
 pub mod StepRefusalLaws
 pub mod SheetLaws
 pub mod TestLaws

@@ -1,9 +1,9 @@
 -- What holds of a step and its sheet once none of the tests over them fails. Assumes nothing.
+use Rattle.std.specs.Prelude.{None}
 use Prim.Native.Nat.{ℕ, ◌<◌, ◌≤◌, ◌^◌}
 use native.Mathlib.Omega.{arith}
 use mathlib.Core.Path.{◌≡◌, refl}
 use mathlib.Core.Bool.{Bool, true, false, ◌&&◌, ◌||◌, false≢true}
-use mathlib.Core.Option.{none}
 use mathlib.Core.List.{List, ◌∷◌}
 use lib.Dec.{eqb, leb, ltb}
 use lib.ListN.{length}
@@ -21,12 +21,12 @@ use Rattle.record.specs.Sheet.{sheet_of, is_sheet, sheet_passes}
 use Rattle.steps.specs.Operation.{key_or_first}
 use Rattle.steps.specs.Step.{counts_of, record_tests}
 
-passed : (n : ℕ) (b : Bool) (ts : List (ℕ × Bool)) → first_failing ((n, b) ∷ ts) ≡ none → b ≡ true
+passed : (n : ℕ) (b : Bool) (ts : List (ℕ × Bool)) → first_failing ((n, b) ∷ ts) ≡ None → b ≡ true
 unfolding first_failing
 passed n true ts e = refl
 passed n false ts e = let z : ◌≡◌ {A = ℕ} 0 1 = cc in absurd (omega arith)
 
-later : (n : ℕ) (b : Bool) (ts : List (ℕ × Bool)) → first_failing ((n, b) ∷ ts) ≡ none → first_failing ts ≡ none
+later : (n : ℕ) (b : Bool) (ts : List (ℕ × Bool)) → first_failing ((n, b) ∷ ts) ≡ None → first_failing ts ≡ None
 unfolding first_failing
 later n true ts e = e
 later n false ts e = let z : ◌≡◌ {A = ℕ} 0 1 = cc in absurd (omega arith)
@@ -55,7 +55,7 @@ below c e n14 n18 n19 =
     (λ q. let s = eqb-true c 17 q in (omega arith, λ f. absurd (eqb-false c 17 (or-false (eqb c 16) (eqb c 17) (or-false (ltb c 4) (eqb c 16 || eqb c 17) f).1).1 s)))
     (λ q. absurd (or_cases (eqb c 18) (eqb c 19) q (λ t. n18 (eqb-true c 18 t)) (λ t. n19 (eqb-true c 19 t))))))
 
-module _ (ω : World) (bytes sheet : List ℕ) (h : first_failing (record_tests ω bytes sheet) ≡ none) where
+module _ (ω : World) (bytes sheet : List ℕ) (h : first_failing (record_tests ω bytes sheet) ≡ None) where
   pub step-formed : is_step bytes ≡ true
   step-formed = passed _ _ _ h
 

@@ -1,8 +1,11 @@
-// Refusals 1 to 3 as one number over a value, a part and a descriptor in bytes, 4 where all three tests pass; and refusal 4 over a descriptor.
+// Refusals 1 to 3 over a value, a part and a descriptor in bytes; and refusal 4 over a descriptor.
+// They are numbers, 4 where all three tests pass, so that of several the least counts.
+#![tactic(auto, unfolding(crate::specs::Refusals::named_refusal, crate::specs::Refusals::value_refusal, crate::specs::Refusals::part_refusal, value::specs::Words::value_of, value::specs::Words::is_formed, record::specs::Bytes::value_at, record::specs::Bytes::is_value_at, record::specs::Bytes::is_part_at, record::specs::Bytes::are_zero, record::specs::Descriptor::descriptor_at, record::specs::Tests::is_made, record::specs::Tests::is_known, record::specs::Tests::is_descriptor))]
+
 ghost use Rattle.std.specs.Prelude.{◌≡◌, cond, ◌+◌, ◌≤◌, ltb, length};
 ghost use Rattle.record.specs.Tests.{is_descriptor};
 ghost use Rattle.record.specs.Descriptor.{descriptor_at};
-ghost use Rattle.step_records.specs.Refusals.{earlier, named_refusal, value_refusal, part_refusal, descriptor_refusal};
+ghost use Rattle.step_records.specs.Refusals.{named_refusal, value_refusal, part_refusal, descriptor_refusal};
 
 use crate::value_tests;
 use byte_records::{descriptor_record, value_record};
@@ -10,79 +13,68 @@ use record::Counts;
 use value::Words;
 use value_operations::bits;
 
-// The earlier of two refusals.
-pub fn earlier(a: u64, b: u64) -> u64
-    ensures { result ≡ earlier a b }
+pub fn number_refusal(payload: u64, limit: u64, refusal: u64) -> u64
+    ensures { result ≡ cond (ltb payload limit) 4 refusal }
 {
-    if a < b { a } else { b }
-}
-
-pub fn number_refusal(payload: u64, limit: u64, n: u64) -> u64
-    ensures { result ≡ cond (ltb payload limit) 4 n }
-{
-    if payload < limit { 4 } else { n }
+    if payload < limit { 4 } else { refusal }
 }
 
 // An object, or where it is to be callable a function.
-pub fn named_refusal(n: Counts, payload: u64, callable: bool) -> u64
-    ensures { result ≡ named_refusal n payload callable }
+pub fn named_refusal(counts: Counts, object: u64, callable: bool) -> u64
+    ensures { result ≡ named_refusal counts object callable }
 {
-    if payload < 64 {
-        if bits::bit(n.live, payload) {
-            if bits::bit(n.callable, payload) == callable {
-                return 4;
-            }
-            return 3;
-        }
+    if !bits::bit(counts.live, object) {
+        2
+    } else if bits::bit(counts.callable, object) == callable {
+        4
+    } else {
+        3
     }
-    2
 }
 
-pub fn value_refusal(n: Counts, w: Words) -> u64
-    ensures { result ≡ value_refusal n w.kind w.payload }
+pub fn value_refusal(counts: Counts, words: Words) -> u64
+    ensures { result ≡ value_refusal counts words.kind words.payload }
 {
-    let kind = w.kind;
-    let payload = w.payload;
-    match kind {
-        0 => number_refusal(payload, 1, 1),
-        1 => number_refusal(payload, 1, 1),
-        2 => number_refusal(payload, 2, 1),
-        3 => number_refusal(payload, 4294967296, 1),
+    match words.kind {
+        0 | 1 => number_refusal(words.payload, 1, 1),
+        2 => number_refusal(words.payload, 2, 1),
+        3 => number_refusal(words.payload, 1 << 32, 1),
         4 => 4,
-        5 => number_refusal(payload, n.strings, 3),
-        6 => number_refusal(payload, 256, 3),
-        7 => named_refusal(n, payload, false),
-        8 => named_refusal(n, payload, true),
+        5 => number_refusal(words.payload, counts.strings, 3),
+        6 => number_refusal(words.payload, 256, 3),
+        7 => named_refusal(counts, words.payload, false),
+        8 => named_refusal(counts, words.payload, true),
         _ => 1,
     }
 }
 
 // A part that is not used is zero.
-pub fn part_refusal(used: bool, n: Counts, bytes: &[u8], at: usize) -> u64
+pub fn part_refusal(used: bool, counts: Counts, bytes: &[u8], at: usize) -> u64
     requires { at + 9 ≤ length bytes.now }
-    ensures { result ≡ part_refusal used n bytes.now at }
+    ensures { result ≡ part_refusal used counts bytes.now at }
 {
     if used {
-        return value_refusal(n, value_record::words_at(bytes, at));
+        value_refusal(counts, value_record::words_at(bytes, at))
+    } else if value_record::is_zero_at(bytes, at) {
+        4
+    } else {
+        1
     }
-    if value_record::is_zero_at(bytes, at) {
-        return 4;
-    }
-    1
 }
 
-pub fn descriptor_refusal(n: Counts, bytes: &[u8], at: usize) -> u64
+#[tactic(auto, using(crate::proofs::ValueLaws::no_head, crate::proofs::ValueLaws::three_parts))]
+pub fn descriptor_refusal(counts: Counts, bytes: &[u8], at: usize) -> u64
     requires { at + 29 ≤ length bytes.now }
-    ensures { result ≡ descriptor_refusal n bytes.now at }
+    ensures { result ≡ descriptor_refusal counts bytes.now at }
 {
-    if descriptor_record::is_head_at(bytes, at) {
-        let mask = bits::wide(bytes[at]);
-        let value = part_refusal(descriptor_record::has_bit(mask, 8), n, bytes, at + 2);
-        let get = part_refusal(descriptor_record::has_bit(mask, 16), n, bytes, at + 11);
-        let set = part_refusal(descriptor_record::has_bit(mask, 32), n, bytes, at + 20);
-        return earlier(value, earlier(get, set));
+    if !descriptor_record::is_head_at(bytes, at) {
+        return 1;
     }
-    1
+    let mask = u64::from(bytes[at]);
+    let value = part_refusal(descriptor_record::has_bit(mask, 8), counts, bytes, at + 2);
+    let get = part_refusal(descriptor_record::has_bit(mask, 16), counts, bytes, at + 11);
+    let set = part_refusal(descriptor_record::has_bit(mask, 32), counts, bytes, at + 20);
+    value.min(get).min(set)
 }
 
 // Refusal 4: without get and set there is nothing to mix or to call.
@@ -90,8 +82,5 @@ pub fn is_descriptor_at(bytes: &[u8], at: usize) -> bool
     requires { at + 29 ≤ length bytes.now }
     ensures { result ≡ is_descriptor (descriptor_at bytes.now at) }
 {
-    if bits::wide(bytes[at]) < 16 {
-        return true;
-    }
-    value_tests::is_descriptor(descriptor_record::descriptor_at(bytes, at))
+    bytes[at] < 16 || value_tests::is_descriptor(descriptor_record::descriptor_at(bytes, at))
 }

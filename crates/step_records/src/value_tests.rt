@@ -1,90 +1,79 @@
 // Refusals 2, 3 and 4 over a decoded descriptor.
-ghost use Rattle.std.specs.Prelude.{◌≡◌};
-ghost use Rattle.record.specs.Tests.{is_made, is_known, asks, field_passes, descriptor_passes, is_descriptor};
+#![tactic(auto, unfolding(record::specs::Tests::is_made, record::specs::Tests::is_known, record::specs::Tests::is_descriptor))]
+
+ghost use Rattle.std.specs.Prelude.{◌≡◌, Bool};
+ghost use Rattle.value.specs.declared.Value.{Value};
+ghost use Rattle.record.specs.Tests.{is_made, is_known, field_passes, descriptor_passes, is_descriptor};
+ghost use Rattle.step_records.specs.Refusals.{Decides};
 
 use descriptors::errors;
-use property::{DescriptorObject, Field};
-use record::{Counts, Test};
+use property::DescriptorObject;
+use record::Counts;
 use value::Value;
 use value_operations::bits;
 
 // 2: the object or function is live.
-fn is_made(n: Counts, v: Value) -> bool
-    ensures { result ≡ is_made n v }
+fn is_made(counts: Counts, value: Value) -> bool
+    ensures { result ≡ is_made counts value }
 {
-    match v {
-        Value::Undefined => true,
-        Value::Null => true,
-        Value::Boolean(_) => true,
-        Value::Integer32(_) => true,
-        Value::Float64(_) => true,
-        Value::String(_) => true,
-        Value::Symbol(_) => true,
-        Value::Object(o) => bits::bit(n.live, o),
-        Value::Function(f) => bits::bit(n.live, f),
+    match value {
+        Value::Object(n) | Value::Function(n) => bits::bit(counts.live, n),
+        _ => true,
     }
 }
 
 // 3: a string was entered, a symbol number is at most 255, and a function is callable, an object not.
-fn is_known(n: Counts, v: Value) -> bool
-    ensures { result ≡ is_known n v }
+fn is_known(counts: Counts, value: Value) -> bool
+    ensures { result ≡ is_known counts value }
 {
-    match v {
-        Value::Undefined => true,
-        Value::Null => true,
-        Value::Boolean(_) => true,
-        Value::Integer32(_) => true,
-        Value::Float64(_) => true,
-        Value::String(s) => s < n.strings,
-        Value::Symbol(s) => s < 256,
-        Value::Object(o) => !bits::bit(n.callable, o),
-        Value::Function(f) => bits::bit(n.callable, f),
+    match value {
+        Value::String(n) => n < counts.strings,
+        Value::Symbol(n) => n < 256,
+        Value::Object(n) => !bits::bit(counts.callable, n),
+        Value::Function(n) => bits::bit(counts.callable, n),
+        _ => true,
     }
 }
 
-fn passes(test: Test, n: Counts, v: Value) -> bool
-    ensures { result ≡ asks test n v }
+fn field_passes<F: Fn(Value) -> bool>(field: Option<Value>, passes: &F) -> bool
+    requires { F.IsAlwaysCallable passes.now }
+    ensures { (test : Value → Bool) → Decides test (F.post passes.now) → result ≡ field_passes test field }
 {
-    match test {
-        Test::Made => is_made(n, v),
-        Test::Known => is_known(n, v),
+    match field {
+        None => true,
+        Some(value) => passes(value),
     }
 }
 
-fn field_passes(test: Test, n: Counts, f: Field) -> bool
-    ensures { result ≡ field_passes (asks test n) f }
+// Whether the values that a descriptor has all pass.
+fn descriptor_passes<F: Fn(Value) -> bool>(descriptor: DescriptorObject, passes: F) -> bool
+    requires { F.IsAlwaysCallable passes }
+    ensures { (test : Value → Bool) → Decides test (F.post passes) → result ≡ descriptor_passes test descriptor }
 {
-    match f {
-        Field::Absent => true,
-        Field::Present(v) => passes(test, n, v),
-    }
+    field_passes(descriptor.value, &passes)
+        && field_passes(descriptor.get, &passes)
+        && field_passes(descriptor.set, &passes)
 }
 
-pub fn descriptor_passes(test: Test, n: Counts, d: DescriptorObject) -> bool
-    ensures { result ≡ descriptor_passes (asks test n) d }
+// 2, of a descriptor's values.
+pub fn are_made(counts: Counts, descriptor: DescriptorObject) -> bool
+    ensures { result ≡ descriptor_passes (is_made counts) descriptor }
 {
-    let value = d.value;
-    let get = d.get;
-    let set = d.set;
-    if field_passes(test, n, value) {
-        if field_passes(test, n, get) {
-            return field_passes(test, n, set);
-        }
-    }
-    false
+    descriptor_passes(descriptor, |value| is_made(counts, value))
+}
+
+// 3, of a descriptor's values.
+pub fn are_known(counts: Counts, descriptor: DescriptorObject) -> bool
+    ensures { result ≡ descriptor_passes (is_known counts) descriptor }
+{
+    descriptor_passes(descriptor, |value| is_known(counts, value))
 }
 
 // 4: it does not mix value or writable with get or set, and its get and set are undefined or functions.
-pub fn is_descriptor(d: DescriptorObject) -> bool
-    ensures { result ≡ is_descriptor d }
+pub fn is_descriptor(descriptor: DescriptorObject) -> bool
+    ensures { result ≡ is_descriptor descriptor }
 {
-    let get = d.get;
-    let set = d.set;
-    if errors::is_mixed(d) {
-        return false;
-    }
-    if errors::is_uncallable(get) {
-        return false;
-    }
-    !errors::is_uncallable(set)
+    !errors::is_mixed(descriptor)
+        && !errors::is_uncallable(descriptor.get)
+        && !errors::is_uncallable(descriptor.set)
 }

@@ -1,10 +1,10 @@
 -- In every world of a list of calls, the number of each own key has at most three digits. Assumes nothing.
+use Rattle.std.specs.Prelude.{Option, None, Some}
 use Prim.Native.Nat.{ℕ, zero, suc, ◌≤◌, ◌<◌, zero-le}
 use native.Mathlib.Nat.{le_trans}
 use native.Mathlib.Omega.{arith}
 use mathlib.Core.Path.{◌≡◌, refl, subst}
 use mathlib.Core.Bool.{Bool, true, false, cond, false≢true}
-use mathlib.Core.Option.{Option, none, some}
 use mathlib.Core.List.{List, [], ◌∷◌, ◌++◌}
 use lib.Dec.{eqb, leb, ltb}
 use lib.ListN.{length, length-append}
@@ -16,7 +16,6 @@ use Rattle.value.specs.PropertyKey.{key_number, key_of}
 use Rattle.value.specs.Words.{pick}
 use Rattle.value.proofs.Bools.{and-true}
 use Rattle.property.specs.declared.Property.{Property}
-use Rattle.property.specs.declared.OwnProperty.TheVariants.{Present}
 use Rattle.text.specs.Strings.{Entry, refused, entered, maximum_length, maximum_strings, number_of, entering, enter}
 use Rattle.store.specs.declared.Object.{Object}
 use Rattle.store.specs.declared.Object.TheVariants.{Ordinary, Proxy}
@@ -49,7 +48,7 @@ use Rattle.steps.proofs.Pages.{page-leaves}
 -- every own key has a number that three digits show: strings are entered, and symbols are at most 255
 pub record KnownKeys (ω : World) : Type 0 where
   pub strings : length ω.strings ≤ maximum_strings
-  pub keys : (o : ℕ) (k : PropertyKey) (p : Property) → own ω.store o k ≡ Present p → key_number k < 256
+  pub keys : (o : ℕ) (k : PropertyKey) (p : Property) → own ω.store o k ≡ Some p → key_number k < 256
 
 -- Operations ----------------------------------------------------------------------------
 
@@ -81,9 +80,9 @@ module _ {P : PropertyKey → Type 0} (n : ℕ) (c : Context) (h : OwnKeys P c.s
   makes x b = once-keys _ (ensures-if _ (λ _. ensures-pure _ (keys-add c.store x b h)) (λ _. ensures-fails _))
 
   revokes : (o : ℕ) (x : Option Object) → OwnKeys P (revoked c.store o x)
-  revokes o none = h
-  revokes o (some (Ordinary r)) = h
-  revokes o (some (Proxy p)) = keys-put c.store o _ h
+  revokes o None = h
+  revokes o (Some (Ordinary r)) = h
+  revokes o (Some (Proxy p)) = keys-put c.store o _ h
 
   -- 7.3.15: the object is not extensible before its keys are defined, whatever they are
   integral : (o : ℕ) → Integral (λ σ. methods n (over c σ)) o (OwnKeys P) (λ σ. OwnKeys P σ × Shut σ o) (λ f. OwnKeys P)
@@ -151,7 +150,7 @@ key-known ω l (value.Function f) h = omega arith
 
 module _ (ω : World) (h : KnownKeys ω) where
   module _ (bytes sheet output : List ℕ) where
-    ran-known : first_failing (record_tests ω bytes sheet) ≡ none → OwnKeys Known (ran ω bytes sheet).1
+    ran-known : first_failing (record_tests ω bytes sheet) ≡ None → OwnKeys Known (ran ω bytes sheet).1
     unfolding ran asked are_kinds_usable
     ran-known p =
         let (_, p₁) = passed _ _ _ p in
@@ -162,7 +161,7 @@ module _ (ω : World) (h : KnownKeys ω) where
         perform-keys maximum_calls (context_of ω) (record { holds = h.keys }) (step_of bytes) (key-known ω h.strings (step_of bytes).key key) _
 
     -- the store that a run left, with the same strings
-    left-known : {x : Out Result} {σ : Store} → first_failing (record_tests ω bytes sheet) ≡ none → ran ω bytes sheet ≡ (x, σ) → KnownKeys (with_store ω σ)
+    left-known : {x : Out Result} {σ : Store} → first_failing (record_tests ω bytes sheet) ≡ None → ran ω bytes sheet ≡ (x, σ) → KnownKeys (with_store ω σ)
     left-known p e = record { strings = h.strings; keys = (subst (λ (x : Ran Result). OwnKeys Known x.1) e (ran-known p)).holds }
 
     step-known : {x : Effect} → Ends ω bytes sheet output x → KnownKeys x.world
@@ -188,8 +187,8 @@ module _ (ω : World) (h : KnownKeys ω) where
       by-room false e = tt
 
       by_number : (x : Option ℕ) → Few (entering ω.strings units x)
-      by_number (some n) = h.strings
-      by_number none = by-room _ refl
+      by_number (Some n) = h.strings
+      by_number None = by-room _ refl
 
       by_length : (b : Bool) → Few (cond b (entering ω.strings units (number_of ω.strings units)) (refused 3))
       by_length true = by_number (number_of ω.strings units)

@@ -1,15 +1,14 @@
 -- What is related of the methods is related of the operations: longer sheets, answers that cannot be read, larger budgets, room for one more. Assumes nothing.
+use Rattle.std.specs.Prelude.{Option, None, Some}
 use Prim.Native.Nat.{ℕ, suc, ◌≤◌}
 use native.Mathlib.Nat.{le_refl}
 use mathlib.Core.Path.{◌≡◌, refl, sym, subst}
 use mathlib.Core.Bool.{Bool, true, false, not, false≢true}
-use mathlib.Core.Option.{Option, none, some}
 use mathlib.Core.List.{List, [], ◌∷◌}
 use lib.Dec.{ltb}
 use lib.ListN.{length}
 use Rattle.value.specs.declared.PropertyKey.{PropertyKey}
 use Rattle.property.specs.declared.PropertyDescriptor.{PropertyDescriptor}
-use Rattle.property.specs.declared.OwnProperty.TheVariants.{Absent, Present}
 use Rattle.store.specs.declared.Object.{Object}
 use Rattle.store.specs.declared.Object.TheVariants.{Ordinary, Proxy}
 use Rattle.store.specs.Store.{Store, lookup, put, add, next_number, live_count, named, maximum_objects}
@@ -85,8 +84,8 @@ module _ {J : (A : Type 0) → M A → M A → Type 0} (law : Rules J) where
     unfolding turn freeze_property
     turn-turns sealed k = define-turns k _
     turn-turns frozen k = turns-bind (turns-reads (λ σ. (h σ).get_own_property o k tt)) (elim [
-      | Absent ↦ turns-pure tt
-      | Present p ↦ define-turns k _
+      | None ↦ turns-pure tt
+      | Some p ↦ define-turns k _
     ])
 
     each-turns : (level : Level) (ks : List PropertyKey) → Turns (for_each (turn call o level) ks) (for_each (turn call' o level) ks)
@@ -194,9 +193,9 @@ module _ (c : Context) (n : ℕ) where
 
   revoked-kept : (o : ℕ) (x : Option Object) → length (revoked c.store o x).properties ≤ length c.store.properties
   unfolding put
-  revoked-kept o none = le_refl _
-  revoked-kept o (some (Ordinary r)) = le_refl _
-  revoked-kept o (some (Proxy p)) = le_refl _
+  revoked-kept o None = le_refl _
+  revoked-kept o (Some (Ordinary r)) = le_refl _
+  revoked-kept o (Some (Proxy p)) = le_refl _
 
   -- 7.3.16
   same_if : {m m' k k' : M Bool} (b : Bool) → Same Any m m' → Same Any k k' → Same Any (when◌then◌else◌ b m k) (when◌then◌else◌ b m' k')

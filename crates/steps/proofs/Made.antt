@@ -1,8 +1,8 @@
 -- A step whose records passed their tests names only objects that are live, and releases none that is named. Assumes nothing.
+use Rattle.std.specs.Prelude.{Option, None, Some}
 use Prim.Native.Nat.{ℕ}
 use mathlib.Core.Path.{◌≡◌, refl, sym, ap, ◌∙◌, subst}
 use mathlib.Core.Bool.{Bool, true, false, not, ◌||◌, cond, false≢true}
-use mathlib.Core.Option.{Option, none, some}
 use mathlib.Core.List.{List, [], ◌∷◌}
 use lib.Dec.{eqb}
 use lib.ListN.{length}
@@ -13,11 +13,9 @@ use Rattle.value.specs.PropertyKey.{key_of}
 use Rattle.value.specs.Words.{pick}
 use Rattle.value.specs.Bits.{bit}
 use Rattle.value.proofs.Bools.{and-true}
-use Rattle.property.specs.declared.Field.{Field}
-use Rattle.property.specs.declared.Field.TheVariants as Field
 use Rattle.property.specs.declared.DescriptorObject.{DescriptorObject}
 use Rattle.property.specs.declared.DescriptorKind.TheVariants as kind
-use Rattle.property.specs.Fields.{has, has_flag}
+use Rattle.property.specs.Fields.{has}
 use Rattle.property.specs.Descriptor.{to_property_descriptor}
 use Rattle.property.proofs.ValueLaws.{FieldBy}
 use Rattle.store.specs.declared.Object.{Object}
@@ -62,8 +60,8 @@ unfolding lookup
 object-made ω o h = go (lookup ω.store o) refl
   where
     go : (x : Option Object) → lookup ω.store o ≡ x → Made ω.store o
-    go none e = absurd (false≢true (sym (live-mark ω.store.objects o ∙ ap is_live e) ∙ h))
-    go (some x) e = (x, e)
+    go None e = absurd (false≢true (sym (live-mark ω.store.objects o ∙ ap is_live e) ∙ h))
+    go (Some x) e = (x, e)
 
 value_made : (ω : World) (v : Value) → is_made (counts_of ω) v ≡ true → MadeValue ω.store v
 unfolding is_made
@@ -94,13 +92,13 @@ unfolding to_property_descriptor
 descriptor-made ω d h =
     let (v, rest) = and-true (field_passes (is_made (counts_of ω)) d.value) _ h in
     let (g, s) = and-true (field_passes (is_made (counts_of ω)) d.get) _ rest in
-    go (has d.get || has d.set) (has d.value || has_flag d.writable) (field d.value v) (field d.get g) (field d.set s)
+    go (has d.get || has d.set) (has d.value || has d.writable) (field d.value v) (field d.get g) (field d.set s)
   where
-    field : (f : Field) → field_passes (is_made (counts_of ω)) f ≡ true → FieldBy (MadeValue ω.store) f
-    field Field.Absent h v e = absurd (false≢true cc)
-    field (Field.Present u) h v e = let q : u ≡ v = cc in subst (MadeValue ω.store) q (value_made ω u h)
+    field : (f : Option Value) → field_passes (is_made (counts_of ω)) f ≡ true → FieldBy (MadeValue ω.store) f
+    field None h v e = absurd (false≢true cc)
+    field (Some u) h v e = let q : u ≡ v = cc in subst (MadeValue ω.store) q (value_made ω u h)
 
-    none-there : FieldBy (MadeValue ω.store) Field.Absent
+    none-there : FieldBy (MadeValue ω.store) None
     none-there v e = absurd (false≢true cc)
 
     go : (a b : Bool) → FieldBy (MadeValue ω.store) d.value → FieldBy (MadeValue ω.store) d.get → FieldBy (MadeValue ω.store) d.set
@@ -160,11 +158,11 @@ operation-made ω s h u =
 
 -- all tests passed: each did
 module _ (n : ℕ) (b : Bool) (ts : List (ℕ × Bool)) where
-  pub passed : first_failing ((n, b) ∷ ts) ≡ none → (b ≡ true) × (first_failing ts ≡ none)
+  pub passed : first_failing ((n, b) ∷ ts) ≡ None → (b ≡ true) × (first_failing ts ≡ None)
   unfolding first_failing
   passed = go b refl
     where
-      go : (x : Bool) → b ≡ x → failing x n (first_failing ts) ≡ none → (b ≡ true) × (first_failing ts ≡ none)
+      go : (x : Bool) → b ≡ x → failing x n (first_failing ts) ≡ None → (b ≡ true) × (first_failing ts ≡ None)
       go true e h = (e, h)
       go false e h = absurd (false≢true cc)
 
@@ -172,7 +170,7 @@ pub record NamesMade (ω : World) (bytes sheet : List ℕ) : Type 0 where
   pub operation : MadeOperation ω.store (asked bytes)
   pub answers : MadeAnswers ω.store (sheet_of sheet)
 
-pub names-made : (ω : World) (bytes sheet : List ℕ) → first_failing (record_tests ω bytes sheet) ≡ none → NamesMade ω bytes sheet
+pub names-made : (ω : World) (bytes sheet : List ℕ) → first_failing (record_tests ω bytes sheet) ≡ None → NamesMade ω bytes sheet
 unfolding asked
 names-made ω bytes sheet h =
     let (_, h₁) = passed _ _ _ h in
@@ -185,7 +183,7 @@ names-made ω bytes sheet h =
     record { operation = operation-made ω (step_of bytes) objects releasable; answers = answers-made ω (sheet_of sheet) answers }
 
 -- and the sheet has as many answers as its first byte says
-pub sheet-counted : (ω : World) (bytes sheet : List ℕ) → first_failing (record_tests ω bytes sheet) ≡ none → length (sheet_of sheet) ≡ byte_at sheet 0
+pub sheet-counted : (ω : World) (bytes sheet : List ℕ) → first_failing (record_tests ω bytes sheet) ≡ None → length (sheet_of sheet) ≡ byte_at sheet 0
 sheet-counted ω bytes sheet h =
     let (_, h₁) = passed _ _ _ h in
     let (_, h₂) = passed _ _ _ h₁ in

@@ -1,11 +1,11 @@
 -- The output after a step: the keys of a key list stand at its start, 9 bytes each, and every other byte stays. Assumes nothing.
+use Rattle.std.specs.Prelude.{Some, slice_get}
 use Prim.Native.Nat.{ℕ, zero, suc, ◌+◌, ◌*◌}
 use native.Mathlib.Omega.{arith}
 use mathlib.Core.Path.{◌≡◌, refl, ap, ◌∙◌}
 use mathlib.Core.Bool.{false≢true}
-use mathlib.Core.Option.{some}
 use mathlib.Core.List.{List, [], ◌∷◌, ◌++◌, append_assoc}
-use lib.ListN.{length, take, drop, get_elem?, length-append}
+use lib.ListN.{length, take, drop, length-append}
 use Rattle.value.specs.declared.PropertyKey.{PropertyKey}
 use Rattle.value.specs.PropertyKey.{key_value}
 use Rattle.store.specs.Store.{World}
@@ -34,7 +34,7 @@ length-keys [] = refl
 length-keys (k ∷ ks) = omega (arith, length-append (value_bytes (key_value k)) (keys_bytes ks), length-value (key_value k), length-keys ks)
 
 -- the i-th key stands at the i-th place
-pub key-stands : (ks : List PropertyKey) (rest : List ℕ) (i : ℕ) (k : PropertyKey) → get_elem? ks i ≡ some k → take value_size (drop (value_size * i) (keys_bytes ks ++ rest)) ≡ value_bytes (key_value k)
+pub key-stands : (ks : List PropertyKey) (rest : List ℕ) (i : ℕ) (k : PropertyKey) → slice_get ks i ≡ Some k → take value_size (drop (value_size * i) (keys_bytes ks ++ rest)) ≡ value_bytes (key_value k)
 unfolding keys_bytes
 key-stands [] rest i k e = absurd (false≢true cc)
 key-stands (l ∷ ks) rest zero k e =

@@ -1,9 +1,9 @@
 -- How a call for a page ends, how long its lines are, and their order. Assumes nothing.
+use Rattle.std.specs.Prelude.{Option, None, Some}
 use Prim.Native.Nat.{ℕ, suc, ◌+◌, ◌*◌, ◌/◌, ◌%◌, ◌≤◌}
 use native.Mathlib.Omega.{arith}
 use mathlib.Core.Path.{◌≡◌, refl, sym, ap, ◌∙◌}
 use mathlib.Core.Bool.{Bool, true, false, not, false≢true}
-use mathlib.Core.Option.{Option, none, some}
 use mathlib.Core.List.{List, [], ◌∷◌, ◌++◌, map, append_assoc}
 use lib.ListN.{length, take, drop, length-append}
 use Rattle.value.specs.declared.Value.{Value}
@@ -14,8 +14,6 @@ use Rattle.value.proofs.Bools.{or_true_right}
 use Rattle.value.proofs.SameKey.{key-refl}
 use Rattle.property.specs.declared.Property.{Property}
 use Rattle.property.specs.declared.Property.TheVariants.{Data, Accessor}
-use Rattle.property.specs.declared.OwnProperty.{OwnProperty}
-use Rattle.property.specs.declared.OwnProperty.TheVariants.{Absent, Present}
 use Rattle.store.specs.declared.OrdinaryObject.{OrdinaryObject}
 use Rattle.store.specs.declared.ProxyObject.{ProxyObject}
 use Rattle.store.specs.declared.Object.{Object}
@@ -38,24 +36,24 @@ use Rattle.steps.specs.Page.{columns, padded, names, class_letter, key_column, m
 
 -- Why a call for a page ended as it did, with all that it answered and left
 pub data PageEnds (ω : World) (o : ℕ) (output : List ℕ) : Effect → Type 0 where
-  missing : lookup ω.store o ≡ none → PageEnds ω o output (refusing 2 ω output)
-  proxied : {p : ProxyObject} → lookup ω.store o ≡ some (Proxy p) → PageEnds ω o output (refusing 3 ω output)
-  short : {r : OrdinaryObject} → lookup ω.store o ≡ some (Ordinary r) → output_holds (result.page (page ω o)) output ≡ false → PageEnds ω o output (refusing 11 ω output)
-  writes : {r : OrdinaryObject} → lookup ω.store o ≡ some (Ordinary r) → output_holds (result.page (page ω o)) output ≡ true
+  missing : lookup ω.store o ≡ None → PageEnds ω o output (refusing 2 ω output)
+  proxied : {p : ProxyObject} → lookup ω.store o ≡ Some (Proxy p) → PageEnds ω o output (refusing 3 ω output)
+  short : {r : OrdinaryObject} → lookup ω.store o ≡ Some (Ordinary r) → output_holds (result.page (page ω o)) output ≡ false → PageEnds ω o output (refusing 11 ω output)
+  writes : {r : OrdinaryObject} → lookup ω.store o ≡ Some (Ordinary r) → output_holds (result.page (page ω o)) output ≡ true
       → PageEnds ω o output (record { response = record { ending = ending.result (result.page (page ω o)); answers = 0; calls = 0 }; world = ω; output = output_after (result.page (page ω o)) output })
 
 pub page-ends : (ω : World) (o : ℕ) (output : List ℕ) → PageEnds ω o output (property_page ω o output)
 unfolding property_page
 page-ends ω o output = by-object (lookup ω.store o) refl
   where
-    by-room : (r : OrdinaryObject) → lookup ω.store o ≡ some (Ordinary r) → (b : Bool) → output_holds (result.page (page ω o)) output ≡ b → PageEnds ω o output (writing ω (page ω o) output b)
+    by-room : (r : OrdinaryObject) → lookup ω.store o ≡ Some (Ordinary r) → (b : Bool) → output_holds (result.page (page ω o)) output ≡ b → PageEnds ω o output (writing ω (page ω o) output b)
     by-room r e false h = short e h
     by-room r e true h = writes e h
 
     by-object : (x : Option Object) → lookup ω.store o ≡ x → PageEnds ω o output (paging ω o output x)
-    by-object none e = missing e
-    by-object (some (Ordinary r)) e = by-room r e (output_holds (result.page (page ω o)) output) refl
-    by-object (some (Proxy p)) e = proxied e
+    by-object None e = missing e
+    by-object (Some (Ordinary r)) e = by-room r e (output_holds (result.page (page ω o)) output) refl
+    by-object (Some (Proxy p)) e = proxied e
 
 -- a page leaves the world, whatever its end
 pub page-leaves : (ω : World) (o : ℕ) (output : List ℕ) → (property_page ω o output).world ≡ ω
@@ -195,9 +193,9 @@ unfolding own_of has_key
 keys-own σ o [] h = refl
 keys-own σ o (k ∷ ks) h = go (own σ o k) (h k (rw (key-refl k))) (keys-own σ o ks (λ l e. h l (or_true_right (same_key k l) (has_key l ks) e)))
   where
-    go : (x : OwnProperty) → not (is_absent x) ≡ true → map shown_key (own_of σ o ks) ≡ ks → map shown_key (with_own k x (own_of σ o ks)) ≡ k ∷ ks
-    go Absent e f = absurd (false≢true e)
-    go (Present p) e f = ap (λ (ls : List PropertyKey). k ∷ ls) f
+    go : (x : Option Property) → not (is_absent x) ≡ true → map shown_key (own_of σ o ks) ≡ ks → map shown_key (with_own k x (own_of σ o ks)) ≡ k ∷ ks
+    go None e f = absurd (false≢true e)
+    go (Some p) e f = ap (λ (ls : List PropertyKey). k ∷ ls) f
 
 -- a page shows the own keys in their order
 pub keys-shown : (ω : World) (o : ℕ) → map shown_key (shown_on ω o) ≡ ordinary_own_property_keys ω.strings ω.store o

@@ -1,14 +1,13 @@
 -- What each operation's result says of the store, and what it does to objects and their numbers. Assumes nothing.
+use Rattle.std.specs.Prelude.{Option, None, Some}
 use Prim.Native.Nat.{ℕ, ◌<◌}
 use mathlib.Core.Path.{◌≡◌, refl, sym, ◌∙◌, subst}
 use mathlib.Core.Bool.{Bool, true, false, false≢true, true≢false}
-use mathlib.Core.Option.{Option, none, some}
 use mathlib.Core.List.{List}
 use borrow.Author.Tests.{ltb-true}
 use Rattle.value.specs.declared.Value.{Value}
 use Rattle.value.specs.declared.PropertyKey.{PropertyKey}
 use Rattle.value.specs.Value.{same_value}
-use Rattle.property.specs.declared.OwnProperty.{OwnProperty}
 use Rattle.store.specs.declared.Object.{Object}
 use Rattle.store.specs.declared.Object.TheVariants.{Ordinary, Proxy}
 use Rattle.store.specs.Store.{Store, lookup, add, next_number, live_count, named, maximum_objects}
@@ -26,6 +25,7 @@ use Rattle.steps.specs.TestIntegrityLevel
 use Rattle.steps.specs.Perform.{Result, value, keys, own_result, boolean, once, in_turn, reading, writing, make, revoked, perform}
 use Rattle.steps.proofs.Sequences.{Led, leads-pure, leads-bind}
 use Rattle.steps.proofs.Integrity.{integrity-remains}
+use Rattle.property.specs.declared.Property.{Property}
 
 -- what a result says, from the store before it and the store after it
 abbrev pub Says : Store → Operation → Result → Store → Type 0
@@ -36,7 +36,7 @@ Says σ (get_prototype_of o) r τ = (v : Value) × (r ≡ value v) × SameProtot
 Says σ (set_prototype_of o v) r τ = r ≡ boolean true → SamePrototype σ o v
 Says σ (is_extensible o) r τ = (x : Bool) × (r ≡ boolean x) × Under σ o (λ b y. x ≡ y.extensible)
 Says σ (prevent_extensions o) r τ = r ≡ boolean true → Shut τ o
-Says σ (get_own_property o k) r τ = (d : OwnProperty) × (r ≡ own_result d) × Faithful σ o k d
+Says σ (get_own_property o k) r τ = (d : Option Property) × (r ≡ own_result d) × Faithful σ o k d
 Says σ (define_own_property o k d) r τ = r ≡ boolean true → Defined σ o k d τ
 Says σ (has_property o k) r τ = (x : Bool) × (r ≡ boolean x) × HasTied σ o k x
 Says σ (get o k receiver) r τ = (x : Value) × (r ≡ value x) × ((v : Value) → Frozen σ o k v → same_value x v ≡ true)
@@ -51,13 +51,13 @@ Says σ (test_integrity_level o level) r τ = r ≡ boolean true → Shut σ o
 -- what an operation does to objects and their numbers: nothing of them ends, one is made, or one is released
 pub data Moves (σ : Store) (asks : Operation) (r : Option Result) (τ : Store) : Type 0 where
   remains : Remains σ τ → Moves σ asks r τ
-  makes : (x : Object) (b : Bool) → makes_object asks ≡ true → r ≡ some (value (named b (next_number σ))) → live_count σ < maximum_objects → (b ≡ true → IsOrdinary x) → τ ≡ add σ x b → Moves σ asks r τ
-  releases : (o : ℕ) → asks ≡ release o → r ≡ some (boolean true) → τ ≡ Release.release σ o → Moves σ asks r τ
+  makes : (x : Object) (b : Bool) → makes_object asks ≡ true → r ≡ Some (value (named b (next_number σ))) → live_count σ < maximum_objects → (b ≡ true → IsOrdinary x) → τ ≡ add σ x b → Moves σ asks r τ
+  releases : (o : ℕ) → asks ≡ release o → r ≡ Some (boolean true) → τ ≡ Release.release σ o → Moves σ asks r τ
 
 -- the result of a run, if it has one
 abbrev pub result_of : Out Result → Option Result
-result_of (Out.failed f s) = none
-result_of (Out.done r s) = some r
+result_of (Out.failed f s) = None
+result_of (Out.done r s) = Some r
 
 -- whatever the end; and a result says what it says
 pub record Said (σ : Store) (asks : Operation) (x : Ran Result) : Type 0 where
@@ -71,7 +71,7 @@ boolean-is x y h = cc
 
 -- what is ensured of a run that is done
 record Gives (σ : Store) (asks : Operation) (a : Result × Store) : Type 0 where
-  moves : Moves σ asks (some a.0) a.1
+  moves : Moves σ asks (Some a.0) a.1
   says : Says σ asks a.0 a.1
 
 said-once : (σ : Store) (asks : Operation) (m : M (Result × Store)) → Ensures m (Gives σ asks) → (s : State) → Said σ asks ((once σ m).run s)
@@ -98,9 +98,9 @@ unfolding make
 made σ x b o asks m f = said-once σ asks _ (ensures-if _ (λ h. ensures-pure _ (record { moves = makes x b m refl (ltb-true _ _ h) o refl; says = f _ _ })) (λ _. ensures-fails _))
 
 revoked-remains : (σ : Store) (o : ℕ) (x : Option Object) → lookup σ o ≡ x → Remains σ (revoked σ o x)
-revoked-remains σ o none e = remains-refl σ
-revoked-remains σ o (some (Ordinary r)) e = remains-refl σ
-revoked-remains σ o (some (Proxy p)) e = remains-proxy σ o p _ e refl (λ h. absurd (true≢false h))
+revoked-remains σ o None e = remains-refl σ
+revoked-remains σ o (Some (Ordinary r)) e = remains-refl σ
+revoked-remains σ o (Some (Proxy p)) e = remains-proxy σ o p _ e refl (λ h. absurd (true≢false h))
 
 -- 7.3.16: only a non-extensible object passes
 test-report : (n : ℕ) (c : Context) (o : ℕ) (level : Level) → Ensures (TestIntegrityLevel.test_integrity_level (methods n c) o level) (λ b. b ≡ true → Shut c.store o)

@@ -1,9 +1,9 @@
 -- How the run of an operation can end, that it leaves no object unmade behind, and that its depth does not matter. Assumes nothing.
+use Rattle.std.specs.Prelude.{Option, None, Some}
 use Prim.Native.Nat.{ℕ, ◌≤◌, ◌<◌}
 use native.Mathlib.Nat.{le_refl, le_trans}
 use mathlib.Core.Path.{◌≡◌, refl, sym, ap, ◌∙◌, subst}
 use mathlib.Core.Bool.{Bool, true, false, not, false≢true, true≢false}
-use mathlib.Core.Option.{Option, none, some}
 use mathlib.Core.List.{List, [], ◌∷◌}
 use lib.Dec.{ltb}
 use borrow.Author.Tests.{ltb-true}
@@ -11,7 +11,6 @@ use Rattle.value.specs.declared.PropertyKey.{PropertyKey}
 use Rattle.property.specs.declared.PropertyDescriptor.{PropertyDescriptor}
 use Rattle.property.specs.declared.Property.{Property}
 use Rattle.property.specs.declared.Property.TheVariants.{Data, Accessor}
-use Rattle.property.specs.declared.OwnProperty.TheVariants.{Absent, Present}
 use Rattle.store.specs.declared.Object.{Object}
 use Rattle.store.specs.declared.Object.TheVariants.{Ordinary, Proxy}
 use Rattle.store.specs.Store.{Store, lookup, add, next_number, live_count, named, maximum_objects}
@@ -148,8 +147,8 @@ module _ (c : Context) (n o d d' : ℕ) (i : n ≤ d) (i' : n ≤ d') where
   unfolding turn freeze_property
   turn-steady sealed k = define-steady k _ sealing
   turn-steady frozen k = steady-sequence-bind (steady-sequence-reads {Q = Any} (λ σ h m. steady-weaken (λ _ _. tt) ((steady-above n d d' i i' (over c σ) h).get_own_property o k m))) (elim [
-    | Absent ↦ steady-sequence-pure tt
-    | Present p ↦ define-steady k _ (freezing p)
+    | None ↦ steady-sequence-pure tt
+    | Some p ↦ define-steady k _ (freezing p)
   ])
 
   turns-steady : (level : Level) (ks : List PropertyKey) → SteadySequence c n o (for_each (turn call o level) ks) (for_each (turn call' o level) ks)
@@ -204,9 +203,9 @@ module _ (c : Context) (n : ℕ) (closed : Closed c.store) (fresh : live_count c
       closing false q s = closed
 
   revoked-closed : (o : ℕ) (x : Option Object) → lookup c.store o ≡ x → Closed (revoked c.store o x)
-  revoked-closed o none e = closed
-  revoked-closed o (some (Ordinary r)) e = closed
-  revoked-closed o (some (Proxy p)) e = closed-put c.store o _ closed (λ h. absurd (true≢false h))
+  revoked-closed o None e = closed
+  revoked-closed o (Some (Ordinary r)) e = closed
+  revoked-closed o (Some (Proxy p)) e = closed-put c.store o _ closed (λ h. absurd (true≢false h))
 
   -- 7.3.16
   steady-if : {m m' k k' : M Bool} (b : Bool) → Steady c n m m' Any → Steady c n k k' Any → Steady c n (when◌then◌else◌ b m k) (when◌then◌else◌ b m' k') Any

@@ -1,9 +1,9 @@
 -- The world at each place of a list of calls: what holds of every one of them, and how they follow one another. Assumes nothing.
+use Rattle.std.specs.Prelude.{Option, None, Some}
 use Prim.Native.Nat.{ℕ, zero, suc}
 use native.Mathlib.Nat.{le_refl}
 use mathlib.Core.Path.{◌≡◌, refl, sym, ap, ◌∙◌, subst}
 use mathlib.Core.Bool.{true, false≢true}
-use mathlib.Core.Option.{Option, none, some}
 use mathlib.Core.List.{List, [], ◌∷◌}
 use Rattle.store.specs.declared.Object.{Object}
 use Rattle.store.specs.declared.Object.TheVariants.{Ordinary, Proxy}
@@ -35,7 +35,7 @@ ran-said ω bytes sheet = performed maximum_calls (context_of ω) (asked bytes) 
 
 -- the store that a run over a world leaves, whatever its end
 pub data Gives (ω : World) : Store → Type 0 where
-  gives : (bytes sheet : List ℕ) → first_failing (record_tests ω bytes sheet) ≡ none → Gives ω (ran ω bytes sheet).1
+  gives : (bytes sheet : List ℕ) → first_failing (record_tests ω bytes sheet) ≡ None → Gives ω (ran ω bytes sheet).1
 
 entry_kept : (ω : World) (units : List ℕ) (P : Store → Type 0) → P ω.store → {x : Effect} → EntryEnds ω units x → P x.world.store
 entry_kept ω units P h (refuses e) = h
@@ -74,8 +74,8 @@ coherent-empty = record {
   numbered = numbered-empty;
 }
   where
-    nothing : (o : ℕ) (x : Object) → lookup empty.store o ≡ some x → ⊥
-    nothing o x e = let p : none ≡ some x = sym (lookup-empty o) ∙ e in false≢true cc
+    nothing : (o : ℕ) (x : Object) → lookup empty.store o ≡ Some x → ⊥
+    nothing o x e = let p : None ≡ Some x = sym (lookup-empty o) ∙ e in false≢true cc
 
 numbered-moves : {σ τ : Store} {asks : Operation} {r : Option Result} → Numbered σ → MadeOperation σ asks → Moves σ asks r τ → Numbered τ
 numbered-moves n m (Moves.remains h) = numbered-same h.numbers n
@@ -113,7 +113,7 @@ module _ (ω : World) (h : Coherent ω.store) (bytes sheet output : List ℕ) wh
   still e = grows (rw e (grows-refl ω.store))
 
   grown : {asks : Operation} {r : Option Result} {τ : Store} → (effect ω (call.step bytes sheet output)).world.store ≡ τ → Moves ω.store asks r τ
-      → ((o : ℕ) → asks ≡ release o → r ≡ some (boolean true) → τ ≡ Release.release ω.store o → Moved ω (call.step bytes sheet output)) → Moved ω (call.step bytes sheet output)
+      → ((o : ℕ) → asks ≡ release o → r ≡ Some (boolean true) → τ ≡ Release.release ω.store o → Moved ω (call.step bytes sheet output)) → Moved ω (call.step bytes sheet output)
   grown e (Moves.remains g) f = grows (rw e g.grows)
   grown {τ = τ} e (Moves.makes x b _ _ l o i) f = grows (subst (Grows ω.store) (sym (e ∙ i)) (grows-add ω.store (numbered-fresh ω.store h.numbered l) x b o))
   grown e (Moves.releases o a r i) f = f o a r i

@@ -1,10 +1,10 @@
 -- Laws of what writes as it goes: seen as one method, and what holds of every store that it leaves. Assumes nothing.
+use Rattle.std.specs.Prelude.{None, Some}
 use Prim.Native.Nat.{ℕ}
 use mathlib.Core.Path.{◌≡◌, refl}
 use mathlib.Core.Bool.{Bool, true, false, not, false≢true, true≢false}
 use mathlib.Core.List.{List, [], ◌∷◌}
 use Rattle.value.specs.declared.PropertyKey.{PropertyKey}
-use Rattle.property.specs.declared.OwnProperty.TheVariants.{Absent, Present}
 use Rattle.property.specs.declared.PropertyDescriptor.{PropertyDescriptor}
 use Rattle.store.specs.Store.{Store}
 use Rattle.internal_methods.specs.declared.Failure.{Failure}
@@ -174,8 +174,8 @@ module _ {call : Store → Methods} {o : ℕ} {P I : Store → Type 0} {E : Fail
   unfolding turn freeze_property
   turn-leads sealed k = define-leads k _
   turn-leads frozen k = leads-bind {R = λ _. I} (leads-reads (λ σ i. keeping i (h.tells σ i k))) (elim [
-    | Absent ↦ leads-pure _ (λ σ i. i)
-    | Present p ↦ define-leads k _
+    | None ↦ leads-pure _ (λ σ i. i)
+    | Some p ↦ define-leads k _
   ])
 
   turns-lead : (level : Level) (ks : List PropertyKey) → Leads I (for_each (turn call o level) ks) (λ _. I) E

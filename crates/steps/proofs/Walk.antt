@@ -1,8 +1,8 @@
 -- In every world of a list of calls, the bound on the walk of 10.1.2.1 step 7 never decides. Assumes nothing.
+use Rattle.std.specs.Prelude.{Option, None, Some}
 use Prim.Native.Nat.{ℕ, ◌≤◌, ◌<◌}
 use mathlib.Core.Path.{◌≡◌, refl, sym, ◌∙◌}
 use mathlib.Core.Bool.{Bool, true, false, false≢true}
-use mathlib.Core.Option.{Option, none, some}
 use mathlib.Core.List.{List}
 use lib.ListN.{length}
 use borrow.Author.Tests.{ltb-true}
@@ -55,9 +55,9 @@ module _ (c : Context) (h : Ends c.store) (fresh : live_count c.store < maximum_
   makes x b m = once-ends c.store h _ (ensures-if _ (λ l. ensures-pure _ (ends-add c.store (fresh (ltb-true _ _ l)) x b m h)) (λ _. ensures-fails _))
 
   revokes : (o : ℕ) (x : Option Object) → lookup c.store o ≡ x → Ends (revoked c.store o x)
-  revokes o none e = h
-  revokes o (some (Ordinary r)) e = h
-  revokes o (some (Proxy p)) e = ends-put c.store o _ _ e proxies-alike h
+  revokes o None e = h
+  revokes o (Some (Ordinary r)) e = h
+  revokes o (Some (Proxy p)) e = ends-put c.store o _ _ e proxies-alike h
 
   -- what writes as it goes
   sets : (n o : ℕ) (level : Level) (s : State) → Ends ((perform n c (set_integrity_level o level)).run s).1
@@ -103,8 +103,8 @@ ends-empty : Ends empty.store
 ends-empty = record { chain = λ v m. go v m (object_of v) refl }
   where
     go : (v : Value) → MadeValue empty.store v → (x : Option ℕ) → object_of v ≡ x → (n : ℕ) × Chain empty.store n v
-    go v m none e = (0, value e)
-    go v m (some q) e = let (x, f) = m.made q e in let g : none ≡ some x = sym (lookup-empty q) ∙ f in absurd (false≢true cc)
+    go v m None e = (0, value e)
+    go v m (Some q) e = let (x, f) = m.made q e in let g : None ≡ Some x = sym (lookup-empty q) ∙ f in absurd (false≢true cc)
 
 -- in every world of a list of calls, the chain of prototypes from each object ends
 pub ends_at : (calls : List Call) (i : ℕ) → Ends (world_at calls i).store

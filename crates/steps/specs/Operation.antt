@@ -1,6 +1,5 @@
 -- What a step asks for, by its code. Assumes nothing.
-use Rattle.std.specs.Prelude.{ℕ, Bool, true, false, List, eqb, ℤ, pos, negsuc}
-use Rattle.std.proofs.Math.Option.{Option, none, some}
+use Rattle.std.specs.Prelude.{ℕ, Bool, true, false, List, eqb, ℤ, pos, negsuc, Option, None, Some}
 use Rattle.value.specs.declared.Value.{Value}
 use Rattle.value.specs.declared.Value.TheVariants as value
 use Rattle.value.specs.declared.PropertyKey.{PropertyKey}
@@ -82,8 +81,8 @@ writes_in_turn (test_integrity_level o level) = false
 
 -- the key that a value is; one that is none is refused before it is asked for
 abbrev pub key_or_first : Option PropertyKey → PropertyKey
-key_or_first none = String 0
-key_or_first (some k) = k
+key_or_first None = String 0
+key_or_first (Some k) = k
 
 -- the natural number that a value is; one that is none is refused before it is asked for
 abbrev pub natural_number : ℤ → ℕ

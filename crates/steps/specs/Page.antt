@@ -1,14 +1,11 @@
 -- The property page of an ordinary object: a line of names, then a line for each own property, in the order of the own keys. Assumes nothing.
-use Rattle.std.specs.Prelude.{ℕ, ◌+◌, ◌-◌, ◌/◌, ◌%◌, ◌≡◌, Bool, true, false, cond, List, [], ◌∷◌, ◌++◌, length, take, drop, replicate}
-use Rattle.std.proofs.Math.Option.{Option, none, some}
+use Rattle.std.specs.Prelude.{ℕ, ◌+◌, ◌-◌, ◌/◌, ◌%◌, ◌≡◌, Bool, true, false, cond, List, [], ◌∷◌, ◌++◌, length, take, drop, replicate, Option, None, Some}
 use Rattle.value.specs.declared.Value.{Value}
 use Rattle.value.specs.declared.PropertyKey.{PropertyKey}
 use Rattle.value.specs.declared.PropertyKey.TheVariants.{String, Symbol}
 use Rattle.value.specs.PropertyKey.{key_number}
 use Rattle.property.specs.declared.Property.{Property}
 use Rattle.property.specs.declared.Property.TheVariants.{Data, Accessor}
-use Rattle.property.specs.declared.OwnProperty.{OwnProperty}
-use Rattle.property.specs.declared.OwnProperty.TheVariants.{Absent, Present}
 use Rattle.store.specs.declared.Object.{Object}
 use Rattle.store.specs.declared.Object.TheVariants.{Ordinary, Proxy}
 use Rattle.store.specs.Store.{Store, World, lookup, own}
@@ -80,9 +77,9 @@ pub record LineFormed (l : List ℕ) : Type 0 where
 
 -- Pages ---------------------------------------------------------------------------------
 
-abbrev pub with_own : PropertyKey → OwnProperty → List (PropertyKey × Property) → List (PropertyKey × Property)
-with_own k Absent shown = shown
-with_own k (Present p) shown = (k, p) ∷ shown
+abbrev pub with_own : PropertyKey → Option Property → List (PropertyKey × Property) → List (PropertyKey × Property)
+with_own k None shown = shown
+with_own k (Some p) shown = (k, p) ∷ shown
 
 -- the keys, each with its property
 unfoldable pub own_of : Store → ℕ → List PropertyKey → List (PropertyKey × Property)
@@ -113,9 +110,9 @@ writing ω text output true = record {
 
 -- refusal 2 of a number never made, and 3 of a proxy
 abbrev pub paging : World → ℕ → List ℕ → Option Object → Effect
-paging ω o output none = refusing 2 ω output
-paging ω o output (some (Ordinary r)) = writing ω (page ω o) output (output_holds (result.page (page ω o)) output)
-paging ω o output (some (Proxy p)) = refusing 3 ω output
+paging ω o output None = refusing 2 ω output
+paging ω o output (Some (Ordinary r)) = writing ω (page ω o) output (output_holds (result.page (page ω o)) output)
+paging ω o output (Some (Proxy p)) = refusing 3 ω output
 
 unfoldable pub property_page : World → ℕ → List ℕ → Effect
 property_page ω o output = paging ω o output (lookup ω.store o)

@@ -1,18 +1,15 @@
 -- What each operation does to the store, and its result. Assumes nothing.
-use Rattle.std.specs.Prelude.{ℕ, Bool, true, false, List, ltb}
-use Rattle.std.proofs.Math.Option.{Option, none, some}
+use Rattle.std.specs.Prelude.{ℕ, Bool, true, false, List, ltb, Option, None, Some}
 use Rattle.value.specs.declared.Value.{Value}
 use Rattle.value.specs.declared.Value.TheVariants as language
 use Rattle.value.specs.declared.PropertyKey.{PropertyKey}
 use Rattle.property.specs.declared.Property.{Property}
-use Rattle.property.specs.declared.OwnProperty.{OwnProperty}
-use Rattle.property.specs.declared.OwnProperty.TheVariants.{Absent, Present}
 use Rattle.store.specs.declared.Object.{Object}
 use Rattle.store.specs.declared.Object.TheVariants.{Ordinary, Proxy}
 use Rattle.store.specs.Store.{Store, lookup, put, add, next_number, live_count, named, maximum_objects}
 use Rattle.store.specs.Release
 use Rattle.internal_methods.specs.declared.Failure.TheVariants.{Refused}
-use Rattle.internal_methods.specs.Monad.{State, M, pure, fails, ◌>>=◌, ◌>>◌, when◌then◌else◌}
+use Rattle.internal_methods.specs.Monad.{State, M, pure, fails, ◌>>=◌, when◌then◌else◌}
 use Rattle.internal_methods.specs.Methods.{Context, Written}
 use Rattle.internal_methods.specs.Internal.{methods}
 use Rattle.steps.specs.Operation.{Operation, make_object, make_proxy, revoke, get_prototype_of, set_prototype_of, is_extensible, prevent_extensions, get_own_property, define_own_property, has_property, get, set, delete, own_property_keys, make_function, release, set_integrity_level, test_integrity_level}
@@ -31,9 +28,9 @@ pub data Result : Type 0 where
 abbrev pub maximum_calls : ℕ
 maximum_calls = 2048
 
-abbrev pub own_result : OwnProperty → Result
-own_result Absent = absent
-own_result (Present p) = descriptor p
+abbrev pub own_result : Option Property → Result
+own_result None = absent
+own_result (Some p) = descriptor p
 
 abbrev pub boolean : Bool → Result
 boolean b = value (language.Boolean b)
@@ -64,9 +61,9 @@ make σ x b =
     else fails (Refused 7)
 
 abbrev pub revoked : Store → ℕ → Option Object → Store
-revoked σ o none = σ
-revoked σ o (some (Ordinary r)) = σ
-revoked σ o (some (Proxy p)) = put σ o (Proxy (record { target = p.target; traps = p.traps; revoked = true }))
+revoked σ o None = σ
+revoked σ o (Some (Ordinary r)) = σ
+revoked σ o (Some (Proxy p)) = put σ o (Proxy (record { target = p.target; traps = p.traps; revoked = true }))
 
 -- the same strings and allowance, over another store
 abbrev pub over : Context → Store → Context

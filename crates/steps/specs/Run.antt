@@ -1,7 +1,5 @@
 -- Lists of calls: each finds the world that its predecessor left. Assumes nothing.
-use Rattle.std.specs.Prelude.{ℕ, zero, suc, ◌≡◌, List, [], ◌∷◌}
-use Rattle.std.proofs.Math.Option.{some}
-use Rattle.std.proofs.Math.ListN.{get_elem?}
+use Rattle.std.specs.Prelude.{ℕ, zero, suc, ◌≡◌, List, [], ◌∷◌, Some, slice_get}
 use Rattle.store.specs.Store.{World, empty}
 use Rattle.steps.specs.Response.{Response, Effect}
 use Rattle.steps.specs.Step
@@ -26,7 +24,7 @@ pub record Event : Type 0 where
 
 -- the event at a place of the list, counted from 0
 abbrev pub At : List Event → ℕ → Event → Type 0
-At events i e = get_elem? events i ≡ some e
+At events i e = slice_get events i ≡ Some e
 
 unfoldable pub run_from : World → List Call → List Event
 run_from ω [] = []

@@ -1,14 +1,10 @@
 -- ECMA-262 7.3.15: an object is sealed or frozen. Assumes nothing.
-use Rattle.std.specs.Prelude.{ℕ, Bool, true, false, not}
+use Rattle.std.specs.Prelude.{ℕ, Bool, true, false, not, None, Some}
 use Rattle.value.specs.declared.PropertyKey.{PropertyKey}
-use Rattle.property.specs.declared.Flag.TheVariants as flag
-use Rattle.property.specs.declared.Field.TheVariants as field
 use Rattle.property.specs.declared.DescriptorKind.TheVariants as kind
 use Rattle.property.specs.declared.PropertyDescriptor.{PropertyDescriptor}
 use Rattle.property.specs.declared.Property.{Property}
 use Rattle.property.specs.declared.Property.TheVariants.{Data, Accessor}
-use Rattle.property.specs.declared.OwnProperty.{OwnProperty}
-use Rattle.property.specs.declared.OwnProperty.TheVariants.{Absent, Present}
 use Rattle.store.specs.Store.{Store}
 use Rattle.internal_methods.specs.Methods.{Methods}
 use Rattle.steps.specs.Operation.{Level, sealed, frozen}
@@ -16,14 +12,14 @@ use Rattle.steps.specs.Sequence.{Sequence, pure, reads, writes, ◌>>=◌, ◌>>
 
 -- { [[Configurable]]: false }
 abbrev pub sealed_descriptor : PropertyDescriptor
-sealed_descriptor = record { enumerable = flag.Absent; configurable = flag.Present false; kind = kind.Generic }
+sealed_descriptor = record { enumerable = None; configurable = Some false; kind = kind.Generic }
 
 -- { [[Configurable]]: false, [[Writable]]: false }
 abbrev pub read_only_descriptor : PropertyDescriptor
 read_only_descriptor = record {
-  enumerable = flag.Absent;
-  configurable = flag.Present false;
-  kind = kind.Data field.Absent (flag.Present false);
+  enumerable = None;
+  configurable = Some false;
+  kind = kind.Data None (Some false);
 }
 
 -- 7.3.15 step 5.b.ii
@@ -44,8 +40,8 @@ module _ (call : Store → Methods) (o : ℕ) where
   freeze_property k = do
     current_desc ← reads (λ σ. (call σ).get_own_property o k)  -- i
     elim current_desc [  -- ii
-      | Absent ↦ pure tt
-      | Present p ↦ define_property_or_throw k (frozen_descriptor p)  -- 3
+      | None ↦ pure tt
+      | Some p ↦ define_property_or_throw k (frozen_descriptor p)  -- 3
     ]
 
   -- 7.3.15 steps 4.a and 5.b: the turn of a key

@@ -1,6 +1,5 @@
 -- A step over bytes: what is refused, what is run, and what world and output are after it. Assumes nothing.
-use Rattle.std.specs.Prelude.{ℕ, ◌-◌, ◌*◌, Bool, true, false, List, [], ◌∷◌, ◌++◌, leb, length, drop}
-use Rattle.std.proofs.Math.Option.{Option, none, some}
+use Rattle.std.specs.Prelude.{ℕ, ◌-◌, ◌*◌, Bool, true, false, List, [], ◌∷◌, ◌++◌, leb, length, drop, Option, None, Some}
 use Rattle.value.specs.declared.PropertyKey.{PropertyKey}
 use Rattle.value.specs.PropertyKey.{key_value}
 use Rattle.store.specs.declared.Object.{Object}
@@ -26,9 +25,9 @@ abbrev pub context_of : World → Context
 context_of ω = record { store = ω.store; strings = ω.strings; allowance = maximum_properties }
 
 abbrev pub is_proxy : Option Object → Bool
-is_proxy none = false
-is_proxy (some (Ordinary r)) = false
-is_proxy (some (Proxy p)) = true
+is_proxy None = false
+is_proxy (Some (Ordinary r)) = false
+is_proxy (Some (Proxy p)) = true
 
 -- refusals 1 to 3, 14 and 4 over the step, then 1 to 3 over the sheet
 abbrev pub record_tests : World → List ℕ → List ℕ → List (ℕ × Bool)
@@ -125,8 +124,8 @@ calls_made budget (failed f s) = budget - s.calls
 calls_made budget (done r s) = budget - s.calls
 
 abbrev pub tested : World → List Answer → List ℕ → Ran Result → Option ℕ → Effect
-tested ω answers output run (some n) = refusing n ω output
-tested ω answers output run none = ended ω answers output run
+tested ω answers output run (Some n) = refusing n ω output
+tested ω answers output run None = ended ω answers output run
 
 unfoldable pub step : World → List ℕ → List ℕ → List ℕ → Effect
 step ω bytes sheet output = tested ω (sheet_of sheet) output (ran ω bytes sheet) (first_failing (record_tests ω bytes sheet))

@@ -1,19 +1,18 @@
 -- ECMA-262 7.3.16: whether an object is sealed or frozen. Assumes nothing.
-use Rattle.std.specs.Prelude.{ℕ, Bool, true, false, ◌||◌, List, [], ◌∷◌}
+use Rattle.std.specs.Prelude.{ℕ, Bool, true, false, ◌||◌, List, [], ◌∷◌, Option, None, Some}
 use Rattle.value.specs.declared.PropertyKey.{PropertyKey}
 use Rattle.property.specs.declared.Property.TheVariants.{Data, Accessor}
-use Rattle.property.specs.declared.OwnProperty.{OwnProperty}
-use Rattle.property.specs.declared.OwnProperty.TheVariants.{Absent, Present}
 use Rattle.internal_methods.specs.Monad.{M, pure, ◌>>=◌, when◌then◌else◌}
 use Rattle.internal_methods.specs.Methods.{Methods}
 use Rattle.steps.specs.Operation.{Level, sealed, frozen}
+use Rattle.property.specs.declared.Property.{Property}
 
 -- 7.3.16 step 5.b: a property that the level does not allow
-abbrev pub is_loose : Level → OwnProperty → Bool
-is_loose level Absent = false
-is_loose level (Present (Accessor g s e c)) = c  -- i
-is_loose sealed (Present (Data v w e c)) = c  -- i
-is_loose frozen (Present (Data v w e c)) = c || w  -- i, ii
+abbrev pub is_loose : Level → Option Property → Bool
+is_loose level None = false
+is_loose level (Some (Accessor g s e c)) = c  -- i
+is_loose sealed (Some (Data v w e c)) = c  -- i
+is_loose frozen (Some (Data v w e c)) = c || w  -- i, ii
 
 module _ (call : Methods) (o : ℕ) (level : Level) where
   -- 7.3.16 steps 5 and 6

@@ -1,4 +1,5 @@
 -- What insertion, replacement and removal do to a list of entries. Assumes nothing.
+use Rattle.std.specs.Prelude.{None, Some}
 use Prim.Native.Nat.{ℕ, zero, suc}
 use native.Mathlib.Omega.{arith}
 use mathlib.Core.Path.{◌≡◌, refl, ap, ◌∙◌}
@@ -11,7 +12,6 @@ use Rattle.value.specs.PropertyKey.{same_key}
 use Rattle.value.proofs.Bools.{and-true}
 use Rattle.value.proofs.SameKey.{key-eq}
 use Rattle.property.specs.declared.Property.{Property}
-use Rattle.property.specs.declared.OwnProperty.TheVariants.{Absent, Present}
 use Rattle.store.specs.declared.Entry.{Entry}
 use Rattle.store.specs.Store.{entry, is_at, find, insert, excluding, remove, replace_at}
 use Rattle.store.specs.OwnKeys.{keys_in}
@@ -34,23 +34,23 @@ first-replaced o k (e ∷ es) _ p (here h) = let (a, b) = at-owner e o k h in rw
 first-replaced o k (e ∷ es) _ p (later h f) = rw (h, first-replaced o k es _ p f)
 
 -- inserting what is absent appends it
-pub absent-appended : (es : List Entry) (o : ℕ) (k : PropertyKey) (p : Property) → find es o k ≡ Absent → insert es o k p ≡ es ++ (entry o k p ∷ [])
+pub absent-appended : (es : List Entry) (o : ℕ) (k : PropertyKey) (p : Property) → find es o k ≡ None → insert es o k p ≡ es ++ (entry o k p ∷ [])
 unfolding find insert
 absent-appended [] o k p h = refl
 absent-appended (e ∷ es) o k p h = go (is_at e o k) refl (absent-appended es o k p)
   where
-    go : (t : Bool) → is_at e o k ≡ t → (find es o k ≡ Absent → insert es o k p ≡ es ++ (entry o k p ∷ []))
+    go : (t : Bool) → is_at e o k ≡ t → (find es o k ≡ None → insert es o k p ≡ es ++ (entry o k p ∷ []))
         → insert (e ∷ es) o k p ≡ (e ∷ es) ++ (entry o k p ∷ [])
     go true q ih =
-        let z : Present e.property ≡ Absent = rw q at h in
+        let z : Some e.property ≡ None = rw q at h in
         let y : ◌≡◌ {A = ℕ} 0 1 = cc in absurd (omega arith)
     go false q ih =
-        let z : find es o k ≡ Absent = rw q at h in
+        let z : find es o k ≡ None = rw q at h in
         rw (q, ih z)
 
 -- what is found once the first entry is replaced
 pub find-replaced : (o : ℕ) (k : PropertyKey) (es : List Entry) (i : ℕ) (p : Property) (b : ℕ) (l : PropertyKey) → First o k es i
-    → find (replace_at es i p) b l ≡ cond (same_place o k b l) (Present p) (find es b l)
+    → find (replace_at es i p) b l ≡ cond (same_place o k b l) (Some p) (find es b l)
 find-replaced o k es i p b l f = rw (first-replaced o k es i p f) (find-insert es o k p b l)
 
 -- Keys ----------------------------------------------------------------------------------
@@ -63,16 +63,16 @@ keys-replaced (e ∷ es) zero p b = refl
 keys-replaced (e ∷ es) (suc i) p b = rw (keys-replaced es i p b)
 
 -- and so does insertion of a key that is present
-pub keys-present : (es : List Entry) (o : ℕ) (k : PropertyKey) (p q : Property) (b : ℕ) → find es o k ≡ Present q → keys_in (insert es o k p) b ≡ keys_in es b
+pub keys-present : (es : List Entry) (o : ℕ) (k : PropertyKey) (p q : Property) (b : ℕ) → find es o k ≡ Some q → keys_in (insert es o k p) b ≡ keys_in es b
 unfolding keys_in insert find
 keys-present [] o k p q b h = let y : ◌≡◌ {A = ℕ} 0 1 = cc in absurd (omega arith)
 keys-present (e ∷ es) o k p q b h = go (is_at e o k) refl (keys-present es o k p q b)
   where
-    go : (t : Bool) → is_at e o k ≡ t → (find es o k ≡ Present q → keys_in (insert es o k p) b ≡ keys_in es b)
+    go : (t : Bool) → is_at e o k ≡ t → (find es o k ≡ Some q → keys_in (insert es o k p) b ≡ keys_in es b)
         → keys_in (insert (e ∷ es) o k p) b ≡ keys_in (e ∷ es) b
     go true t ih = let (x, y) = at-owner e o k t in rw (t, x, y)
     go false t ih =
-        let z : find es o k ≡ Present q = rw t at h in
+        let z : find es o k ≡ Some q = rw t at h in
         rw (t, ih z)
 
 keys-append : (es fs : List Entry) (b : ℕ) → keys_in (es ++ fs) b ≡ keys_in es b ++ keys_in fs b
@@ -85,7 +85,7 @@ keys-append (e ∷ es) fs b = rw (keys-append es fs b) (push (eqb e.owner b))
     push false = refl
 
 -- a key that is new comes last
-pub keys-absent : (es : List Entry) (o : ℕ) (k : PropertyKey) (p : Property) → find es o k ≡ Absent → keys_in (insert es o k p) o ≡ keys_in es o ++ (k ∷ [])
+pub keys-absent : (es : List Entry) (o : ℕ) (k : PropertyKey) (p : Property) → find es o k ≡ None → keys_in (insert es o k p) o ≡ keys_in es o ++ (k ∷ [])
 unfolding keys_in
 keys-absent es o k p h = rw (absent-appended es o k p h, keys-append es (entry o k p ∷ []) o, eq-eqb o o refl)
 

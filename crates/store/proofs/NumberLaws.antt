@@ -1,9 +1,9 @@
 -- Numbers of objects: those in use, those released, and what making and releasing do to them. Assumes nothing.
+use Rattle.std.specs.Prelude.{Option, None, Some}
 use Prim.Native.Nat.{ℕ, zero, suc, ◌+◌, ◌-◌, ◌≤◌, ◌<◌}
 use native.Mathlib.Omega.{arith}
 use mathlib.Core.Path.{◌≡◌, refl, sym, ap, ◌∙◌}
 use mathlib.Core.Bool.{Bool, true, false, false≢true, true≢false}
-use mathlib.Core.Option.{Option, none, some}
 use mathlib.Core.List.{List, [], ◌∷◌, ◌++◌, map}
 use lib.Dec.{eqb, ltb}
 use lib.ListN.{length, get_or, set, length-set, length-map, length-append, get_or-map}
@@ -70,7 +70,7 @@ numbered-same {σ} {τ} s h = record { numbering = rw (s.marks, s.made, s.releas
 
 live-set : (σ : Store) (o : ℕ) → is_set (marks_of σ) o ≡ is_live (lookup σ o)
 unfolding lookup
-live-set σ o = get_or-map is_live σ.objects o none
+live-set σ o = get_or-map is_live σ.objects o None
 
 -- the same objects are live
 pub same_live : {σ τ : Store} → SameNumbers σ τ → (o : ℕ) → is_live (lookup τ o) ≡ is_live (lookup σ o)
@@ -87,10 +87,10 @@ set-again (f ∷ fs) zero h = rw h
 set-again (f ∷ fs) (suc o) h = ap (λ (gs : List Bool). f ∷ gs) (set-again fs o h)
 
 -- an object that was there is now another
-pub same-put : (σ : Store) (o : ℕ) (x y : Object) → lookup σ o ≡ some x → SameNumbers σ (put σ o y)
+pub same-put : (σ : Store) (o : ℕ) (x y : Object) → lookup σ o ≡ Some x → SameNumbers σ (put σ o y)
 unfolding put
 same-put σ o x y e = record {
-  marks = map-set σ.objects o (some y) ∙ set-again (marks_of σ) o (live-set σ o ∙ ap is_live e);
+  marks = map-set σ.objects o (Some y) ∙ set-again (marks_of σ) o (live-set σ o ∙ ap is_live e);
   made = refl;
   released = refl;
 }
@@ -212,17 +212,17 @@ numbered-fresh σ n h =
     let (l, u) = next-free σ.released n.numbering h in
     record { within = omega (arith, l, length-map σ.objects is_live, n.numbering.size); free = none-live (lookup σ (next_number σ)) (sym (live-set σ (next_number σ)) ∙ u) }
   where
-    none-live : (x : Option Object) → is_live x ≡ false → x ≡ none
-    none-live none e = refl
-    none-live (some x) e = absurd (true≢false e)
+    none-live : (x : Option Object) → is_live x ≡ false → x ≡ None
+    none-live None e = refl
+    none-live (Some x) e = absurd (true≢false e)
 
 pub numbered-add : (σ : Store) → Numbered σ → live_count σ < 32 → (x : Object) (b : Bool) → Numbered (add σ x b)
 unfolding add
-numbered-add σ n h x b = record { numbering = rw (map-set σ.objects (next_number σ) (some x)) (numbering-add σ.released n.numbering h) }
+numbered-add σ n h x b = record { numbering = rw (map-set σ.objects (next_number σ) (Some x)) (numbering-add σ.released n.numbering h) }
 
-pub numbered-release : (σ : Store) → Numbered σ → (o : ℕ) (x : Object) → lookup σ o ≡ some x → Numbered (release σ o)
+pub numbered-release : (σ : Store) → Numbered σ → (o : ℕ) (x : Object) → lookup σ o ≡ Some x → Numbered (release σ o)
 unfolding release
-numbered-release σ n o x e = record { numbering = rw (map-set σ.objects o none) (numbering-release σ.released n.numbering o (live-set σ o ∙ ap is_live e)) }
+numbered-release σ n o x e = record { numbering = rw (map-set σ.objects o None) (numbering-release σ.released n.numbering o (live-set σ o ∙ ap is_live e)) }
 
 pub numbered-empty : Numbered empty.store
 unfolding count
@@ -243,7 +243,7 @@ pub same-released : {σ τ : Store} → SameNumbers σ τ → τ.released ≡ σ
 same-released s = s.released
 
 -- the number of a live object is not among those released
-pub live-outside : (σ : Store) → Numbered σ → (o : ℕ) (x : Object) → lookup σ o ≡ some x → Outside o σ.released
+pub live-outside : (σ : Store) → Numbered σ → (o : ℕ) (x : Object) → lookup σ o ≡ Some x → Outside o σ.released
 live-outside σ n o x e = go _ n.numbering.free
   where
     set : is_set (marks_of σ) o ≡ true
@@ -258,7 +258,7 @@ live-outside σ n o x e = go _ n.numbering.free
     go _ (cons {o = q} l u a f) = cons (back q (eqb o q) refl u) (go _ f)
 
 -- a number that is released comes last
-pub released-last : (σ : Store) → Numbered σ → (o : ℕ) (x : Object) → lookup σ o ≡ some x → (release σ o).released ≡ σ.released ++ (o ∷ [])
+pub released-last : (σ : Store) → Numbered σ → (o : ℕ) (x : Object) → lookup σ o ≡ Some x → (release σ o).released ≡ σ.released ++ (o ∷ [])
 unfolding release
 released-last σ n o x e = rw (lt-ltb (length σ.released) 32 (few n.numbering o (live-set σ o ∙ ap is_live e)))
 

@@ -1,15 +1,12 @@
 -- No place of the table of properties has two entries, whatever is written. Assumes nothing.
+use Rattle.std.specs.Prelude.{Option, None, Some, slice_get}
 use Prim.Native.Nat.{ℕ, zero, suc}
 use mathlib.Core.Path.{◌≡◌, refl, sym, ◌∙◌}
 use mathlib.Core.Bool.{Bool, true, false, cond, false≢true, true≢false}
-use mathlib.Core.Option.{some}
 use mathlib.Core.List.{List, [], ◌∷◌}
-use lib.ListN.{get_elem?}
 use Rattle.value.specs.declared.PropertyKey.{PropertyKey}
 use Rattle.value.proofs.Bools.{refuted}
 use Rattle.property.specs.declared.Property.{Property}
-use Rattle.property.specs.declared.OwnProperty.{OwnProperty}
-use Rattle.property.specs.declared.OwnProperty.TheVariants.{Absent, Present}
 use Rattle.store.specs.declared.Entry.{Entry}
 use Rattle.store.specs.Store.{is_at, find, insert, excluding, remove}
 use Rattle.store.proofs.StoreLaws.{same_place, place-refl, place-eq, find-insert}
@@ -17,13 +14,13 @@ use Rattle.store.proofs.StoreLaws.{same_place, place-refl, place-eq, find-insert
 -- behind an entry there is none of its place
 pub data Distinct : List Entry → Type 0 where
   nil : Distinct []
-  cons : {e : Entry} {es : List Entry} → find es e.owner e.key ≡ Absent → Distinct es → Distinct (e ∷ es)
+  cons : {e : Entry} {es : List Entry} → find es e.owner e.key ≡ None → Distinct es → Distinct (e ∷ es)
 
-present-absent : {C : Type 0} {x : OwnProperty} {p : Property} → x ≡ Present p → x ≡ Absent → C
-present-absent {p = p} e f = let g : Present p ≡ Absent = sym e ∙ f in absurd (false≢true cc)
+present-absent : {C : Type 0} {x : Option Property} {p : Property} → x ≡ Some p → x ≡ None → C
+present-absent {p = p} e f = let g : Some p ≡ None = sym e ∙ f in absurd (false≢true cc)
 
 -- so an entry is what its place has
-pub found-entry : (es : List Entry) → Distinct es → (i : ℕ) (e : Entry) → get_elem? es i ≡ some e → find es e.owner e.key ≡ Present e.property
+pub found-entry : (es : List Entry) → Distinct es → (i : ℕ) (e : Entry) → slice_get es i ≡ Some e → find es e.owner e.key ≡ Some e.property
 unfolding find is_at
 found-entry [] d i e h = absurd (false≢true cc)
 found-entry (f ∷ es) d zero e h = let q : f ≡ e = cc in rw (q, place-refl e.owner e.key)
@@ -43,13 +40,13 @@ distinct-insert (e ∷ es) o k p (cons a d) = go (is_at e o k) refl (distinct-in
         let other : same_place o k e.owner e.key ≡ false = refuted _ λ t. let (q, r) = place-eq o k e.owner e.key t in true≢false (sym (rw (q, r) (place-refl e.owner e.key)) ∙ h) in
         cons (find-insert es o k p e.owner e.key ∙ rw (other, a)) ih
 
-absent-excluding : (test : Entry → Bool) (es : List Entry) (o : ℕ) (k : PropertyKey) → find es o k ≡ Absent → find (excluding test es) o k ≡ Absent
+absent-excluding : (test : Entry → Bool) (es : List Entry) (o : ℕ) (k : PropertyKey) → find es o k ≡ None → find (excluding test es) o k ≡ None
 unfolding find excluding
 absent-excluding test [] o k h = refl
 absent-excluding test (e ∷ es) o k h = go (test e) (is_at e o k) refl h (absent-excluding test es o k)
   where
-    go : (t u : Bool) → is_at e o k ≡ u → cond u (Present e.property) (find es o k) ≡ Absent → (find es o k ≡ Absent → find (excluding test es) o k ≡ Absent)
-        → find (cond t (excluding test es) (e ∷ excluding test es)) o k ≡ Absent
+    go : (t u : Bool) → is_at e o k ≡ u → cond u (Some e.property) (find es o k) ≡ None → (find es o k ≡ None → find (excluding test es) o k ≡ None)
+        → find (cond t (excluding test es) (e ∷ excluding test es)) o k ≡ None
     go t true f g ih = present-absent refl g
     go true false f g ih = ih g
     go false false f g ih = rw f (ih g)

@@ -1,10 +1,10 @@
 -- Laws of the store's words, for those that read and that write them. Assumes nothing.
+use Rattle.std.specs.Prelude.{None, Some}
 use Prim.Native.Nat.{ℕ, zero, suc, ◌+◌, ◌*◌, ◌/◌, ◌%◌, ◌^◌, ◌<◌, ◌≤◌}
 use native.Mathlib.Nat.{mod-one, mod-eq_of_lt}
 use native.Mathlib.Omega.{arith}
 use mathlib.Core.Path.{◌≡◌, refl, sym, ap, ◌∙◌, subst}
 use mathlib.Core.Bool.{Bool, true, false, ◌&&◌}
-use mathlib.Core.Option.{none, some}
 use mathlib.Core.List.{List}
 use lib.Dec.{eqb, ltb}
 use lib.ListN.{length, get_or, get_or-eq_default}
@@ -63,17 +63,17 @@ pub lookup-live : (w : List ℕ) → Sized w → (o : ℕ) → lookup (store_of 
 unfolding lookup store_of slot_in
 lookup-live w s o = go (ltb o 32) refl
   where
-    beyond : 32 ≤ o → slot_in w o ≡ none
+    beyond : 32 ≤ o → slot_in w o ≡ None
     beyond l = rw (bit-above (word_at w live_at) 32 o s.live l)
 
-    go : (t : Bool) → ltb o 32 ≡ t → get_or (tabulate (slot_in w) 0 32) o none ≡ slot_in w o
+    go : (t : Bool) → ltb o 32 ≡ t → get_or (tabulate (slot_in w) 0 32) o None ≡ slot_in w o
     go true e =
         let p : 0 + o ≡ o = omega arith in
-        get_d_tabulate (slot_in w) 0 32 o none (ltb-true o 32 e) ∙ ap (slot_in w) p
+        get_d_tabulate (slot_in w) 0 32 o None (ltb-true o 32 e) ∙ ap (slot_in w) p
     go false e =
         let l : 32 ≤ o = ltb-false o 32 e in
         let z : length (tabulate (slot_in w) 0 32) ≤ o = rw (length-tabulate (slot_in w) 0 32) l in
-        get_or-eq_default (tabulate (slot_in w) 0 32) none {n = o} z ∙ sym (beyond l)
+        get_or-eq_default (tabulate (slot_in w) 0 32) None {n = o} z ∙ sym (beyond l)
 
 -- their marks are the word of marks
 marks-from : (w : List ℕ) (i n : ℕ) → live_marks (tabulate (slot_in w) i n) ≡ word_at w live_at / 2 ^ i % 2 ^ n
@@ -86,10 +86,10 @@ marks-from w i (suc n) =
     let k : n + 1 ≡ suc n = omega arith in
     let m' : y % 2 ^ suc n ≡ y / 2 % 2 ^ n * 2 + y % 2 = subst (λ (x : ℕ). y % 2 ^ x ≡ y / 2 % 2 ^ n * 2 + y % 2) k m in
     let r : live_marks (tabulate (slot_in w) (suc i) n) ≡ y / 2 % 2 ^ n = marks-from w (suc i) n ∙ ap (λ (x : ℕ). x % 2 ^ n) h in
-    let b : weight (is_live (pick (eqb (y % 2) 1) (some (object_in w i)) none)) 1 ≡ y % 2 = low (y % 2) (eqb (y % 2) 1) refl (omega arith) in
+    let b : weight (is_live (pick (eqb (y % 2) 1) (Some (object_in w i)) None)) 1 ≡ y % 2 = low (y % 2) (eqb (y % 2) 1) refl (omega arith) in
     rw (r, b, m') (omega arith)
   where
-    low : (z : ℕ) (t : Bool) → eqb z 1 ≡ t → z < 2 → weight (is_live (pick t (some (object_in w i)) none)) 1 ≡ z
+    low : (z : ℕ) (t : Bool) → eqb z 1 ≡ t → z < 2 → weight (is_live (pick t (Some (object_in w i)) None)) 1 ≡ z
     low z true e l = sym (eqb-true z 1 e)
     low z false e l = let h = eqb-false z 1 e in go z h l
       where

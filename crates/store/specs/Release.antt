@@ -1,6 +1,5 @@
 -- Releasing an object: whether a live object names it, and the store without it. Assumes nothing.
-use Rattle.std.specs.Prelude.{ℕ, Bool, false, not, ◌&&◌, ◌||◌, cond, List, [], ◌∷◌, ◌++◌, eqb, ltb, length, set}
-use Rattle.std.proofs.Math.Option.{Option, none, some}
+use Rattle.std.specs.Prelude.{ℕ, Bool, false, not, ◌&&◌, ◌||◌, cond, List, [], ◌∷◌, ◌++◌, eqb, ltb, length, set, Option, None, Some}
 use Rattle.value.specs.declared.Value.{Value}
 use Rattle.value.specs.Value.{object_of}
 use Rattle.property.specs.declared.Property.{Property}
@@ -13,8 +12,8 @@ use Rattle.store.specs.Store.{Store, excluding, maximum_objects}
 -- Names ---------------------------------------------------------------------------------
 
 abbrev pub is_number : ℕ → Option ℕ → Bool
-is_number o none = false
-is_number o (some p) = eqb p o
+is_number o None = false
+is_number o (Some p) = eqb p o
 
 -- does the value name the object o?
 abbrev pub value_names : Value → ℕ → Bool
@@ -22,9 +21,9 @@ value_names v o = is_number o (object_of v)
 
 -- by its prototype or, as a proxy that is not revoked, by its target
 abbrev pub object_names : Option Object → ℕ → Bool
-object_names none o = false
-object_names (some (Ordinary r)) o = value_names r.prototype o
-object_names (some (Proxy p)) o = not p.revoked && eqb p.target o
+object_names None o = false
+object_names (Some (Ordinary r)) o = value_names r.prototype o
+object_names (Some (Proxy p)) o = not p.revoked && eqb p.target o
 
 abbrev pub property_names : Property → ℕ → Bool
 property_names (Data v w e c) o = value_names v o
@@ -54,7 +53,7 @@ queued os o = cond (ltb (length os) maximum_objects) (os ++ (o ∷ [])) os
 -- the object o is gone with its properties, and its number is free again
 unfoldable pub release : Store → ℕ → Store
 release σ o = record {
-  objects = set σ.objects o none;
+  objects = set σ.objects o None;
   made = σ.made;
   released = queued σ.released o;
   callable = σ.callable;

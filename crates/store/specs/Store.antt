@@ -1,14 +1,11 @@
 -- The store: objects by their numbers, the numbers that were released, which objects are callable, and properties in the order of creation. Assumes nothing.
-use Rattle.std.specs.Prelude.{ℕ, zero, suc, ◌+◌, ◌-◌, ◌*◌, Bool, true, false, ◌&&◌, cond, List, [], ◌∷◌, eqb, length, get_or, set, replicate}
-use Rattle.std.proofs.Math.Option.{Option, none, some}
+use Rattle.std.specs.Prelude.{ℕ, zero, suc, ◌+◌, ◌-◌, ◌*◌, Bool, true, false, ◌&&◌, cond, List, [], ◌∷◌, eqb, length, get_or, set, replicate, Option, None, Some}
 use Rattle.value.specs.Bits.{bit, weight, with_bit}
 use Rattle.value.specs.declared.Value.{Value}
 use Rattle.value.specs.declared.Value.TheVariants as value
 use Rattle.value.specs.declared.PropertyKey.{PropertyKey}
 use Rattle.value.specs.PropertyKey.{same_key}
 use Rattle.property.specs.declared.Property.{Property}
-use Rattle.property.specs.declared.OwnProperty.{OwnProperty}
-use Rattle.property.specs.declared.OwnProperty.TheVariants.{Absent, Present}
 use Rattle.text.specs.Strings.{Strings}
 use Rattle.store.specs.declared.Object.{Object}
 use Rattle.store.specs.declared.Entry.{Entry}
@@ -30,7 +27,7 @@ maximum_objects = 32
 
 abbrev pub empty : World
 empty = record {
-  store = record { objects = replicate maximum_objects none; made = 0; released = []; callable = 0; properties = [] };
+  store = record { objects = replicate maximum_objects None; made = 0; released = []; callable = 0; properties = [] };
   strings = [];
 }
 
@@ -39,12 +36,12 @@ maximum_properties = 256
 
 -- the live object of a number
 unfoldable pub lookup : Store → ℕ → Option Object
-lookup σ o = get_or σ.objects o none
+lookup σ o = get_or σ.objects o None
 
 -- the object o is now x
 unfoldable pub put : Store → ℕ → Object → Store
 put σ o x = record {
-  objects = set σ.objects o (some x);
+  objects = set σ.objects o (Some x);
   made = σ.made;
   released = σ.released;
   callable = σ.callable;
@@ -75,7 +72,7 @@ live_count σ = σ.made - length σ.released
 -- x is the next object, callable or not
 unfoldable pub add : Store → Object → Bool → Store
 add σ x b = record {
-  objects = set σ.objects (next_number σ) (some x);
+  objects = set σ.objects (next_number σ) (Some x);
   made = made_with σ.made σ.released;
   released = rest σ.released;
   callable = with_bit σ.callable (next_number σ) b;
@@ -83,8 +80,8 @@ add σ x b = record {
 }
 
 abbrev pub is_live : Option Object → Bool
-is_live none = false
-is_live (some x) = true
+is_live None = false
+is_live (Some x) = true
 
 -- bit o says whether the object o is live
 unfoldable pub live_marks : List (Option Object) → ℕ
@@ -110,9 +107,9 @@ entry o k p = record { owner = o; key = k; property = p }
 unfoldable pub is_at : Entry → ℕ → PropertyKey → Bool
 is_at e o k = eqb e.owner o && same_key e.key k
 
-unfoldable pub find : List Entry → ℕ → PropertyKey → OwnProperty
-find [] o k = Absent
-find (e ∷ es) o k = cond (is_at e o k) (Present e.property) (find es o k)
+unfoldable pub find : List Entry → ℕ → PropertyKey → Option Property
+find [] o k = None
+find (e ∷ es) o k = cond (is_at e o k) (Some e.property) (find es o k)
 
 -- the property in its place, or at the end where it is new
 unfoldable pub insert : List Entry → ℕ → PropertyKey → Property → List Entry
@@ -127,7 +124,7 @@ excluding test (e ∷ es) = cond (test e) (excluding test es) (e ∷ excluding t
 unfoldable pub remove : List Entry → ℕ → PropertyKey → List Entry
 remove es o k = excluding (λ (e : Entry). is_at e o k) es
 
-unfoldable pub own : Store → ℕ → PropertyKey → OwnProperty
+unfoldable pub own : Store → ℕ → PropertyKey → Option Property
 own σ o k = find σ.properties o k
 
 -- the same objects, with these properties

@@ -1,6 +1,5 @@
 -- The store in lent words: two counts, two words of marks, the released numbers, 32 objects of 3 words, 256 key words, then 256 properties of 5 words. Assumes nothing.
-use Rattle.std.specs.Prelude.{ℕ, zero, suc, ◌+◌, ◌-◌, ◌*◌, ◌/◌, ◌%◌, ◌^◌, Bool, true, false, not, ◌&&◌, cond, List, eqb, leb, ltb, length, get_or, set}
-use Rattle.std.proofs.Math.Option.{Option, none, some}
+use Rattle.std.specs.Prelude.{ℕ, zero, suc, ◌+◌, ◌-◌, ◌*◌, ◌/◌, ◌%◌, ◌^◌, Bool, true, false, not, ◌&&◌, cond, List, eqb, leb, ltb, length, get_or, set, Option, None, Some}
 use Rattle.value.specs.Bits.{bit, weight, with_bit}
 use Rattle.value.specs.declared.Value.{Value}
 use Rattle.value.specs.declared.Value.TheVariants.{Undefined}
@@ -69,7 +68,7 @@ object_in words o = object_of (word_at words (object_at o)) (word_at words (obje
 
 -- none where the object is not live
 unfoldable pub slot_in : List ℕ → ℕ → Option Object
-slot_in words o = pick (bit (word_at words live_at) o) (some (object_in words o)) none
+slot_in words o = pick (bit (word_at words live_at) o) (Some (object_in words o)) None
 
 -- the three words of an object
 abbrev pub head_of : Object → ℕ

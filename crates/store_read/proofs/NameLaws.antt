@@ -1,11 +1,12 @@
 -- Whether words name an object. Assumes nothing.
-use Prim.Native.Nat.{ℕ, zero, suc, ◌-◌, ◌+◌, ◌<◌, ◌≤◌}
+use Rattle.std.specs.Prelude.{Some}
+use Prim.Native.Nat.{ℕ, zero, suc, ◌+◌, ◌<◌, ◌≤◌}
 use native.Mathlib.Omega.{arith}
 use native.Mathlib.Numerals.{add-one}
 use mathlib.Core.Path.{◌≡◌, refl, ap}
 use mathlib.Core.Bool.{Bool, true, false, not, ◌||◌}
-use mathlib.Core.Option.{some}
 use mathlib.Core.List.{List}
+use Rattle.std.specs.List.{list_any, range_with_len}
 use lib.Dec.{eqb, ltb}
 use lib.Ieee.{binary64, of_bits}
 use mir.Syntax.{w32}
@@ -18,19 +19,13 @@ use Rattle.value.specs.Words.{pick, value_of}
 use Rattle.property.specs.declared.Property.TheVariants.{Data, Accessor}
 use Rattle.text.specs.Table.{tabulate}
 use Rattle.store.specs.Release.{value_names, object_names, property_names, objects_name, properties_name}
+use Rattle.store_read.proofs.ReadLaws.{odd-flag, even-flag}
+use Rattle.store.proofs.WordLaws.{sized}
 use Rattle.store.specs.Words.{row_at, word_at, object_of, slot_in, property_of, property_in, entry_in}
 
 -- A value -----------------------------------------------------------------------------------
 
 module _ (p o : ℕ) where
-  pub object-named : (k : ℕ) → k ≡ 7 → eqb p o ≡ value_names (value_of k p) o
-  unfolding value_of
-  object-named k e = rw e
-
-  pub function-named : (k : ℕ) → k ≡ 8 → eqb p o ≡ value_names (value_of k p) o
-  unfolding value_of
-  function-named k e = rw e
-
   pub none_named : (k : ℕ) → (k ≡ 7 → ⊥) → (k ≡ 8 → ⊥) → false ≡ value_names (value_of k p) o
   unfolding value_of
   none_named k a b = rw (ne_eqb k 7 a, ne_eqb k 8 b) (go (eqb k 1) (eqb k 2) (eqb k 3) (eqb k 4) (eqb k 5) (eqb k 6) (ltb p 4294967296))
@@ -49,17 +44,17 @@ module _ (p o : ℕ) where
 -- An object ---------------------------------------------------------------------------------
 
 module _ (a b o : ℕ) where
-  pub ordinary-names : (head : ℕ) → head < 2 → value_names (value_of a b) o ≡ object_names (some (object_of head a b)) o
+  pub ordinary-names : (head : ℕ) → head < 2 → value_names (value_of a b) o ≡ object_names (Some (object_of head a b)) o
   unfolding object_of
   ordinary-names zero h = refl
   ordinary-names (suc zero) h = refl
   ordinary-names (suc (suc n)) h = absurd (omega arith)
 
-  pub proxy-names : (head : ℕ) → head ≡ 2 → eqb a o ≡ object_names (some (object_of head a b)) o
+  pub proxy-names : (head : ℕ) → head ≡ 2 → eqb a o ≡ object_names (Some (object_of head a b)) o
   unfolding object_of
   proxy-names head e = rw e
 
-  pub revoked-names : (head : ℕ) → 2 ≤ head → (head ≡ 2 → ⊥) → false ≡ object_names (some (object_of head a b)) o
+  pub revoked-names : (head : ℕ) → 2 ≤ head → (head ≡ 2 → ⊥) → false ≡ object_names (Some (object_of head a b)) o
   unfolding object_of
   revoked-names head h e = rw (ne_eqb head 0 (λ (z : head ≡ 0). omega arith), ne_eqb head 1 (λ (z : head ≡ 1). omega arith), ne_eqb head 2 e)
 
@@ -91,29 +86,17 @@ module _ (w : List ℕ) (i o : ℕ) where
 
 -- All of them, from i on --------------------------------------------------------------------
 
-module _ (w : List ℕ) (o i n : ℕ) where
-  module _ (h : i < n) where
-    pub object-hit : true ≡ object_names (slot_in w i) o → true ≡ objects_name (tabulate (slot_in w) i (n - i)) o
-    unfolding tabulate objects_name
-    object-hit e = let z : n - i ≡ suc (n - suc i) = omega arith in rw (z, ← e)
+module _ (w : List ℕ) (o : ℕ) where
+  pub objects-any : (i n : ℕ) → list_any (λ (j : ℕ). object_names (slot_in w j) o) (range_with_len i n) ≡ objects_name (tabulate (slot_in w) i n) o
+  unfolding tabulate objects_name
+  objects-any i zero = refl
+  objects-any i (suc n) = rw (add-one i) (ap (λ (b : Bool). object_names (slot_in w i) o || b) (objects-any (suc i) n))
 
-    pub object-step : false ≡ object_names (slot_in w i) o → objects_name (tabulate (slot_in w) i (n - i)) o ≡ objects_name (tabulate (slot_in w) (i + 1) (n - (i + 1))) o
-    unfolding tabulate objects_name
-    object-step e = let z : n - i ≡ suc (n - suc i) = omega arith in rw (z, ← e, add-one i)
+  pub properties-any : (i n : ℕ) → list_any (λ (j : ℕ). property_names (property_in w j) o) (range_with_len i n) ≡ properties_name (tabulate (entry_in w) i n) o
+  unfolding tabulate properties_name entry_in
+  properties-any i zero = refl
+  properties-any i (suc n) = rw (add-one i) (ap (λ (b : Bool). property_names (property_in w i) o || b) (properties-any (suc i) n))
 
-    pub property-hit : true ≡ property_names (property_in w i) o → true ≡ properties_name (tabulate (entry_in w) i (n - i)) o
-    unfolding tabulate properties_name entry_in
-    property-hit e = let z : n - i ≡ suc (n - suc i) = omega arith in rw (z, ← e)
+pub ruleset object_laws = (sized, ordinary-names, proxy-names, revoked-names)
 
-    pub property-step : false ≡ property_names (property_in w i) o → properties_name (tabulate (entry_in w) i (n - i)) o ≡ properties_name (tabulate (entry_in w) (i + 1) (n - (i + 1))) o
-    unfolding tabulate properties_name entry_in
-    property-step e = let z : n - i ≡ suc (n - suc i) = omega arith in rw (z, ← e, add-one i)
-
-  module _ (h : n ≤ i) where
-    pub objects-end : false ≡ objects_name (tabulate (slot_in w) i (n - i)) o
-    unfolding tabulate objects_name
-    objects-end = let z : n - i ≡ 0 = omega arith in rw z
-
-    pub properties-end : false ≡ properties_name (tabulate (entry_in w) i (n - i)) o
-    unfolding tabulate properties_name
-    properties-end = let z : n - i ≡ 0 = omega arith in rw z
+pub ruleset property_laws = (sized, first-names, second-names, neither-names, odd-flag, even-flag)

@@ -1,6 +1,5 @@
 -- What reading the store answers, as the code's own enums. Assumes nothing.
-use Rattle.std.specs.Prelude.{ℕ, suc, ◌+◌, ◌*◌, ◌/◌, ◌%◌, ◌≤◌, ◌≡◌, Bool, true, false, ◌&&◌, cond, List, [], ◌∷◌, map, eqb, ltb, length, take, drop}
-use Rattle.std.proofs.Math.Option.{Option, none, some}
+use Rattle.std.specs.Prelude.{ℕ, suc, ◌+◌, ◌*◌, ◌/◌, ◌%◌, ◌≤◌, ◌≡◌, Bool, true, false, ◌&&◌, cond, List, [], ◌∷◌, map, eqb, ltb, length, take, drop, Option, None, Some}
 use Rattle.value.specs.declared.PropertyKey.{PropertyKey}
 use Rattle.value.specs.declared.PropertyKey.TheVariants.{String, Symbol}
 use Rattle.value.specs.Words.{pick}
@@ -9,36 +8,22 @@ use Rattle.text.specs.Table.{tabulate}
 use Rattle.store.specs.declared.Object.{Object}
 use Rattle.store.specs.declared.Object.TheVariants.{Ordinary, Proxy}
 use Rattle.store.specs.declared.Entry.{Entry}
-use Rattle.store_read.specs.declared.ObjectFound.{ObjectFound}
-use Rattle.store_read.specs.declared.ObjectFound.TheVariants.{Missing, Made}
-use Rattle.store_read.specs.declared.Place.{Place}
-use Rattle.store_read.specs.declared.Place.TheVariants.{Nothing, At}
-use Rattle.store_read.specs.declared.IndexWord.{IndexWord}
-use Rattle.store_read.specs.declared.IndexWord.TheVariants.{Other, Joined}
 use Rattle.store.specs.Store.{Store, is_at}
 use Rattle.store.specs.OwnKeys.{KeyClass, index, string, symbol, class_of, is_string, is_symbol, keys_in, of_class}
 use Rattle.store.specs.Words.{word_at, key_at}
 
-abbrev pub object_found : Option Object → ObjectFound
-object_found none = Missing
-object_found (some x) = Made x
-
 abbrev pub is_ordinary : Option Object → Bool
-is_ordinary none = false
-is_ordinary (some (Ordinary r)) = true
-is_ordinary (some (Proxy p)) = false
+is_ordinary None = false
+is_ordinary (Some (Ordinary r)) = true
+is_ordinary (Some (Proxy p)) = false
 
 -- the place, counted from i, of the first that passes the test
-unfoldable pub first_place : {A : Type 0} → (A → Bool) → ℕ → List A → Place
-first_place test i [] = Nothing
-first_place test i (x ∷ xs) = pick (test x) (At i) (first_place test (suc i) xs)
-
--- the place i of n, or none where there are only n
-abbrev pub placed : ℕ → ℕ → Place
-placed i n = pick (ltb i n) (At i) Nothing
+unfoldable pub first_place : {A : Type 0} → (A → Bool) → ℕ → List A → Option ℕ
+first_place test i [] = None
+first_place test i (x ∷ xs) = pick (test x) (Some i) (first_place test (suc i) xs)
 
 -- the place of the first property k of the object o
-unfoldable pub find_place : List Entry → ℕ → PropertyKey → Place
+unfoldable pub find_place : List Entry → ℕ → PropertyKey → Option ℕ
 find_place es o k = first_place (λ (e : Entry). is_at e o k) 0 es
 
 abbrev pub key_in : List ℕ → ℕ → ℕ
@@ -84,13 +69,13 @@ abbrev pub own_of : (KeyClass → Bool) → Strings → Store → ℕ → List P
 own_of test strings σ o = of_class test strings (keys_in σ.properties o)
 
 -- an array index and its key in one word: the key of an index is below 512
-abbrev pub joined_by : KeyClass → ℕ → IndexWord
-joined_by (index n) word = Joined (n * 512 + word)
-joined_by string word = Other
-joined_by symbol word = Other
+abbrev pub joined_by : KeyClass → ℕ → Option ℕ
+joined_by (index n) word = Some (n * 512 + word)
+joined_by string word = None
+joined_by symbol word = None
 
-unfoldable pub index_word : Strings → Entry → ℕ → IndexWord
-index_word strings e o = pick (eqb e.owner o) (joined_by (class_of strings e.key) (key_to_word e.key)) Other
+unfoldable pub index_word : Strings → Entry → ℕ → Option ℕ
+index_word strings e o = pick (eqb e.owner o) (joined_by (class_of strings e.key) (key_to_word e.key)) None
 
 -- where the first word stands that passes the test, or the length if none does
 unfoldable pub first_where : (ℕ → Bool) → List ℕ → ℕ

@@ -1,31 +1,24 @@
 // Reading the store's words: where a property stands, and what it is.
-ghost use Rattle.std.specs.Prelude.{◌≡◌, true, ℕ, ◌<◌, ◌≤◌, eqb};
+#![tactic(auto, using(crate::proofs::ReadLaws::properties))]
+
+ghost use Rattle.std.specs.Prelude.{◌≡◌, ◌==◌, ◌<◌, ◌≤◌, position};
 ghost use Rattle.value.specs.PropertyKey.{key_number};
 ghost use Rattle.store.specs.Store as store;
-ghost use Rattle.store.specs.Words.{is_store, store_of, word_at, property_in};
-ghost use Rattle.store_read.specs.Answers.{find_place, first_place, key_words, placed, class_weight};
+ghost use Rattle.store.specs.Words.{store_of, property_in};
+ghost use Rattle.store_read.specs.Answers.{find_place, class_weight};
 
-use crate::{KEYS, Place, ROWS};
-use property::{OwnProperty, Property};
+use crate::{ROWS, StoreWords};
+use property::Property;
 use value::PropertyKey;
 use value_operations::encoding;
 
-pub const NUMBERS: u64 = 288230376151711744;
+pub const NUMBERS: u64 = 1 << 58;
 
-// Where the first key word stands that equals the word, or how many there are.
-fn find_word(words: &[u64], word: u64) -> usize
-    requires { is_store words.now ≡ true }
-    ensures { placed result (word_at words.now 1) ≡ first_place (λ (w : ℕ). eqb w word) 0 (key_words words.now) }
+// Where the word stands first in the list.
+pub fn find_word(list: &[u64], word: u64) -> Option<usize>
+    ensures { result ≡ position (λ w. w == word) list.now }
 {
-    let n = crate::property_count(words);
-    let mut i: usize = 0;
-    while i < n {
-        if words[KEYS + i] == word {
-            return i;
-        }
-        i += 1;
-    }
-    n
+    list.iter().position(|w| *w == word)
 }
 
 pub fn number_in(key: PropertyKey) -> u64
@@ -47,49 +40,49 @@ fn class_weight(key: PropertyKey) -> u64
     }
 }
 
-// No key word holds an object from 32 on, or a number from 2^58 on.
-pub fn find(words: &[u64], o: u64, key: PropertyKey) -> Place
-    requires { is_store words.now ≡ true }
-    ensures { result ≡ find_place (store_of words.now).properties o key }
-{
-    let number = number_in(key);
-    if o < 32 {
-        if number < NUMBERS {
-            let i = find_word(words, o + class_weight(key) + 64 * number);
-            if i < crate::property_count(words) {
-                return Place::At(i);
+impl StoreWords<'_> {
+    // No key word holds an object from 32 on, or a number from 2^58 on. A call, since compiled into `own` its loop counts the place of the row too.
+    #[inline(never)]
+    pub fn find(self, o: u64, key: PropertyKey) -> Option<usize>
+        ensures { result ≡ find_place (store_of self.entry.words.now).properties o key }
+    {
+        let list = self.key_words();
+        let number = number_in(key);
+        if o < 32 && number < NUMBERS {
+            let word = o + class_weight(key) + 64 * number;
+            if let Some(i) = find_word(list, word) {
+                return Some(i);
             }
-            return Place::Nothing;
         }
+        None
     }
-    Place::Nothing
-}
 
-fn property_at(words: &[u64], i: usize) -> Property
-    requires { (is_store words.now ≡ true) × (i < 256) }
-    ensures { result ≡ property_in words.now i }
-{
-    let at = ROWS + 5 * i;
-    let flags = words[at];
-    let a = encoding::value_of(words[at + 1], words[at + 2]);
-    if flags % 2 == 1 {
-        let b = encoding::value_of(words[at + 3], words[at + 4]);
-        return Property::Accessor(a, b, flags / 4 % 2 == 1, flags / 8 % 2 == 1);
+    #[tactic(auto, using(crate::proofs::ReadLaws::properties), unfolding(store::specs::Words::property_in, store::specs::Words::property_of))]
+    fn property_at(self, i: usize) -> Property
+        requires { i < 256 }
+        ensures { result ≡ property_in self.entry.words.now i }
+    {
+        let at = ROWS + 5 * i;
+        let flags = self.words[at];
+        let a = encoding::value_of(self.words[at + 1], self.words[at + 2]);
+        if flags % 2 == 1 {
+            let b = encoding::value_of(self.words[at + 3], self.words[at + 4]);
+            return Property::Accessor(a, b, flags / 4 % 2 == 1, flags / 8 % 2 == 1);
+        }
+        Property::Data(
+            a,
+            flags / 2 % 2 == 1,
+            flags / 4 % 2 == 1,
+            flags / 8 % 2 == 1,
+        )
     }
-    Property::Data(
-        a,
-        flags / 2 % 2 == 1,
-        flags / 4 % 2 == 1,
-        flags / 8 % 2 == 1,
-    )
-}
 
-pub fn own(words: &[u64], o: u64, key: PropertyKey) -> OwnProperty
-    requires { is_store words.now ≡ true }
-    ensures { result ≡ store.own (store_of words.now) o key }
-{
-    match find(words, o, key) {
-        Place::At(i) => OwnProperty::Present(property_at(words, i)),
-        Place::Nothing => OwnProperty::Absent,
+    pub fn own(self, o: u64, key: PropertyKey) -> Option<Property>
+        ensures { result ≡ store.own (store_of self.entry.words.now) o key }
+    {
+        match self.find(o, key) {
+            Some(i) => Some(self.property_at(i)),
+            None => None,
+        }
     }
 }

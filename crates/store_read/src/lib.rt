@@ -3,43 +3,31 @@
 // own_key_order: 10.1.11.1, by way of sorted_words.
 #![tactic(auto)]
 
-use store::Object;
+ghost use Rattle.std.specs.Prelude.{◌≡◌, true};
+ghost use Rattle.store.specs.Words.{is_store};
 
 pub mod finding;
-pub mod naming;
-pub mod own_key_order;
+mod naming;
+mod own_key_order;
 mod read;
 pub mod sorted_words;
 
-pub use read::{
-    callable, has_object_room, is_ordinary_at, is_store, key_from_word, live, next_number,
-    object_at, property_count,
-};
+pub use read::{is_store, key_from_word};
 
-// The object of a number, if it is live.
+// How many words a store has, and where the released numbers, the objects, the key words and the properties begin.
+pub const STORE_SIZE: usize = 1670;
+
+pub const QUEUE: usize = 6;
+
+pub const OBJECTS: usize = 38;
+
+pub const KEYS: usize = 134;
+
+pub const ROWS: usize = 390;
+
+// The words of a store, to be read: of the right length, with counts and marks that a store can have.
 #[derive(Clone, Copy)]
-pub enum ObjectFound {
-    Missing,
-    Made(Object),
+pub struct StoreWords<'a> {
+    pub words: &'a [u64],
+    pub ghost valid: { is_store words.now ≡ true },
 }
-
-// Which of the properties it is.
-#[derive(Clone, Copy)]
-pub enum Place {
-    Nothing,
-    At(usize),
-}
-
-// An array index and its key in one word, while they are sorted.
-#[derive(Clone, Copy)]
-pub enum IndexWord {
-    Other,
-    Joined(u64),
-}
-
-// Where the objects, the key words and the properties begin.
-const OBJECTS: usize = 38;
-
-const KEYS: usize = 134;
-
-const ROWS: usize = 390;

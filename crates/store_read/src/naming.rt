@@ -1,95 +1,67 @@
 // Whether an object is named: by the prototype or the target of an object, or by a property. Its own properties count.
-ghost use Rattle.std.specs.Prelude.{◌≡◌, true, ◌<◌};
+#![tactic(auto, using(store::proofs::WordLaws::sized))]
+
+ghost use Rattle.std.specs.Prelude.{◌≡◌, ◌<◌};
 ghost use Rattle.value.specs.Words.{value_of};
 ghost use Rattle.store.specs.Release.{value_names, object_names, property_names, objects_name, properties_name, is_named};
-ghost use Rattle.store.specs.Words.{is_store, store_of, slot_in, property_in};
+ghost use Rattle.store.specs.Words.{store_of, slot_in, property_in};
 
-use crate::{OBJECTS, ROWS};
+use crate::{OBJECTS, ROWS, StoreWords};
 use value_operations::bits;
 
 // By a value, given by its kind and payload.
+#[tactic(auto, using(crate::proofs::NameLaws::none_named), unfolding(value::specs::Words::value_of))]
 fn value_names(kind: u64, payload: u64, o: u64) -> bool
     ensures { result ≡ value_names (value_of kind payload) o }
 {
-    if kind == 7 {
-        return payload == o;
-    }
-    if kind == 8 {
-        return payload == o;
-    }
-    false
+    matches!(kind, 7 | 8) && payload == o
 }
 
-// By object i, if it is live: by its prototype or, as a proxy that is not revoked, by its target.
-fn object_names(words: &[u64], i: usize, o: u64) -> bool
-    requires { (is_store words.now ≡ true) × (i < 32) }
-    ensures { result ≡ object_names (slot_in words.now i) o }
-{
-    if bits::bit(words[3], i as u64) {
+impl StoreWords<'_> {
+    // By object i, if it is live: by its prototype or, as a proxy that is not revoked, by its target.
+    #[tactic(auto, using(crate::proofs::NameLaws::object_laws), unfolding(store::specs::Words::slot_in, store::specs::Words::object_in))]
+    fn object_names(self, i: usize, o: u64) -> bool
+        requires { i < 32 }
+        ensures { result ≡ object_names (slot_in self.entry.words.now i) o }
+    {
+        if !bits::bit(self.words[3], i as u64) {
+            return false;
+        }
         let at = OBJECTS + 3 * i;
-        let head = words[at];
-        let first = words[at + 1];
-        if head < 2 {
-            return value_names(first, words[at + 2], o);
+        match self.words[at] {
+            0 | 1 => value_names(self.words[at + 1], self.words[at + 2], o),
+            2 => self.words[at + 1] == o,
+            _ => false,
         }
-        if head == 2 {
-            return first == o;
-        }
-        return false;
     }
-    false
-}
 
-// By property i: by its value or getter, or by its setter.
-fn property_names(words: &[u64], i: usize, o: u64) -> bool
-    requires { (is_store words.now ≡ true) × (i < 256) }
-    ensures { result ≡ property_names (property_in words.now i) o }
-{
-    let at = ROWS + 5 * i;
-    if value_names(words[at + 1], words[at + 2], o) {
-        return true;
+    // By property i: by its value or getter, or by its setter.
+    #[tactic(auto, using(crate::proofs::NameLaws::property_laws), unfolding(store::specs::Words::property_in))]
+    fn property_names(self, i: usize, o: u64) -> bool
+        requires { i < 256 }
+        ensures { result ≡ property_names (property_in self.entry.words.now i) o }
+    {
+        let at = ROWS + 5 * i;
+        value_names(self.words[at + 1], self.words[at + 2], o)
+            || (self.words[at] % 2 == 1 && value_names(self.words[at + 3], self.words[at + 4], o))
     }
-    if words[at] % 2 == 1 {
-        return value_names(words[at + 3], words[at + 4], o);
-    }
-    false
-}
 
-fn objects_name(words: &[u64], o: u64) -> bool
-    requires { is_store words.now ≡ true }
-    ensures { result ≡ objects_name (store_of words.now).objects o }
-{
-    let mut i: usize = 0;
-    while i < 32 {
-        if object_names(words, i, o) {
-            return true;
-        }
-        i += 1;
+    fn objects_name(self, o: u64) -> bool
+        ensures { result ≡ objects_name (store_of self.entry.words.now).objects o }
+    {
+        (0..32).any(|i| self.object_names(i, o))
     }
-    false
-}
 
-fn properties_name(words: &[u64], o: u64) -> bool
-    requires { is_store words.now ≡ true }
-    ensures { result ≡ properties_name (store_of words.now).properties o }
-{
-    let n = crate::property_count(words);
-    let mut i: usize = 0;
-    while i < n {
-        if property_names(words, i, o) {
-            return true;
-        }
-        i += 1;
+    fn properties_name(self, o: u64) -> bool
+        ensures { result ≡ properties_name (store_of self.entry.words.now).properties o }
+    {
+        (0..self.property_count()).any(|i| self.property_names(i, o))
     }
-    false
-}
 
-pub fn is_named(words: &[u64], o: u64) -> bool
-    requires { is_store words.now ≡ true }
-    ensures { result ≡ is_named (store_of words.now) o }
-{
-    if objects_name(words, o) {
-        return true;
+    #[tactic(auto, unfolding(store::specs::Release::is_named))]
+    pub fn is_named(self, o: u64) -> bool
+        ensures { result ≡ is_named (store_of self.entry.words.now) o }
+    {
+        self.objects_name(o) || self.properties_name(o)
     }
-    properties_name(words, o)
 }

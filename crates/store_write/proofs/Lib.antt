@@ -1,3 +1,2 @@
 pub mod WriteLaws
 pub mod CommittedLaws
-pub mod CopyLaws

@@ -1,14 +1,14 @@
 -- What each write to the words makes of the store that they hold. Assumes nothing.
+use Rattle.std.specs.Prelude.{Option, None, Some}
 use Prim.Native.Nat.{ℕ, zero, suc, ◌+◌, ◌-◌, ◌%◌, ◌^◌, ◌<◌, ◌≤◌}
 use native.Mathlib.Nat.{mod-eq_of_lt, zero-div}
 use native.Mathlib.Omega.{arith}
 use native.Mathlib.Numerals.{add-one}
 use mathlib.Core.Path.{◌≡◌, refl, sym, ap, ◌∙◌}
-use mathlib.Core.Bool.{Bool, true, false, cond}
-use mathlib.Core.Option.{Option, none, some}
+use mathlib.Core.Bool.{Bool, true, false, not, cond}
 use mathlib.Core.List.{List, [], ◌∷◌, ◌++◌, append_assoc, append-nil}
 use lib.Dec.{eqb, ltb}
-use lib.ListN.{length, set, replicate, length-set}
+use lib.ListN.{length, set, replicate, take, drop, length-set}
 use lib.Seq.{sets, length-sets, get_or-set_same, get_or-set_other}
 use borrow.Author.Tests.{eq-eqb, ne_eqb, eqb-true, eqb-false, ltb-true, ltb-false, lt-ltb, le-ltb}
 use Rattle.value.specs.Bits.{bit, weight, with_bit}
@@ -19,9 +19,9 @@ use Rattle.value.specs.declared.PropertyKey.{PropertyKey}
 use Rattle.value.specs.Words.{pick, kind_of, payload_of, value_of}
 use Rattle.property.specs.declared.Property.{Property}
 use Rattle.property.specs.declared.Property.TheVariants.{Data, Accessor}
-use Rattle.property.specs.declared.OwnProperty.TheVariants.{Absent}
 use Rattle.text.specs.Table.{tabulate}
 use Rattle.text.proofs.TableLaws.{length-tabulate, tabulate-ext, tabulate-last}
+use Rattle.std.proofs.lemmas.List.Edits.{sets-eq}
 use Rattle.store.specs.declared.Object.{Object}
 use Rattle.store.specs.declared.Object.TheVariants.{Ordinary, Proxy}
 use Rattle.store.specs.declared.Entry.{Entry}
@@ -31,7 +31,7 @@ use Rattle.store.specs.Store.{Store, empty, entry, is_at, excluding, remove, put
 use Rattle.store.specs.Release.{is_owned_by, queued, release}
 use Rattle.store.specs.Words.{queue_at, place_of, released_in, slot_in, next_in, with_number_taken, with_live_object, with_number_released, without_rows, without_object, object_at, key_at, row_at, word_at, object_of, object_in, head_of, first_of, second_of, key_word, property_of, flags_of, primary, secondary, property_in, entry_in, store_of, is_store, with_object, with_new_object, with_row, with_new_row, moved, swept, without_row}
 use Rattle.store_write.specs.Write.{Fits, FitsObject, FitsProperty, cells_of, ObjectCells, PropertyCells, New, Becomes}
-use Rattle.store.proofs.WordLaws.{Sized, sized, is-store, word-owner, word-key, at-word}
+use Rattle.store.proofs.WordLaws.{Sized, sized, property-length, is-store, word-owner, word-key, at-word}
 use Rattle.store.proofs.FindLaws.{absent-appended}
 use Rattle.store_read.proofs.ReadLaws.{live_below, next-number}
 
@@ -251,7 +251,7 @@ module _ (w : List ℕ) (s : Sized w) (o : ℕ) (x : Object) where
       let u = with_object w o x in
       let live : word_at u 3 ≡ word_at w 3 = out 3 (omega arith) in
       store_by u _
-      (objects-set u w o (some x) h (rw (live, b, made-object h f)) (λ j r. ap (λ (n : ℕ). bit n j) live) (λ j m l r t. apart j m r t))
+      (objects-set u w o (Some x) h (rw (live, b, made-object h f)) (λ j r. ap (λ (n : ℕ). bit n j) live) (λ j m l r t. apart j m r t))
       (out 0 (omega arith))
       (released-same u w (out 4 (omega arith)) (out 5 (omega arith)) (λ m a b. out m b))
       (out 2 (omega arith))
@@ -259,7 +259,7 @@ module _ (w : List ℕ) (s : Sized w) (o : ℕ) (x : Object) where
 
   -- made live, and callable or not
   abbrev after_live : Bool → Store → ℕ → Store
-  after_live b σ n = record { objects = set σ.objects n (some x); made = σ.made; released = σ.released; callable = with_bit σ.callable n b; properties = σ.properties }
+  after_live b σ n = record { objects = set σ.objects n (Some x); made = σ.made; released = σ.released; callable = with_bit σ.callable n b; properties = σ.properties }
 
   module _ (b : Bool) where
     abbrev marked : List ℕ
@@ -297,12 +297,12 @@ module _ (w : List ℕ) (s : Sized w) (o : ℕ) (x : Object) where
       released = rw (live-head 4 (omega arith) (λ e. omega arith) (λ e. omega arith)) s.released;
     }
 
-    objects-live : o < 32 → FitsObject x → objects_of (with_live_object w o x b) ≡ set (objects_of w) o (some x)
+    objects-live : o < 32 → FitsObject x → objects_of (with_live_object w o x b) ≡ set (objects_of w) o (Some x)
     unfolding slot_in
     objects-live h f =
         let u = with_live_object w o x b in
         let made : object_in u o ≡ x = object-same u (with_object w o x) o (λ m t. live_out _ (λ e. omega arith) (λ e. omega arith)) ∙ made-object h f in
-        objects-set u w o (some x) h
+        objects-set u w o (Some x) h
         (rw (live-marks, bit-set (word_at w 3) o true, made))
         (λ j r. ap (λ (n : ℕ). bit n j) live-marks ∙ bit_kept (word_at w 3) o j true r)
         (λ j m l r t. live_out _ (λ e. omega arith) (λ e. omega arith) ∙ apart j m r t)
@@ -676,7 +676,7 @@ module _ (w : List ℕ) (s : Sized w) (o : ℕ) (k : PropertyKey) (p : Property)
       ∙ row_made (keyed_by w o k) (word_at w 1) p (omega (arith, s.size, length-set w (key_at (word_at w 1)) (key_word o k))) h f
       ∙ entry-keyed b
 
-  pub store-new-row : o < 32 → FitsProperty p → own (store_of w) o k ≡ Absent → store_of (with_new_row w o k p) ≡ with_property (store_of w) o k p
+  pub store-new-row : o < 32 → FitsProperty p → own (store_of w) o k ≡ None → store_of (with_new_row w o k p) ≡ with_property (store_of w) o k p
   unfolding with_property store_of own
   store-new-row b f a =
       let u = with_new_row w o k p in
@@ -831,14 +831,14 @@ module _ (w : List ℕ) (s : Sized w) (o : ℕ) (h : o < 32) where
   }
 
   abbrev after_unmarked : Store → Store
-  after_unmarked σ = record { objects = set σ.objects o none; made = σ.made; released = σ.released; callable = σ.callable; properties = σ.properties }
+  after_unmarked σ = record { objects = set σ.objects o None; made = σ.made; released = σ.released; callable = σ.callable; properties = σ.properties }
 
   store-unmarked : store_of unmarked ≡ after_unmarked (store_of w)
   unfolding store_of slot_in
   store-unmarked =
       let u = unmarked in
       store_by u _
-      (objects-set u w o none h
+      (objects-set u w o None h
       (rw (unmarked-live, bit-set (word_at w 3) o false))
       (λ j r. ap (λ (n : ℕ). bit n j) unmarked-live ∙ bit_kept (word_at w 3) o j false r)
       (λ j m l r t. unmarked-out _ (λ e. omega arith)))
@@ -863,7 +863,7 @@ module _ (w : List ℕ) (s : Sized w) (o : ℕ) (h : o < 32) where
 
 -- An empty store ------------------------------------------------------------------------
 
-none-live : (f : ℕ → Option Object) (i n : ℕ) → ((j : ℕ) → f j ≡ none) → tabulate f i n ≡ replicate n none
+none-live : (f : ℕ → Option Object) (i n : ℕ) → ((j : ℕ) → f j ≡ None) → tabulate f i n ≡ replicate n None
 unfolding tabulate
 none-live f i zero h = refl
 none-live f i (suc n) h = rw (h i, none-live f (suc i) n h)
@@ -884,7 +884,10 @@ module _ (w : List ℕ) (l : length w ≡ 1670) where
     released = rw (zero-at 4 (omega arith)) (omega arith);
   }
 
-  slot-empty : (o : ℕ) → slot_in cleared o ≡ none
+  pub cleared-filled : (zeros : List ℕ) → zeros ≡ replicate 6 0 → zeros ++ drop 6 w ≡ cleared
+  cleared-filled zeros e = rw e (sym (sets-eq (0 ∷ 0 ∷ 0 ∷ 0 ∷ 0 ∷ 0 ∷ []) w 0 (omega arith)))
+
+  slot-empty : (o : ℕ) → slot_in cleared o ≡ None
   unfolding slot_in
   slot-empty o = let z : word_at cleared 3 ≡ 0 = zero-at 3 (omega arith) in rw (z, zero-div (2 ^ o))
 
@@ -985,14 +988,6 @@ module _ (w : List ℕ) where
   unfolding with_number_released
   number-left o h = rw (le-ltb (word_at w 4) 32 h)
 
-  pub length-released : (o : ℕ) → length (with_number_released w o) ≡ length w
-  unfolding with_number_released
-  length-released o = go (ltb (word_at w 4) 32)
-    where
-      go : (t : Bool) → length (pick t (set (set w (queue_at (place_of w (word_at w 4))) o) 4 (suc (word_at w 4))) w) ≡ length w
-      go true = length-set (set w (queue_at (place_of w (word_at w 4))) o) 4 (suc (word_at w 4)) ∙ length-set w (queue_at (place_of w (word_at w 4))) o
-      go false = refl
-
 pub released-stored : (w u v : List ℕ) (o m : ℕ) → m ≡ with_bit (word_at w 3) o false → u ≡ without_rows (is_owned_by o) (set w 3 m) → v ≡ with_number_released u o → v ≡ without_object w o
 unfolding without_object
 released-stored w u v o m e f g = rw (g, f, e)
@@ -1022,19 +1017,26 @@ module _ (test : Entry → Bool) (w : List ℕ) (i n j : ℕ) where
   unfolding swept
   turn_end h = let z : n - i ≡ 0 = omega arith in rw z
 
+pub moved-size : (w u : List ℕ) (i j n : ℕ) → u ≡ moved w i j → length w ≡ n → length u ≡ n
+moved-size w u i j n e h = rw e (length_moved w i j ∙ h)
+
+not-not : (b : Bool) → not (not b) ≡ b
+not-not true = refl
+not-not false = refl
+
 -- whether an entry is the property, or the object's, by its key word
-module _ (w : List ℕ) (i o key : ℕ) (k : PropertyKey) (b : o < 32) (e : key ≡ key_word o k) where
-  pub key-hit : word_at w (key_at i) ≡ key → is_at (entry_in w i) o k ≡ true
-  key-hit t = at-word w i o k b ∙ eq-eqb _ _ (t ∙ e)
+module _ (w : List ℕ) (i o : ℕ) (b : Bool) where
+  pub other-key : (k : PropertyKey) (key : ℕ) → o < 32 → key ≡ key_word o k → b ≡ not (eqb (word_at w (key_at i)) key) → is_at (entry_in w i) o k ≡ not b
+  other-key k key h e q = at-word w i o k h ∙ rw (q, e) (sym (not-not (eqb (word_at w (key_at i)) (key_word o k))))
 
-  pub key-miss : (word_at w (key_at i) ≡ key → ⊥) → is_at (entry_in w i) o k ≡ false
-  key-miss t = at-word w i o k b ∙ ne_eqb _ _ (λ q. t (q ∙ sym e))
-
-module _ (w : List ℕ) (i o : ℕ) where
-  pub owner-hit : word_at w (key_at i) % 32 ≡ o → is_owned_by o (entry_in w i) ≡ true
+  pub other-owner : b ≡ not (eqb (word_at w (key_at i) % 32) o) → is_owned_by o (entry_in w i) ≡ not b
   unfolding entry_in
-  owner-hit t = eq-eqb _ _ t
+  other-owner q = rw q (sym (not-not (eqb (word_at w (key_at i) % 32) o)))
 
-  pub owner-miss : (word_at w (key_at i) % 32 ≡ o → ⊥) → is_owned_by o (entry_in w i) ≡ false
-  unfolding entry_in
-  owner-miss t = ne_eqb _ _ t
+-- What the check is to try --------------------------------------------------------------
+
+pub ruleset numbers = (unused-taken, released-taken, number-queued, number-left)
+
+pub ruleset properties = (sized, length-set, five-set, fits-words, fits-undefined, undefined-payload, becomes-row, became, length-keyed)
+
+pub ruleset objects = (sized, property-length, live_below, length-set, three-set, head-ordinary, head-proxy, fits-words, length-object, live-stored, becomes-object, became)

@@ -1,5 +1,5 @@
 -- A write to the store: what it asks of the words, and what it makes of them and of the store. Assumes nothing.
-use Rattle.std.specs.Prelude.{ℕ, ◌<◌, ◌^◌, ◌≡◌, true, cond, List, [], ◌∷◌, eqb, length}
+use Rattle.std.specs.Prelude.{ℕ, ◌<◌, ◌^◌, ◌≡◌, Bool, true, not, cond, List, [], ◌∷◌, eqb, length, None}
 use Rattle.std.proofs.lemmas.List.Edits.{sets}
 use Rattle.value.specs.Bits.{bit}
 use Rattle.value.specs.declared.Value.{Value}
@@ -7,7 +7,6 @@ use Rattle.value.specs.declared.PropertyKey.{PropertyKey}
 use Rattle.value.specs.Words.{kind_of, payload_of, value_of}
 use Rattle.value.specs.PropertyKey.{key_number}
 use Rattle.property.specs.declared.Property.{Property}
-use Rattle.property.specs.declared.OwnProperty.TheVariants.{Absent}
 use Rattle.store.specs.declared.Object.{Object}
 use Rattle.store.specs.declared.Object.TheVariants as object
 use Rattle.store_write.specs.declared.write.Write.{Write}
@@ -16,7 +15,8 @@ use Rattle.store_write.specs.declared.write.ObjectWords.{ObjectWords}
 use Rattle.store_write.specs.declared.write.PropertyWords.{PropertyWords}
 use Rattle.store.specs.Store.{Store, put, live_count, add, with_change, own, with_property, without_property, maximum_objects, maximum_properties}
 use Rattle.store.specs.Release.{release}
-use Rattle.store.specs.Words.{store_size, live_at, word_at, head_of, first_of, second_of, flags_of, primary, secondary, store_of, is_store, with_object, with_new_object, with_row, with_new_row, without_row, without_object}
+use Rattle.store.specs.declared.Entry.{Entry}
+use Rattle.store.specs.Words.{store_size, live_at, key_at, entry_in, word_at, head_of, first_of, second_of, flags_of, primary, secondary, store_of, is_store, with_object, with_new_object, with_row, with_new_row, without_row, without_object}
 
 -- the value is read back from its words, as every value of a run is
 pub record Fits (v : Value) : Type 0 where
@@ -76,11 +76,15 @@ pub record Joins (o : ℕ) (k : PropertyKey) : Type 0 where
   pub owner : o < maximum_objects
   pub number : key_number k < 2 ^ 58
 
+-- by its key word, an entry stays or else passes the test
+abbrev pub StaysUnless : (Entry → Bool) → (ℕ → Bool → Type 0) → Type 0
+StaysUnless test answers = (words : List ℕ) (i : ℕ) (stays : Bool) → answers (word_at words (key_at i)) stays → test (entry_in words i) ≡ not stays
+
 -- a property that is new and has room
 pub record New (words : List ℕ) (o : ℕ) (k : PropertyKey) : Type 0 where
   pub room : word_at words 1 < maximum_properties
   pub joins : Joins o k
-  pub absent : own (store_of words) o k ≡ Absent
+  pub absent : own (store_of words) o k ≡ None
 
 abbrev pub IsWithin : Write → List ℕ → Type 0
 IsWithin write.Nothing words = Unit

@@ -5,10 +5,5 @@ pub fn copy_words(to: &mut [u64], from: &[u64])
     requires { length to.old ≡ length from.now }
     ensures { to.new ≡ from.now }
 {
-    let n = from.len();
-    let mut i: usize = 0;
-    while i < n {
-        to[i] = from[i];
-        i += 1;
-    }
+    to.copy_from_slice(from);
 }

@@ -1,6 +1,7 @@
 // Writing the store's words, one write at a time.
 // write: what a write is, and objects. numbers: those that are taken and released. properties: set and add one.
 // removal: of a property, and of an object with its properties. copying: all the words.
+// What writes asks by a clause that the words are a store: between two of its writes they need be none, so no type says it of them.
 #![tactic(auto)]
 
 ghost use Rattle.store.specs.Words.{store_of};

@@ -1,8 +1,10 @@
 // The numbers of objects: the next one is taken, and one is released. The released ones stand in a ring of 32 words.
+#![tactic(auto, using(crate::proofs::WriteLaws::numbers))]
+
 ghost use Rattle.std.specs.Prelude.{◌≡◌, ◌≤◌, length};
 ghost use Rattle.store.specs.Words.{store_size, word_at, with_number_taken, with_number_released};
 
-const QUEUE: usize = 6;
+use store_read::QUEUE;
 
 // From the released ones, or one number more is in use.
 pub fn take_number(words: &mut [u64])
@@ -11,7 +13,7 @@ pub fn take_number(words: &mut [u64])
 {
     let released = words[4];
     if released == 0 {
-        words[0] = words[0] + 1;
+        words[0] += 1;
     } else {
         words[5] = (words[5] % 32 + 1) % 32;
         words[4] = released - 1;

@@ -1,4 +1,6 @@
 // Writing a property into the store's words.
+#![tactic(auto, using(crate::proofs::WriteLaws::properties))]
+
 ghost use Rattle.std.specs.Prelude.{◌≡◌, true, ◌<◌, length};
 ghost use Rattle.std.proofs.lemmas.List.Edits.{sets};
 ghost use Rattle.store.specs.Store.{with_property, with_change};
@@ -7,12 +9,9 @@ ghost use Rattle.store_write.specs.Write.{cells_of, PropertyCells, FitsProperty,
 
 use crate::{PropertyWords, write};
 use property::Property;
+use store_read::{KEYS, ROWS};
 use value::PropertyKey;
 use value_operations::{bits, encoding};
-
-pub const KEYS: usize = 134;
-
-pub const ROWS: usize = 390;
 
 pub fn key_word(o: u64, k: PropertyKey) -> u64
     requires { Joins o k }

@@ -1,4 +1,6 @@
 // What a write to the store's words is, and writing objects. Each changes the words that its definition names, and no other.
+#![tactic(auto, using(crate::proofs::WriteLaws::objects))]
+
 ghost use Rattle.std.specs.Prelude.{◌≡◌, true, ◌∷◌, [], ◌+◌, ◌<◌, ◌≤◌, eqb, ltb, length};
 ghost use Rattle.std.proofs.lemmas.List.Edits.{sets};
 ghost use Rattle.value.specs.Bits.{bit};
@@ -9,10 +11,9 @@ ghost use Rattle.store_write.specs.Write.{ObjectCells, FitsObject, Becomes, empt
 use crate::numbers;
 use property::Property;
 use store::Object;
+use store_read::{OBJECTS, QUEUE, STORE_SIZE, StoreWords};
 use value::PropertyKey;
 use value_operations::{bits, encoding};
-
-const OBJECTS: usize = 38;
 
 // One change of the store. An object and an entry are given by their numbers; a new object is callable or not.
 #[derive(Clone, Copy)]
@@ -89,25 +90,18 @@ pub fn make_empty(words: &mut [u64]) -> bool
     ensures words_after { words.new ≡ emptied words.old }
     ensures words_after_2 { result ≡ true → (store_of words.new ≡ empty.store) × (is_store words.new ≡ true) }
 {
-    if words.len() == 1670 {
-        words[0] = 0;
-        words[1] = 0;
-        words[2] = 0;
-        words[3] = 0;
-        words[4] = 0;
-        words[5] = 0;
-        true
-    } else {
-        false
+    let fits = words.len() == STORE_SIZE;
+    if fits {
+        words[..QUEUE].fill(0);
     }
+    fits
 }
 
 // Whether one more property may be added, where `limit` may be held.
-pub fn room(words: &[u64], limit: usize) -> bool
-    requires { is_store words.now ≡ true }
-    ensures { result ≡ ltb (length (store_of words.now).properties) limit }
+pub fn room(store: StoreWords<'_>, limit: usize) -> bool
+    ensures { result ≡ ltb (length (store_of store.entry.words.now).properties) limit }
 {
-    words[1] < limit as u64
+    store.words[1] < limit as u64
 }
 
 pub fn set_object(words: &mut [u64], o: usize, x: Object)
@@ -131,7 +125,7 @@ pub fn add_object(words: &mut [u64], x: Object, callable: bool)
     requires { (is_store words.old ≡ true) × (live_count (store_of words.old) < 32) }
     ensures { Becomes words.new (with_new_object words.old x callable) (add (store_of words.old) x callable) }
 {
-    let n = store_read::next_number(words);
+    let n = StoreWords { words }.next_number();
     write_live(words, n, x, callable);
     numbers::take_number(words);
 }

@@ -1,21 +1,17 @@
 -- The number of a string's digits, one digit at a time. Assumes nothing.
+use Rattle.std.specs.Prelude.{Option, None, Some}
 use Prim.Native.Nat.{ℕ, ◌+◌, ◌*◌, ◌-◌, ◌^◌, ◌≤◌, ◌<◌}
-use native.Mathlib.Nat.{pow-succ', pow-le-pow_right}
+use native.Mathlib.Nat.{pow-succ'}
 use native.Mathlib.Numerals.{add-one}
 use native.Mathlib.Omega.{arith}
 use mathlib.Core.Path.{◌≡◌, refl}
 use mathlib.Core.Bool.{Bool, true, false, ◌&&◌, cond}
-use mathlib.Core.Option.{Option, none, some}
 use mathlib.Core.List.{List, [], ◌∷◌}
 use lib.Dec.{leb, ltb}
 use lib.ListN.{length, get_or, drop, drop_of_length-le}
 use lib.Seq.{drop-cons}
 use borrow.Author.Tests.{le-leb, lt-leb, lt-ltb, le-ltb, eq-eqb, ne_eqb}
 use Rattle.property.specs.ArrayIndex.{is_digit, decimal, within_index, array_index}
-
--- ten digits are less than 10^10, which fits
-pub bound : (n i : ℕ) → n < 10 ^ i → i ≤ 10 → n < 10000000000
-bound n i h k = let p : 10 ^ i ≤ 10 ^ 10 = pow-le-pow_right {n = 10} (omega arith) k in omega arith
 
 pub more : (n d i : ℕ) → n < 10 ^ i → d ≤ 9 → 10 * n + d < 10 ^ (i + 1)
 more n d i h k = rw (add-one, pow-succ') (omega arith)
@@ -38,28 +34,28 @@ module _ (n : ℕ) (units : List ℕ) (i : ℕ) (inside : i < length units) wher
   unfolding decimal
   next-digit e = rw (drop-cons units i 0 inside, e, add-one)
 
-  pub no_digit : is_digit (get_or units i 0) ≡ false → decimal n (drop i units) ≡ none
+  pub no_digit : is_digit (get_or units i 0) ≡ false → decimal n (drop i units) ≡ None
   unfolding decimal
   no_digit e = rw (drop-cons units i 0 inside, e)
 
-pub at-end : (n : ℕ) (units : List ℕ) (i : ℕ) → length units ≤ i → decimal n (drop i units) ≡ some n
+pub at-end : (n : ℕ) (units : List ℕ) (i : ℕ) → length units ≤ i → decimal n (drop i units) ≡ Some n
 unfolding decimal
 at-end n units i h = rw (drop_of_length-le units {i = i} h)
 
 -- Which case of the definition a string is, by its first unit and its length
 
-pub is-empty : (units : List ℕ) → length units ≡ 0 → array_index units ≡ none
+pub is-empty : (units : List ℕ) → length units ≡ 0 → array_index units ≡ None
 unfolding array_index
 is-empty [] h = refl
 is-empty (c ∷ cs) h = absurd (omega arith)
 
-pub is_zero : (units : List ℕ) → get_or units 0 0 ≡ 48 → length units ≡ 1 → array_index units ≡ some 0
+pub is_zero : (units : List ℕ) → get_or units 0 0 ≡ 48 → length units ≡ 1 → array_index units ≡ Some 0
 unfolding array_index
 is_zero [] e h = absurd (omega arith)
 is_zero (c ∷ []) e h = rw (eq-eqb c 48 e)
 is_zero (c ∷ (d ∷ cs)) e h = absurd (omega arith)
 
-pub is-padded : (units : List ℕ) → get_or units 0 0 ≡ 48 → (length units ≡ 1 → ⊥) → array_index units ≡ none
+pub is-padded : (units : List ℕ) → get_or units 0 0 ≡ 48 → (length units ≡ 1 → ⊥) → array_index units ≡ None
 unfolding array_index
 is-padded [] e h = refl
 is-padded (c ∷ []) e h = absurd (h refl)
@@ -70,16 +66,16 @@ unfolding array_index
 is_number [] e p h = absurd (omega arith)
 is_number (c ∷ cs) e p h = rw (ne_eqb c 48 e, lt-ltb (length cs) 10 (omega arith))
 
-pub is-long : (units : List ℕ) → (get_or units 0 0 ≡ 48 → ⊥) → 10 < length units → array_index units ≡ none
+pub is-long : (units : List ℕ) → (get_or units 0 0 ≡ 48 → ⊥) → 10 < length units → array_index units ≡ None
 unfolding array_index
 is-long [] e h = absurd (omega arith)
 is-long (c ∷ cs) e h = rw (ne_eqb c 48 e, le-ltb (length cs) 10 (omega arith))
 
-either-none : {A : Type 0} (b : Bool) → ◌≡◌ {A = Option A} (cond b none none) none
+either-none : {A : Type 0} (b : Bool) → ◌≡◌ {A = Option A} (cond b None None) None
 either-none true = refl
 either-none false = refl
 
-pub is-other : (units : List ℕ) → is_digit (get_or units 0 0) ≡ false → (get_or units 0 0 ≡ 48 → ⊥) → array_index units ≡ none
+pub is-other : (units : List ℕ) → is_digit (get_or units 0 0) ≡ false → (get_or units 0 0 ≡ 48 → ⊥) → array_index units ≡ None
 unfolding array_index decimal
 is-other [] d e = refl
 is-other (c ∷ cs) d e = rw (ne_eqb c 48 e, d) (either-none (ltb (length cs) 10))

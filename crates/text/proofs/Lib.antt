@@ -1,3 +1,4 @@
+pub mod CopyLaws
 pub mod TextLaws
 pub mod TableLaws
 pub mod EntryLaws

@@ -1,20 +1,22 @@
 -- Laws of the cells that hold a table of strings. Assumes nothing.
+use Rattle.std.specs.Prelude.{None, Some}
 use Prim.Native.Nat.{ℕ, zero, suc, ◌+◌, ◌-◌, ◌*◌, ◌<◌, ◌≤◌, min}
 use native.Mathlib.Omega.{arith}
 use native.Mathlib.Numerals.{add-one}
-use native.Mathlib.Nat.{min-le_right, min-eq_left, min-eq_right}
+use native.Mathlib.Nat.{min-le_right, min-eq_left}
 use mathlib.Core.Path.{◌≡◌, refl, sym, ap, ◌∙◌}
 use mathlib.Core.Bool.{Bool, true, false, ◌&&◌}
 use mathlib.Core.List.{List, [], ◌∷◌, ◌++◌}
 use lib.Dec.{eqb, leb}
-use lib.ListN.{length, get_or, set, take, drop, length-set, drop_of_length-le, get_or-eq_default}
-use lib.Seq.{drop-cons, get_or-set_same, get_or-set_other}
+use lib.ListN.{length, get_or, set, take, drop, length-set, get_or-eq_default}
+use lib.Seq.{sets, drop-cons, get_or-set_same, get_or-set_other}
+use borrow.Rule.Slice.PartMut.{put_mid}
 use borrow.Author.Tests.{eqb-true, leb-true, eq-eqb, le-leb}
-use Rattle.text.specs.declared.Found.TheVariants.{Number, Nothing}
 use Rattle.text.specs.Strings.{text_of, same_text, number_of, maximum_strings}
 use Rattle.text.specs.Table.{tabulate, table_size, row_at, length_at, text_at, strings_of, is_table, overwrite, added_to}
-use Rattle.text.specs.Answers.{read_table, found}
-use Rattle.text.proofs.TextLaws.{found_from, found-zero, found-next}
+use Rattle.text.specs.Answers.{read_table}
+use Rattle.text.proofs.CopyLaws.{copied}
+use Rattle.text.proofs.TextLaws.{number-at, number-none}
 
 pub and_left : (a b : Bool) → a && b ≡ true → a ≡ true
 and_left true b e = refl
@@ -99,10 +101,6 @@ pub length-is : (cells : List ℕ) (n : ℕ) → get_or cells (row_at n) 0 ≤ 3
 unfolding length_at
 length-is cells n h = min-eq_left h
 
-pub length_cut : (cells : List ℕ) (n : ℕ) → 32 ≤ get_or cells (row_at n) 0 → length_at cells n ≡ 32
-unfolding length_at
-length_cut cells n h = min-eq_right h
-
 pub text-part : (cells : List ℕ) (n i m : ℕ) → length cells ≡ table_size → n < 256 → i ≡ 2 + 33 * n → m ≡ length_at cells n
     → take (i + m - i) (drop i cells) ≡ text_at cells n
 unfolding text_at
@@ -111,11 +109,13 @@ text-part cells n i m h l p q =
     let b : i + m - i ≡ length_at cells n = omega arith in
     rw (b, a) (part cells (suc (row_at n)) (length_at cells n) (omega (arith, length_most cells n)))
 
+string-at : (cells : List ℕ) (k : ℕ) → k < get_or cells 0 0 → get_or (strings_of cells) k [] ≡ text_at cells k
+unfolding strings_of
+string-at cells k h = get_d_tabulate (text_at cells) 0 (get_or cells 0 0) k [] h ∙ ap (text_at cells) (omega arith)
+
 pub text-read : (cells : List ℕ) (n : ℕ) → is_table cells ≡ true → n < get_or cells 0 0 → text_of (read_table cells) n ≡ text_at cells n
-unfolding read_table strings_of
-text-read cells n e h =
-    let z : 0 + n ≡ n = omega arith in
-    rw e (get_d_tabulate (text_at cells) 0 (get_or cells 0 0) n [] h ∙ ap (text_at cells) z)
+unfolding read_table
+text-read cells n e h = rw e (string-at cells n h)
 
 pub text-none : (cells : List ℕ) (n : ℕ) → is_table cells ≡ true → get_or cells 0 0 ≤ n → text_of (read_table cells) n ≡ []
 unfolding read_table strings_of
@@ -131,37 +131,23 @@ pub length-strings : (cells : List ℕ) → length (strings_of cells) ≡ get_or
 unfolding strings_of
 length-strings cells = length-tabulate (text_at cells) 0 (get_or cells 0 0)
 
--- the search: n strings from string i on
+-- what the search answers
 
-pub find-start : (cells u : List ℕ) (n : ℕ) → is_table cells ≡ true → n ≡ get_or cells 0 0
-    → found (number_of (read_table cells) u) ≡ found_from 0 (number_of (tabulate (text_at cells) 0 (n - 0)) u)
-unfolding read_table strings_of
-find-start cells u n e h =
-    let z : get_or cells 0 0 ≡ n - 0 = omega arith in
-    rw (e, z) (found-zero (number_of (tabulate (text_at cells) 0 (n - 0)) u))
+module _ (cells units : List ℕ) (e : is_table cells ≡ true) where
+  pub found-at : (n : ℕ) → n < get_or cells 0 0 → same_text (text_at cells n) units ≡ true → ((k : ℕ) → k < n → same_text (text_at cells k) units ≡ false)
+      → Some n ≡ (number_of (read_table cells) units)
+  unfolding read_table
+  found-at n h s before =
+      rw (e, number-at (strings_of cells) units n (omega (arith, length-strings cells)) (rw (string-at cells n h) s) (λ k l. rw (string-at cells k (omega arith)) (before k l)))
 
-pub find-malformed : (cells u : List ℕ) → is_table cells ≡ false → Nothing ≡ found (number_of (read_table cells) u)
+  pub found-nothing : ((k : ℕ) → k < get_or cells 0 0 → same_text (text_at cells k) units ≡ false) → None ≡ (number_of (read_table cells) units)
+  unfolding read_table
+  found-nothing absent =
+      rw (e, number-none (strings_of cells) units (λ k l. let h : k < get_or cells 0 0 = omega (arith, length-strings cells) in rw (string-at cells k h) (absent k h)))
+
+pub find-malformed : (cells u : List ℕ) → is_table cells ≡ false → None ≡ (number_of (read_table cells) u)
 unfolding read_table number_of
 find-malformed cells u e = rw e
-
-pub find-hit : (f : ℕ → List ℕ) (i n : ℕ) (u : List ℕ) → i < n → same_text (f i) u ≡ true
-    → Number i ≡ found_from i (number_of (tabulate f i (n - i)) u)
-unfolding tabulate number_of
-find-hit f i n u h e =
-    let z : n - i ≡ suc (n - suc i) = omega arith in
-    let a : i ≡ i + 0 = omega arith in
-    rw (z, e) (ap Number a)
-
-pub find-step : (f : ℕ → List ℕ) (i n : ℕ) (u : List ℕ) → i < n → same_text (f i) u ≡ false
-    → found_from i (number_of (tabulate f i (n - i)) u) ≡ found_from (i + 1) (number_of (tabulate f (i + 1) (n - (i + 1))) u)
-unfolding tabulate number_of
-find-step f i n u h e =
-    let z : n - i ≡ suc (n - suc i) = omega arith in
-    rw (z, e, add-one i) (rw (add-one i) at (found-next i (number_of (tabulate f (suc i) (n - suc i)) u)))
-
-pub find-end : (f : ℕ → List ℕ) (i n : ℕ) (u : List ℕ) → n ≤ i → Nothing ≡ found_from i (number_of (tabulate f i (n - i)) u)
-unfolding tabulate number_of
-find-end f i n u h = let z : n - i ≡ 0 = omega arith in rw z
 
 -- cells overwritten
 
@@ -188,20 +174,10 @@ overwrite-part cells i (u ∷ us) h =
     let r = overwrite-part (set cells i u) (suc i) us m in
     rw e (ap (λ (x : List ℕ). u ∷ x) r)
 
--- units written from i on, j of them so far
-pub overwrite-step : (cells : List ℕ) (i : ℕ) (units : List ℕ) (j : ℕ) → j < length units
-    → overwrite cells (i + j) (drop j units) ≡ overwrite (set cells (i + j) (get_or units j 0)) (i + (j + 1)) (drop (j + 1) units)
+pub overwrite-sets : (cells : List ℕ) (i : ℕ) (units : List ℕ) → overwrite cells i units ≡ sets cells i units
 unfolding overwrite
-overwrite-step cells i units j h =
-    let e : suc (i + j) ≡ i + (j + 1) = omega arith in
-    let a : suc j ≡ j + 1 = omega arith in
-    rw (drop-cons units j 0)
-    (ap (λ (k : ℕ). overwrite (set cells (i + j) (get_or units j 0)) k (drop (suc j) units)) e
-    ∙ ap (λ (k : ℕ). overwrite (set cells (i + j) (get_or units j 0)) (i + (j + 1)) (drop k units)) a)
-
-pub overwrite-end : (cells : List ℕ) (i : ℕ) (units : List ℕ) (j : ℕ) → length units ≤ j → overwrite cells i (drop j units) ≡ cells
-unfolding overwrite
-overwrite-end cells i units j h = rw (drop_of_length-le units h)
+overwrite-sets cells i [] = refl
+overwrite-sets cells i (u ∷ us) = overwrite-sets (set cells i u) (suc i) us
 
 -- a string added: its length, its code units, then the count
 
@@ -215,14 +191,13 @@ pub length-written : (cells units : List ℕ) (n : ℕ) → length (written cell
 length-written cells units n =
     length-overwrite (sized cells units n) (suc (row_at n)) units ∙ length-set cells (row_at n) (length units)
 
-pub added-by : (cells units : List ℕ) (n : ℕ) (after : List ℕ) → after ≡ overwrite (sized cells units n) (row_at n + 1) units
-    → set after 0 (n + 1) ≡ added_to cells units n
+-- what `add` leaves, where `now` was copied into the row behind the length
+pub added-by : (cells units now : List ℕ) (n k : ℕ) → length cells ≡ table_size → length units ≤ 32 → n < 256 → now ≡ units → k ≡ length units
+    → set (put_mid (row_at n + 1) k (sized cells units n) now) 0 (n + 1) ≡ added_to cells units n
 unfolding added_to
-added-by cells units n after e = rw (e, add-one (row_at n), add-one n)
-
-pub length-by : (cells units : List ℕ) (n : ℕ) (after : List ℕ) → after ≡ overwrite (sized cells units n) (row_at n + 1) units
-    → length after ≡ length cells
-length-by cells units n after e = rw (e, add-one (row_at n)) (length-written cells units n)
+added-by cells units now n k s f r e h =
+    let z : length (sized cells units n) ≡ length cells = length-set cells (row_at n) (length units) in
+    rw (copied (sized cells units n) (row_at n + 1) k units now e h (omega arith), add-one (row_at n), add-one n, overwrite-sets)
 
 pub length-added : (cells units : List ℕ) (n : ℕ) → length (added_to cells units n) ≡ length cells
 unfolding added_to

@@ -1,92 +1,66 @@
 -- Laws of equal strings, of the number of a string and of entering one. Assumes nothing.
-use Prim.Native.Nat.{ℕ, zero, suc, ◌+◌, ◌<◌, ◌≤◌}
+use Rattle.std.specs.Prelude.{Option, None, Some}
+use Prim.Native.Nat.{ℕ, zero, suc, ◌<◌}
 use native.Mathlib.Omega.{arith}
-use native.Mathlib.Numerals.{add-one}
 use mathlib.Core.Path.{◌≡◌, refl, sym, ap, ◌∙◌}
 use mathlib.Core.Bool.{Bool, true, false, ◌&&◌}
-use mathlib.Core.Option.{Option, none, some}
 use mathlib.Core.List.{List, [], ◌∷◌}
 use lib.Dec.{eqb}
-use lib.ListN.{length, get_or, drop}
-use lib.Seq.{drop-cons, drop-length}
-use borrow.Author.Tests.{eq-eqb, ne_eqb}
-use Rattle.text.specs.declared.Found.{Found}
-use Rattle.text.specs.declared.Found.TheVariants.{Number, Nothing}
+use lib.ListN.{length, get_or}
+use Rattle.std.specs.Str.{bytes_eq}
 use Rattle.text.specs.Strings.{Strings, same_text, next, number_of}
-use Rattle.text.specs.Answers.{found}
 
-and-false : (b : Bool) → b && false ≡ false
-and-false true = refl
-and-false false = refl
-
-pub lengths_differ : (a b : List ℕ) → (length a ≡ length b → ⊥) → false ≡ same_text a b
+same-bytes : (a b : List ℕ) → same_text a b ≡ bytes_eq a b
 unfolding same_text
-lengths_differ [] [] h = absurd (h refl)
-lengths_differ [] (d ∷ ds) h = refl
-lengths_differ (c ∷ cs) [] h = refl
-lengths_differ (c ∷ cs) (d ∷ ds) h =
-    let e : false ≡ same_text cs ds = lengths_differ cs ds (λ q. h (ap suc q)) in
-    sym (and-false (eqb c d)) ∙ ap (λ (t : Bool). eqb c d && t) e
+same-bytes [] [] = refl
+same-bytes [] (d ∷ ds) = refl
+same-bytes (c ∷ cs) [] = refl
+same-bytes (c ∷ cs) (d ∷ ds) = ap (λ (t : Bool). eqb c d && t) (same-bytes cs ds)
 
--- two strings from code unit i on
-pub same_step : (a b : List ℕ) (i : ℕ) → i < length a → i < length b → get_or a i 0 ≡ get_or b i 0
-    → same_text (drop i a) (drop i b) ≡ same_text (drop (i + 1) a) (drop (i + 1) b)
-unfolding same_text
-same_step a b i h l e =
-    rw (drop-cons a i 0, drop-cons b i 0, eq-eqb (get_or a i 0) (get_or b i 0) e, add-one i)
+-- what `==` answers of two slices, the first of which is a string's text
+pub same-as : (text a b : List ℕ) {r v : Bool} → a ≡ text → r ≡ bytes_eq a b → r ≡ v → same_text text b ≡ v
+same-as text a b e p q = ap (λ (t : List ℕ). same_text t b) (sym e) ∙ same-bytes a b ∙ sym p ∙ q
 
-pub same_stop : (a b : List ℕ) (i : ℕ) → i < length a → i < length b → (get_or a i 0 ≡ get_or b i 0 → ⊥)
-    → false ≡ same_text (drop i a) (drop i b)
-unfolding same_text
-same_stop a b i h l e = rw (drop-cons a i 0, drop-cons b i 0, ne_eqb (get_or a i 0) (get_or b i 0) e)
+-- a string's number is where it stands first
+pub number-at : (strings : Strings) (units : List ℕ) (n : ℕ) → n < length strings → same_text (get_or strings n []) units ≡ true
+    → ((k : ℕ) → k < n → same_text (get_or strings k []) units ≡ false) → number_of strings units ≡ Some n
+unfolding number_of
+number-at [] units n h e before = absurd (omega arith)
+number-at (text ∷ strings) units zero h e before = rw e
+number-at (text ∷ strings) units (suc n) h e before =
+    rw (before 0 (omega arith), number-at strings units n (omega arith) e (λ k l. before (suc k) (omega arith)))
 
-pub same_end : (a b : List ℕ) (i : ℕ) → length a ≤ i → i ≤ length a → length a ≡ length b
-    → true ≡ same_text (drop i a) (drop i b)
-unfolding same_text
-same_end a b i h l e =
-    let p : i ≡ length a = omega arith in
-    let q : i ≡ length b = omega arith in
-    let x : drop i a ≡ [] = ap (λ (k : ℕ). drop k a) p ∙ drop-length a in
-    let y : drop i b ≡ [] = ap (λ (k : ℕ). drop k b) q ∙ drop-length b in
-    rw (x, y)
+pub number-none : (strings : Strings) (units : List ℕ) → ((k : ℕ) → k < length strings → same_text (get_or strings k []) units ≡ false)
+    → number_of strings units ≡ None
+unfolding number_of
+number-none [] units absent = refl
+number-none (text ∷ strings) units absent =
+    rw (absent 0 (omega arith), number-none strings units (λ k l. absent (suc k) (omega arith)))
 
--- what a search answers that has passed i strings
-abbrev pub found_from : ℕ → Option ℕ → Found
-found_from i none = Nothing
-found_from i (some k) = Number (i + k)
+pub found_some : (n : ℕ) (o : Option ℕ) → Some n ≡ o → o ≡ Some n
+found_some n None q = let z : ◌≡◌ {A = ℕ} 0 1 = cc in absurd (omega arith)
+found_some n (Some k) q = let z : n ≡ k = cc in ap Some (sym z)
 
-pub found-zero : (o : Option ℕ) → found o ≡ found_from 0 o
-found-zero none = refl
-found-zero (some k) = let e : k ≡ 0 + k = omega arith in ap Number e
+pub found_none : (o : Option ℕ) → None ≡ o → o ≡ None
+found_none None q = refl
+found_none (Some k) q = let z : ◌≡◌ {A = ℕ} 0 1 = cc in absurd (omega arith)
 
-pub found-next : (i : ℕ) (o : Option ℕ) → found_from i (next o) ≡ found_from (i + 1) o
-found-next i none = refl
-found-next i (some k) = let e : i + suc k ≡ i + 1 + k = omega arith in ap Number e
+below_next : (strings : Strings) (units : List ℕ) (n : ℕ) → ((k : ℕ) → number_of strings units ≡ Some k → k < length strings)
+    → (o : Option ℕ) → number_of strings units ≡ o → next o ≡ Some n → n < suc (length strings)
+below_next strings units n h None e p = let z : ◌≡◌ {A = ℕ} 0 1 = cc in absurd (omega arith)
+below_next strings units n h (Some k) e p = let z : suc k ≡ n = cc in omega (arith, h k e)
 
-pub found_some : (n : ℕ) (o : Option ℕ) → Number n ≡ found o → o ≡ some n
-found_some n none q = let z : ◌≡◌ {A = ℕ} 0 1 = cc in absurd (omega arith)
-found_some n (some k) q = let z : n ≡ k = cc in ap some (sym z)
-
-pub found_none : (o : Option ℕ) → Nothing ≡ found o → o ≡ none
-found_none none q = refl
-found_none (some k) q = let z : ◌≡◌ {A = ℕ} 0 1 = cc in absurd (omega arith)
-
-below_next : (strings : Strings) (units : List ℕ) (n : ℕ) → ((k : ℕ) → number_of strings units ≡ some k → k < length strings)
-    → (o : Option ℕ) → number_of strings units ≡ o → next o ≡ some n → n < suc (length strings)
-below_next strings units n h none e p = let z : ◌≡◌ {A = ℕ} 0 1 = cc in absurd (omega arith)
-below_next strings units n h (some k) e p = let z : suc k ≡ n = cc in omega (arith, h k e)
-
-below_by : (text : List ℕ) (strings : Strings) (units : List ℕ) (n : ℕ) → ((k : ℕ) → number_of strings units ≡ some k → k < length strings)
-    → (b : Bool) → same_text text units ≡ b → number_of (text ∷ strings) units ≡ some n → n < suc (length strings)
+below_by : (text : List ℕ) (strings : Strings) (units : List ℕ) (n : ℕ) → ((k : ℕ) → number_of strings units ≡ Some k → k < length strings)
+    → (b : Bool) → same_text text units ≡ b → number_of (text ∷ strings) units ≡ Some n → n < suc (length strings)
 unfolding number_of
 below_by text strings units n h true e q =
-    let p : some zero ≡ some n = rw e at q in
+    let p : Some zero ≡ Some n = rw e at q in
     let z : zero ≡ n = cc in
     omega arith
 below_by text strings units n h false e q = below_next strings units n h (number_of strings units) refl (rw e at q)
 
--- what is found was entered
-pub number-below : (strings : Strings) (units : List ℕ) (n : ℕ) → number_of strings units ≡ some n → n < length strings
+-- what is was entered
+pub number-below : (strings : Strings) (units : List ℕ) (n : ℕ) → number_of strings units ≡ Some n → n < length strings
 unfolding number_of
 number-below [] units n q = let z : ◌≡◌ {A = ℕ} 0 1 = cc in absurd (omega arith)
 number-below (text ∷ strings) units n q =

@@ -1,5 +1,5 @@
 -- The table of strings in lent memory: a count, then for each string its length and 32 code units. Assumes nothing.
-use Rattle.std.specs.Prelude.{ℕ, zero, suc, ◌+◌, ◌*◌, min, Bool, true, false, ◌&&◌, List, [], ◌∷◌, ◌++◌, eqb, leb, length, get_or, set}
+use Rattle.std.specs.Prelude.{ℕ, zero, suc, ◌+◌, ◌*◌, min, Bool, ◌&&◌, List, [], ◌∷◌, eqb, leb, length, get_or, set}
 use Rattle.text.specs.Strings.{Strings, maximum_length, maximum_strings}
 
 -- f i, f (i + 1), ..: n of them

@@ -2,37 +2,21 @@
 // entry: entering one. indices: which strings are array indices.
 #![tactic(auto)]
 
-ghost use Rattle.std.specs.Prelude.{◌≡◌, true, [], ◌+◌, ◌<◌, eqb, length};
+ghost use Rattle.std.specs.Prelude.{◌≡◌, true, [], ◌<◌, eqb, length};
 ghost use Rattle.property.specs.ArrayIndex.{array_index};
-ghost use Rattle.property.specs.Answers.{index_answer};
 ghost use Rattle.text.specs.Strings.{text_of, length_of};
 ghost use Rattle.text.specs.Table.{table_size, length_at, text_at, strings_of, is_table};
 ghost use Rattle.text.specs.Answers.{read_table, count_answer, emptied};
 
-use property::ArrayIndex;
-
 pub mod entry;
 pub mod indices;
 
-// How many strings the cells hold, if they are a table.
+// Why a string is not entered: the cells are no table, it is too long, or the table is full. Refusals 1, 3 and 7.
 #[derive(Clone, Copy)]
-pub enum StringCount {
-    Count(u64),
+pub enum EntryError {
     Malformed,
-}
-
-// The number of a string, if it was entered.
-#[derive(Clone, Copy)]
-pub enum Found {
-    Number(u64),
-    Nothing,
-}
-
-// What entering a string answers: the number of the refusal, or of the string.
-#[derive(Clone, Copy)]
-pub enum EntryAnswer {
-    Refused(u64),
-    Entered(u64),
+    TooLong,
+    Full,
 }
 
 const MAXIMUM_LENGTH: usize = 32;
@@ -41,22 +25,12 @@ const ROW_SIZE: usize = 33;
 
 const TABLE_SIZE: usize = 8449;
 
-// A code unit as a word.
-fn wide(x: u16) -> usize
-    ensures { result ≡ x }
-{
-    x as usize
-}
-
 // Whether the cells have the right length and a count that the table can have.
+// (Of what methods read `Run` says it; the functions below that take cells alone ask it by a clause, which is plainer than a struct of one slice.)
 pub fn is_table(cells: &[u16]) -> bool
     ensures { result ≡ is_table cells.now }
 {
-    if cells.len() == TABLE_SIZE {
-        cells[0] <= 256
-    } else {
-        false
-    }
+    cells.len() == TABLE_SIZE && cells[0] <= 256
 }
 
 // Makes the table hold no string: only the count changes. False where the length is another.
@@ -75,27 +49,23 @@ pub fn make_empty(cells: &mut [u16]) -> bool
 }
 
 // How many strings the table holds.
-pub fn count(cells: &[u16]) -> StringCount
+pub fn count(cells: &[u16]) -> Option<u64>
     ensures { result ≡ count_answer cells.now }
 {
     if is_table(cells) {
-        StringCount::Count(wide(cells[0]) as u64)
+        Some(u64::from(cells[0]))
     } else {
-        StringCount::Malformed
+        None
     }
 }
 
 // The length of string n; a stored length above the greatest reads as the greatest.
+#[tactic(auto, unfolding(crate::specs::Table::length_at))]
 fn length_at(cells: &[u16], n: usize) -> usize
     requires { (length cells.now ≡ table_size) × (n < 256) }
     ensures { result ≡ length_at cells.now n }
 {
-    let size = wide(cells[1 + ROW_SIZE * n]);
-    if size <= MAXIMUM_LENGTH {
-        size
-    } else {
-        MAXIMUM_LENGTH
-    }
+    usize::from(cells[1 + ROW_SIZE * n]).min(MAXIMUM_LENGTH)
 }
 
 // The code units of string n.
@@ -112,14 +82,10 @@ pub fn text_at(cells: &[u16], n: usize) -> &[u16]
 fn text_of(cells: &[u16], n: u64) -> &[u16]
     ensures { result.now ≡ text_of (read_table cells.now) n }
 {
-    if is_table(cells) {
-        let k = n as usize;
-        if k < wide(cells[0]) {
-            return text_at(cells, k);
-        }
-        return &cells[0..0];
+    if is_table(cells) && n < u64::from(cells[0]) {
+        return text_at(cells, n as usize);
     }
-    &cells[0..0]
+    &[]
 }
 
 // The length of string n, and 0 for a number that was not entered.
@@ -130,8 +96,8 @@ pub fn length_of(cells: &[u16], n: u64) -> usize
 }
 
 // 6.1.7: the array index that string n is, if it is one.
-pub fn array_index_of(cells: &[u16], n: u64) -> ArrayIndex
-    ensures { result ≡ index_answer (array_index (text_of (read_table cells.now) n)) }
+pub fn array_index_of(cells: &[u16], n: u64) -> Option<u64>
+    ensures { result ≡ (array_index (text_of (read_table cells.now) n)) }
 {
     indices::array_index(text_of(cells, n))
 }

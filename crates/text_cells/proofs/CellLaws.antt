@@ -8,36 +8,35 @@ use mathlib.Core.List.{List, [], ◌∷◌, ◌++◌, append-nil, append_assoc}
 use lib.Dec.{eqb}
 use lib.ListN.{length, get_or, take, drop, set, replicate, length-set, length-drop, drop_of_length-le}
 use lib.Seq.{drop-cons, drop-drop, get_or-drop, get_or-set_same, get_or-set_other}
+use Rattle.std.proofs.Common.{Option, Some, None, MatchOption, cond, ltb, not}
+use Rattle.std.specs.Bool.{then_some}
+use Rattle.std.proofs.lemmas.List.Recursion.{is_position_or_len}
+use Rattle.std.proofs.lemmas.List.Sums.{prefix_len-le-length}
+use Rattle.std.proofs.lemmas.Slice.{between_to_end}
+use Rattle.std.specs.List.{position, position_or_len}
+use Rattle.std.specs.Option.{unwrap_or}
 use borrow.Author.Count.{below_more}
-use borrow.Author.Tests.{eqb-true, eqb-false, eq-eqb, ne_eqb}
+use borrow.Author.Tests.{ltb-false, eqb-true, eqb-false}
 use Rattle.record.specs.Characters.{space}
 use Rattle.text_form.specs.Cells.{until, cells_of, pieces}
 use Rattle.text_cells.specs.Answers.{cell_at, Located}
 
--- a cell starts before the next one, which starts within the line or one behind it
-pub bounds : (line starts : List ℕ) (i : ℕ) → Located line starts → i < 7
-    → (get_or starts i 0 < get_or starts (i + 1) 0) × (get_or starts (i + 1) 0 ≤ suc (length line))
-bounds line starts i l h = rw (add-one i) (l.ordered i h, l.inside i h)
+-- how many bytes stand before a separator, as `position` finds it
 
-pub cell-part : (line starts : List ℕ) (i : ℕ) → Located line starts → i < 7
-    → take (get_or starts (i + 1) 0 - 1 - get_or starts i 0) (drop (get_or starts i 0) line) ≡ get_or (cells_of line) i []
-cell-part line starts i l h =
-    let e : get_or starts (suc i) 0 - 1 - get_or starts i 0 ≡ get_or starts (suc i) 0 - suc (get_or starts i 0) = omega arith in
-    rw (add-one i, e) (l.cells i h)
+until_is : (s : ℕ) (xs : List ℕ) → until s xs ≡ position_or_len (λ b. eqb b s) xs
+unfolding until
+until_is s = is_position_or_len (until s) (λ b. eqb b s) refl (λ b xs. ap (λ (n : ℕ). cond (eqb b s) 0 n) (omega arith))
 
--- the search for a separator, at i
-module _ (s : ℕ) (l : List ℕ) (i : ℕ) where
-  pub until-hit : i < length l → get_or l i 0 ≡ s → i + until s (drop i l) ≡ i
-  unfolding until
-  until-hit h e = rw (drop-cons l i 0, eq-eqb (get_or l i 0) s e) (omega arith)
+or_length : (n l : ℕ) → n ≤ l → (t : Bool) → ltb n l ≡ t → unwrap_or (cond t (Some n) None) l ≡ n
+or_length n l h true e = refl
+or_length n l h false e = omega (arith, ltb-false n l e)
 
-  pub until-step : i < length l → (get_or l i 0 ≡ s → ⊥) → i + until s (drop i l) ≡ i + 1 + until s (drop (i + 1) l)
-  unfolding until
-  until-step h e = rw (drop-cons l i 0, ne_eqb (get_or l i 0) s e, add-one i) (omega arith)
-
-  pub until_end : length l ≤ i → i + until s (drop i l) ≡ i
-  unfolding until
-  until_end h = rw (drop_of_length-le l h) (omega arith)
+pub until-position : (bytes : List ℕ) (from s : ℕ) {r : Option ℕ} {n : ℕ} → from ≤ length bytes
+    → r ≡ position (λ b. eqb b s) (take (length bytes - from) (drop from bytes)) → n ≡ unwrap_or r (length (take (length bytes - from) (drop from bytes)))
+    → (from + n ≡ from + until s (drop from bytes)) × (from + n ≤ length bytes)
+until-position bytes from s h e n =
+    let l = prefix_len-le-length (λ b. not (eqb b s)) (drop from bytes) in
+    rw (n, e, between_to_end bytes from (length bytes) (omega arith), or_length _ _ l _ refl, until_is) (refl, omega (arith, length-drop from bytes))
 
 -- the pieces behind a separator, which is the first byte
 unfoldable pub behind : ℕ → List ℕ → List (List ℕ)
@@ -136,22 +135,22 @@ module _ (line starts : List ℕ) (at i : ℕ) (p : Passed line starts at i) whe
           later = sym (rw (add-one i) at (drop-drop 1 i (cells_of line))) ∙ ap (drop 1) next-cell;
         })
 
-  pub passed-few : i < 7 → length line < at → false ≡ eqb (length (cells_of line)) 7
-  passed-few h l = sym (ne_eqb (length (cells_of line)) 7 (λ q. omega (arith, few l)))
+  pub passed-few : i < 7 → length line < at → length (cells_of line) ≡ 7 → ⊥
+  passed-few h l q = omega (arith, few l)
 
-  pub passed-seven : i ≡ 7 → (t : Bool) → eqb at (length line + 1) ≡ t → t ≡ eqb (length (cells_of line)) 7
+  -- seven cells, where the one behind them would start behind the line
+  pub passed-seven : i ≡ 7 → (t : Bool) → eqb at (length line + 1) ≡ t
+      → MatchOption (then_some t starts) (length (cells_of line) ≡ 7 → ⊥) (λ s. (length (cells_of line) ≡ 7) × Located line s)
   passed-seven h true e =
-      let q : at ≡ length line + 1 = eqb-true _ _ e in
-      sym (eq-eqb _ _ (few (omega arith) ∙ h))
+      let q : at ≡ length line + 1 = eqb-true _ _ e in (
+        few (omega arith) ∙ h,
+        record {
+          eight = p.eight;
+          ordered = λ j l. (p.known j (omega arith)).ordered;
+          inside = λ j l. (p.known j (omega arith)).inside;
+          cells = λ j l. (p.known j (omega arith)).cell;
+        },
+      )
   passed-seven h false e =
       let l : at ≤ length line = omega (arith, p.within, eqb-false at (length line + 1) e) in
-      sym (ne_eqb (length (cells_of line)) 7 (λ q. omega (arith, more l _ refl)))
-
-  pub passed-located : i ≡ 7 → Located line starts
-  passed-located h =
-      record {
-        eight = p.eight;
-        ordered = λ j l. (p.known j (omega arith)).ordered;
-        inside = λ j l. (p.known j (omega arith)).inside;
-        cells = λ j l. (p.known j (omega arith)).cell;
-      }
+      λ q. omega (arith, more l _ refl)

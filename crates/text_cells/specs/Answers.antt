@@ -1,27 +1,20 @@
 -- What the functions over a line's cells answer. Assumes nothing.
-use Rattle.std.specs.Prelude.{ℕ, suc, ◌-◌, ◌<◌, ◌≤◌, ◌≡◌, Bool, true, false, cond, List, [], ltb, length, get_or, take, drop}
-use Rattle.std.proofs.Math.Option.{Option, none, some}
+use Rattle.std.specs.Prelude.{ℕ, suc, ◌-◌, ◌<◌, ◌≤◌, ◌≡◌, Bool, true, false, List, [], length, get_or, take, drop, Option, None, Some}
 use Rattle.text_form.specs.Cells.{cells_of}
-use Rattle.text_cells.specs.declared.hexadecimal.Decoded.{Decoded}
-use Rattle.text_cells.specs.declared.hexadecimal.Decoded.TheVariants.{Broken, Bytes}
-
--- 16 is no digit
-abbrev pub digit_told : ℕ → Option ℕ
-digit_told n = cond (ltb n 16) (some n) none
 
 -- what was written counts where the answer is true
 abbrev pub told : Bool → List ℕ → Option (List ℕ)
-told true written = some written
-told false written = none
+told true written = Some written
+told false written = None
 
 -- the first n of the bytes that were written
-abbrev pub decoded : Decoded → List ℕ → Option (List ℕ)
-decoded Broken written = none
-decoded (Bytes n) written = some (take n written)
+abbrev pub decoded : Option ℕ → List ℕ → Option (List ℕ)
+decoded None written = None
+decoded (Some n) written = Some (take n written)
 
-abbrev pub Within : Decoded → ℕ → Type 0
-Within Broken room = Unit {0}
-Within (Bytes n) room = n ≤ room
+abbrev pub Within : Option ℕ → ℕ → Type 0
+Within None room = Unit {0}
+Within (Some n) room = n ≤ room
 
 -- where a cell starts and the next one would
 abbrev pub cell_at : List ℕ → ℕ → ℕ → List ℕ
@@ -33,10 +26,6 @@ pub record Located (line starts : List ℕ) : Type 0 where
   pub ordered : (i : ℕ) → i < 7 → get_or starts i 0 < get_or starts (suc i) 0
   pub inside : (i : ℕ) → i < 7 → get_or starts (suc i) 0 ≤ suc (length line)
   pub cells : (i : ℕ) → i < 7 → cell_at line (get_or starts i 0) (get_or starts (suc i) 0) ≡ get_or (cells_of line) i []
-
--- 7 is no column
-abbrev pub column_told : ℕ → Option ℕ
-column_told n = cond (ltb n 7) (some n) none
 
 -- seven columns, each of a cell
 pub record AreColumns (columns : List ℕ) : Type 0 where

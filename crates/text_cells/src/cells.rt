@@ -1,53 +1,36 @@
 // Where the seven cells of a line stand.
-ghost use Rattle.std.specs.Prelude.{◌≡◌, true, [], ◌+◌, ◌<◌, ◌≤◌, eqb, length, get_or, drop};
-ghost use Rattle.record.specs.Characters.{space};
+ghost use Rattle.std.specs.Prelude.{◌≡◌, ◌≢◌, [], ◌+◌, ◌<◌, ◌≤◌, length, get_or, drop, MatchOption};
 ghost use Rattle.text_form.specs.Cells.{until, cells_of};
 ghost use Rattle.text_cells.specs.Answers.{Located};
-
-// Where each cell starts, and the one behind the last would.
-#[derive(Clone, Copy)]
-pub struct Cells {
-    pub seven: bool,
-    pub starts: [usize; 8],
-}
 
 // The place of the next separator, or the end.
 pub fn next_separator(bytes: &[u8], from: usize, separator: u8) -> usize
     requires { from ≤ length bytes.now }
     ensures { (result ≡ from + until separator (drop from bytes.now)) × (result ≤ length bytes.now) }
 {
-    let mut i = from;
-    while i < bytes.len() {
-        if bytes[i] == separator {
-            return i;
-        }
-        i += 1;
-    }
-    i
+    let rest = &bytes[from..];
+    from + rest
+        .iter()
+        .position(|b| *b == separator)
+        .unwrap_or(rest.len())
 }
 
-pub fn cells_of(line: &[u8]) -> Cells
+// Where each cell starts, and the one behind the last would, if there are seven.
+// (A separator is where it is found, so the place goes from cell to cell.)
+pub fn cells_of(line: &[u8]) -> Option<[usize; 8]>
     requires { length line.now ≤ 16384 }
-    ensures { (result.seven ≡ eqb (length (cells_of line.now)) 7) × (result.seven ≡ true → Located line.now result.starts) }
+    ensures { MatchOption result (length (cells_of line.now) ≢ 7) (λ starts. (length (cells_of line.now) ≡ 7) × Located line.now starts) }
 {
     let mut starts = [0usize; 8];
     let mut at: usize = 0;
-    let mut i: usize = 0;
-    while i < 7 {
+    for i in 0..7 {
         if line.len() < at {
-            return Cells {
-                seven: false,
-                starts,
-            };
+            return None;
         }
-        at = next_separator(line, at, 32) + 1;
-        i += 1;
-        starts[i] = at;
+        at = next_separator(line, at, b' ') + 1;
+        starts[i + 1] = at;
     }
-    Cells {
-        seven: at == line.len() + 1,
-        starts,
-    }
+    (at == line.len() + 1).then_some(starts)
 }
 
 // The cell of a column.

@@ -1,78 +1,49 @@
 // The names of the first line.
-ghost use Rattle.std.specs.Prelude.{◌≡◌, [], ◌<◌, ◌≤◌, length, get_or};
-ghost use Rattle.text.specs.Strings.{same_text, number_of};
+ghost use Rattle.std.specs.Prelude.{◌≡◌, [], ◌<◌, ◌≤◌, length, get_or, MatchOption};
+ghost use Rattle.text.specs.Strings.{number_of};
 ghost use Rattle.text_form.specs.Cells.{cells_of};
 ghost use Rattle.text_form.specs.Lines.{names, columns_of};
-ghost use Rattle.text_cells.specs.Answers.{Located, told, column_told};
+ghost use Rattle.text_cells.specs.Answers.{Located, told};
 
 use crate::cells;
 
-fn is_same(cell: &[u8], name: &[u8]) -> bool
-    ensures { result ≡ same_text cell.now name.now }
+fn name_of(column: u64) -> &'static [u8]
+    requires { column < 7 }
+    ensures { result.now ≡ get_or names column [] }
 {
-    if cell.len() == name.len() {
-        let mut i: usize = 0;
-        while i < cell.len() {
-            if cell[i] != name[i] {
-                return false;
-            }
-            i += 1;
-        }
-        return true;
-    }
-    false
-}
-
-// Whether a cell is the name of this number.
-fn is_name(cell: &[u8], name: u64) -> bool
-    requires { name < 7 }
-    ensures { result ≡ same_text cell.now (get_or names name []) }
-{
-    match name {
-        0 => is_same(cell, b"step"),
-        1 => is_same(cell, b"object"),
-        2 => is_same(cell, b"key"),
-        3 => is_same(cell, b"value"),
-        4 => is_same(cell, b"receiver"),
-        5 => is_same(cell, b"descriptor"),
-        _ => is_same(cell, b"sheet"),
+    match column {
+        0 => b"step",
+        1 => b"object",
+        2 => b"key",
+        3 => b"value",
+        4 => b"receiver",
+        5 => b"descriptor",
+        _ => b"sheet",
     }
 }
 
-// The column in which a name stands first, or 7.
-fn column_of(line: &[u8], starts: &[usize; 8], name: u64) -> u64
-    requires { Located line.now starts.now × ((length (cells_of line.now) ≡ 7) × (name < 7)) }
-    ensures { column_told result ≡ number_of (cells_of line.now) (get_or names name []) }
+// The column in which a name stands first.
+fn column_of(line: &[u8], starts: &[usize; 8], name: &[u8]) -> Option<u64>
+    requires { Located line.now starts.now × (length (cells_of line.now) ≡ 7) }
+    ensures { MatchOption result (number_of (cells_of line.now) name.now ≡ None) (λ i. (number_of (cells_of line.now) name.now ≡ Some i) × (i < 7)) }
 {
-    let mut i: u64 = 0;
-    while i < 7 {
-        if is_name(cells::cell_in(line, starts, i), name) {
-            return i;
-        }
-        i += 1;
-    }
-    7
+    (0..7).find(|i| cells::cell_in(line, starts, *i) == name)
 }
 
 // The columns of the seven names. False where the line is another.
+// (Into seven words that the caller has; `text_reader::columns_in` makes an `Option` of it.)
 pub fn put_columns(line: &[u8], columns: &mut [u64]) -> bool
     requires { (length line.now ≤ 16384) × (length columns.old ≡ 7) }
     ensures { told result columns.new ≡ columns_of line.now }
 {
-    let found = cells::cells_of(line);
-    if found.seven {
-        let starts = found.starts;
-        let mut name: u64 = 0;
-        while name < 7 {
-            let column = column_of(line, &starts, name);
-            if column < 7 {
-                columns[name as usize] = column;
-                name += 1;
-            } else {
-                return false;
-            }
+    let Some(starts) = cells::cells_of(line) else {
+        return false;
+    };
+    for name in 0..7 {
+        match column_of(line, &starts, name_of(name)) {
+            Some(column) => columns[name as usize] = column,
+            None => return false,
         }
-        return true;
     }
-    false
+    true
 }

@@ -1,9 +1,9 @@
 -- Reading in pieces: a piece after another, and a piece up to the next line feed. Assumes nothing.
+use Rattle.std.specs.Prelude.{Option, None, Some}
 use Prim.Native.Nat.{ℕ, suc, ◌+◌, ◌≤◌, ◌<◌}
 use native.Mathlib.Omega.{arith}
 use mathlib.Core.Path.{◌≡◌, refl, sym, ap, ◌∙◌}
 use mathlib.Core.Bool.{Bool, true, false}
-use mathlib.Core.Option.{Option, none, some}
 use mathlib.Core.List.{List, [], ◌∷◌, ◌++◌, append_assoc, append-nil}
 use lib.Dec.{eqb, ltb}
 use lib.ListN.{length, take, drop, length-append, take-append-drop}
@@ -35,24 +35,24 @@ ended-reads r h (b ∷ bytes) = let e : read_byte r b ≡ read r [] = rw h in ap
 -- Pieces of a line ------------------------------------------------------------------------------
 
 pub added-nil : (o : Option (List ℕ)) → Fits o → added o [] ≡ o
-added-nil none h = refl
-added-nil (some line) h = let e : length line + 0 ≤ maximum_line = omega arith in rw (le-leb (length line + 0) maximum_line e, append-nil line)
+added-nil None h = refl
+added-nil (Some line) h = let e : length line + 0 ≤ maximum_line = omega arith in rw (le-leb (length line + 0) maximum_line e, append-nil line)
 
 pub added-cons : (o : Option (List ℕ)) (b : ℕ) (piece : List ℕ) → added o (b ∷ piece) ≡ added (add_byte o b) piece
-added-cons none b piece = refl
-added-cons (some line) b piece = go (ltb (length line) maximum_line) refl
+added-cons None b piece = refl
+added-cons (Some line) b piece = go (ltb (length line) maximum_line) refl
   where
-    go : (t : Bool) → ltb (length line) maximum_line ≡ t → added (some line) (b ∷ piece) ≡ added (add_byte (some line) b) piece
+    go : (t : Bool) → ltb (length line) maximum_line ≡ t → added (Some line) (b ∷ piece) ≡ added (add_byte (Some line) b) piece
     go true e =
         let l : length (line ++ (b ∷ [])) + length piece ≡ length line + suc (length piece) = simp length-append (omega arith) in
         rw e (rw (l, append_assoc line (b ∷ []) piece))
     go false e = let h : maximum_line < length line + suc (length piece) = omega (arith, ltb-false (length line) maximum_line e) in rw (e, lt-leb (length line + suc (length piece)) maximum_line h)
 
 pub fits_byte : (o : Option (List ℕ)) (b : ℕ) → Fits (add_byte o b)
-fits_byte none b = tt
-fits_byte (some line) b = go (ltb (length line) maximum_line) refl
+fits_byte None b = tt
+fits_byte (Some line) b = go (ltb (length line) maximum_line) refl
   where
-    go : (t : Bool) → ltb (length line) maximum_line ≡ t → Fits (add_byte (some line) b)
+    go : (t : Bool) → ltb (length line) maximum_line ≡ t → Fits (add_byte (Some line) b)
     go true e = rw e (simp length-append (omega (arith, ltb-true (length line) maximum_line e)))
     go false e = rw e tt
 
@@ -71,8 +71,8 @@ unfolding end_line
 fits-ends r fits first = go (columns_in r.line)
   where
     go : (o : Option (List ℕ)) → Fits (named r.count r.world o).reader.line
-    go none = omega arith
-    go (some columns) = omega arith
+    go None = omega arith
+    go (Some columns) = omega arith
 fits-ends r fits (later columns) = omega arith
 fits-ends r fits ended = fits
 

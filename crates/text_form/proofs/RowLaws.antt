@@ -1,7 +1,7 @@
 -- A row for each line: one event for each call, and lines after one another. Assumes nothing.
+use Rattle.std.specs.Prelude.{Option, None, Some}
 use Prim.Native.Nat.{ℕ, suc}
 use mathlib.Core.Path.{◌≡◌, refl, ap}
-use mathlib.Core.Option.{Option, none, some}
 use mathlib.Core.List.{List, [], ◌∷◌, ◌++◌}
 use lib.ListN.{length}
 use Rattle.store.specs.Store.{World, empty}
@@ -26,5 +26,5 @@ rows_from n ω lines = rows n lines (run_from ω (calls_of lines))
 pub rows-turn : (n : ℕ) (ω : World) (o : Option Call) (lines : List (Option Call))
     → rows_from n ω (o ∷ lines) ≡ row n (line_effect ω o).response ++ rows_from (suc n) (line_effect ω o).world lines
 unfolding rows calls_of run_from
-rows-turn n ω none lines = refl
-rows-turn n ω (some c) lines = refl
+rows-turn n ω None lines = refl
+rows-turn n ω (Some c) lines = refl

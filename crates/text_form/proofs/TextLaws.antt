@@ -1,9 +1,9 @@
 -- What is promised of every text holds. Assumes nothing.
+use Rattle.std.specs.Prelude.{Option, None, Some}
 use Prim.Native.Nat.{ℕ, suc, ◌<◌}
 use native.Mathlib.Omega.{arith}
 use mathlib.Core.Path.{◌≡◌, refl, ap, ◌∙◌}
 use mathlib.Core.Bool.{Bool, true, false, false≢true}
-use mathlib.Core.Option.{Option, none, some}
 use mathlib.Core.List.{List, [], ◌∷◌, ◌++◌}
 use lib.ListN.{length, get_or, take, drop}
 use Rattle.store.specs.Store.{World, empty}
@@ -37,12 +37,12 @@ Without m [] = Unit {0}
 Without m (t ∷ ts) = (t.0 ≡ m → ⊥) × Without m ts
 
 -- so the first that fails does not
-first-other : (m : ℕ) (tests : List (ℕ × Bool)) → Without m tests → (n : ℕ) → first_failing tests ≡ some n → n ≡ m → ⊥
+first-other : (m : ℕ) (tests : List (ℕ × Bool)) → Without m tests → (n : ℕ) → first_failing tests ≡ Some n → n ≡ m → ⊥
 unfolding first_failing
 first-other m [] h n e = absurd (false≢true cc)
 first-other m (t ∷ ts) h n e = go t.1 e (first-other m ts h.1 n)
   where
-    go : (b : Bool) → failing b t.0 (first_failing ts) ≡ some n → (first_failing ts ≡ some n → n ≡ m → ⊥) → n ≡ m → ⊥
+    go : (b : Bool) → failing b t.0 (first_failing ts) ≡ Some n → (first_failing ts ≡ Some n → n ≡ m → ⊥) → n ≡ m → ⊥
     go true g rest i = rest g i
     go false g rest i = let q : t.0 ≡ n = cc in h.0 (q ∙ i)
 
@@ -86,9 +86,9 @@ module _ (ω : World) where
       entered = λ units h. entry-decided ω units;
     }
       where
-        go : (o : Option Call) → (line_effect ω o).response.ending ≡ refused 12 → o ≡ none
-        go none h = refl
-        go (some c) h = absurd (not-twelve c h)
+        go : (o : Option Call) → (line_effect ω o).response.ending ≡ refused 12 → o ≡ None
+        go None h = refl
+        go (Some c) h = absurd (not-twelve c h)
 
 -- Lines ---------------------------------------------------------------------------------------
 
@@ -96,8 +96,8 @@ module _ (ω : World) where
 after-calls : (ω : World) (lines : List (Option Call)) → world_after ω lines ≡ world_from ω (calls_of lines) (length (calls_of lines))
 unfolding world_after calls_of world_from
 after-calls ω [] = refl
-after-calls ω (none ∷ lines) = after-calls ω lines
-after-calls ω (some c ∷ lines) = after-calls (effect ω c).world lines
+after-calls ω (None ∷ lines) = after-calls ω lines
+after-calls ω (Some c ∷ lines) = after-calls (effect ω c).world lines
 
 decides-after : (lines : List (Option Call)) (bytes sheet output : List ℕ) → StepDecided (world_after empty lines) bytes sheet output
 decides-after lines bytes sheet output = rw (after-calls empty lines) (step-decided (calls_of lines) (length (calls_of lines)) bytes sheet output)
@@ -127,10 +127,10 @@ text-kept input = record {
       };
 }
   where
-    unnamed-rows : (lines : List (List ℕ)) → columns_of (get_or lines 0 []) ≡ none → heading ++ rows_of lines ≡ heading ++ row 0 (response.refusal 12)
+    unnamed-rows : (lines : List (List ℕ)) → columns_of (get_or lines 0 []) ≡ None → heading ++ rows_of lines ≡ heading ++ row 0 (response.refusal 12)
     unnamed-rows [] h = refl
     unnamed-rows (line ∷ lines) h = rw h
 
-    named-rows : (lines : List (List ℕ)) (columns : List ℕ) → columns_of (get_or lines 0 []) ≡ some columns → rows_of lines ≡ rows_from 1 empty (lines_under columns (drop 1 lines))
+    named-rows : (lines : List (List ℕ)) (columns : List ℕ) → columns_of (get_or lines 0 []) ≡ Some columns → rows_of lines ≡ rows_from 1 empty (lines_under columns (drop 1 lines))
     named-rows [] columns h = absurd (false≢true cc)
     named-rows (line ∷ lines) columns h = rw h

@@ -1,9 +1,9 @@
 -- Reading a whole input and its end gives the rows of the text. Assumes nothing.
+use Rattle.std.specs.Prelude.{Option, None, Some}
 use Prim.Native.Nat.{ℕ, suc, ◌<◌}
 use native.Mathlib.Omega.{arith}
 use mathlib.Core.Path.{◌≡◌, refl, sym, ap, ◌∙◌}
 use mathlib.Core.Bool.{Bool, true, false, cond}
-use mathlib.Core.Option.{Option, none, some}
 use mathlib.Core.List.{List, [], ◌∷◌, ◌++◌, append_assoc, append-nil}
 use lib.Dec.{eqb, leb}
 use lib.ListN.{length, length-append}
@@ -24,7 +24,7 @@ use Rattle.text_form.proofs.RowLaws.{rows_from, rows-turn}
 
 -- what a reader keeps of what it read of a line
 abbrev capped : List ℕ → Option (List ℕ)
-capped front = cond (leb (length front) maximum_line) (some front) none
+capped front = cond (leb (length front) maximum_line) (Some front) None
 
 module _ (front : List ℕ) where
   capped-byte : (b : ℕ) → add_byte (capped front) b ≡ capped (front ++ (b ∷ []))
@@ -33,15 +33,15 @@ module _ (front : List ℕ) where
       l : length (front ++ (b ∷ [])) ≡ suc (length front)
       l = simp length-append (omega arith)
 
-      go : (t : Bool) → leb (length front) maximum_line ≡ t → add_byte (cond t (some front) none) b ≡ capped (front ++ (b ∷ []))
-      go true e = ap (λ (n : ℕ). cond (leb n maximum_line) (some (front ++ (b ∷ []))) none) (sym l)
+      go : (t : Bool) → leb (length front) maximum_line ≡ t → add_byte (cond t (Some front) None) b ≡ capped (front ++ (b ∷ []))
+      go true e = ap (λ (n : ℕ). cond (leb n maximum_line) (Some (front ++ (b ∷ []))) None) (sym l)
       go false e = let h : maximum_line < length (front ++ (b ∷ [])) = omega (arith, l, leb-false (length front) maximum_line e) in rw (lt-leb (length (front ++ (b ∷ []))) maximum_line h)
 
   capped-columns : columns_in (capped front) ≡ columns_of front
   unfolding columns_of
   capped-columns = go (leb (length front) maximum_line) refl
     where
-      go : (t : Bool) → leb (length front) maximum_line ≡ t → columns_in (cond t (some front) none) ≡ columns_of front
+      go : (t : Bool) → leb (length front) maximum_line ≡ t → columns_in (cond t (Some front) None) ≡ columns_of front
       go true e = refl
       go false e = rw e
 
@@ -49,14 +49,14 @@ module _ (front : List ℕ) where
   unfolding call_in
   capped-call columns = go (leb (length front) maximum_line) refl
     where
-      go : (t : Bool) → leb (length front) maximum_line ≡ t → line_call columns (cond t (some front) none) ≡ call_in columns front
+      go : (t : Bool) → leb (length front) maximum_line ≡ t → line_call columns (cond t (Some front) None) ≡ call_in columns front
       go true e = refl
       go false e = rw e
 
 begun : (b : ℕ) (line : List ℕ) → has_begun (capped (b ∷ line)) ≡ true
 begun b line = go (leb (length (b ∷ line)) maximum_line)
   where
-    go : (t : Bool) → has_begun (cond t (some (b ∷ line)) none) ≡ true
+    go : (t : Bool) → has_begun (cond t (Some (b ∷ line)) None) ≡ true
     go true = refl
     go false = refl
 
@@ -154,8 +154,8 @@ first-end [] = refl
 first-end (b ∷ line) = ap (λ (o : Option (List ℕ)). (named 0 empty o).rows) (capped-columns (b ∷ line)) ∙ go (columns_of (b ∷ line))
   where
     go : (o : Option (List ℕ)) → (named 0 empty o).rows ≡ heading ++ rows_under o []
-    go none = refl
-    go (some columns) = refl
+    go None = refl
+    go (Some columns) = refl
 
 first_rows : (input front : List ℕ) → rows_read (before front) input ≡ heading ++ rows_of (lines_from front input)
 unfolding end_line run
@@ -163,8 +163,8 @@ first_rows [] front = first-end front
 first_rows (b ∷ input) front = read-cons (before front) b input ∙ go (eqb b line_feed) refl (first_rows input (front ++ (b ∷ [])))
   where
     under : (o : Option (List ℕ)) → rows_after (named 0 empty o) input ≡ heading ++ rows_under o (lines_from [] input)
-    under none = ap (λ (more : List ℕ). heading ++ (row 0 (refusal 12) ++ more)) (ended-rows (reader ended 0 (some []) empty) refl input) ∙ ap (λ (more : List ℕ). heading ++ more) (append-nil _)
-    under (some columns) = ap (λ (more : List ℕ). heading ++ more) (later_rows columns input 0 empty [])
+    under None = ap (λ (more : List ℕ). heading ++ (row 0 (refusal 12) ++ more)) (ended-rows (reader ended 0 (Some []) empty) refl input) ∙ ap (λ (more : List ℕ). heading ++ more) (append-nil _)
+    under (Some columns) = ap (λ (more : List ℕ). heading ++ more) (later_rows columns input 0 empty [])
 
     go : (t : Bool) → eqb b line_feed ≡ t → rows_read (before (front ++ (b ∷ []))) input ≡ heading ++ rows_of (lines_from (front ++ (b ∷ [])) input)
         → rows_after (read_byte (before front) b) input ≡ heading ++ rows_of (lines_from front (b ∷ input))

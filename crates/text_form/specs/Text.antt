@@ -1,6 +1,5 @@
 -- A whole text: its rows are those of a list of calls, with refusal 12 for each line that is none. Assumes nothing.
-use Rattle.std.specs.Prelude.{ℕ, suc, List, [], ◌∷◌, ◌++◌, map}
-use Rattle.std.proofs.Math.Option.{Option, none, some}
+use Rattle.std.specs.Prelude.{ℕ, suc, List, [], ◌∷◌, ◌++◌, map, Option, None, Some}
 use Rattle.record.specs.Characters.{line_feed}
 use Rattle.steps.specs.Response.{refusal}
 use Rattle.steps.specs.Run.{Call, Event, run}
@@ -21,22 +20,22 @@ lines_of input = without_empty_last (pieces line_feed [] input)
 -- the calls among the lines
 unfoldable pub calls_of : List (Option Call) → List Call
 calls_of [] = []
-calls_of (none ∷ lines) = calls_of lines
-calls_of (some c ∷ lines) = c ∷ calls_of lines
+calls_of (None ∷ lines) = calls_of lines
+calls_of (Some c ∷ lines) = c ∷ calls_of lines
 
 -- the rows of lines from number n on, whose calls were these events; there is one for each call
 unfoldable pub rows : ℕ → List (Option Call) → List Event → List ℕ
 rows n [] events = []
-rows n (none ∷ lines) events = row n (refusal 12) ++ rows (suc n) lines events
-rows n (some c ∷ lines) [] = []
-rows n (some c ∷ lines) (e ∷ events) = row n e.response ++ rows (suc n) lines events
+rows n (None ∷ lines) events = row n (refusal 12) ++ rows (suc n) lines events
+rows n (Some c ∷ lines) [] = []
+rows n (Some c ∷ lines) (e ∷ events) = row n e.response ++ rows (suc n) lines events
 
 abbrev pub lines_under : List ℕ → List (List ℕ) → List (Option Call)
 lines_under columns lines = map (call_in columns) lines
 
 abbrev pub rows_under : Option (List ℕ) → List (List ℕ) → List ℕ
-rows_under none lines = row 0 (refusal 12)
-rows_under (some columns) lines = rows 1 (lines_under columns lines) (run (calls_of (lines_under columns lines)))
+rows_under None lines = row 0 (refusal 12)
+rows_under (Some columns) lines = rows 1 (lines_under columns lines) (run (calls_of (lines_under columns lines)))
 
 abbrev pub rows_of : List (List ℕ) → List ℕ
 rows_of [] = row 0 (refusal 12)

@@ -1,6 +1,5 @@
 -- What is promised of every text: its names, its rows, demand 1 of each line and demand 3. Assumes nothing.
-use Rattle.std.specs.Prelude.{ℕ, suc, ◌<◌, ◌≡◌, ◌↔◌, List, [], ◌∷◌, ◌++◌, length, get_or, take, drop}
-use Rattle.std.proofs.Math.Option.{Option, none, some}
+use Rattle.std.specs.Prelude.{ℕ, suc, ◌<◌, ◌≡◌, ◌↔◌, List, [], ◌∷◌, ◌++◌, length, get_or, take, drop, Option, None, Some}
 use Rattle.store.specs.Store.{World, empty}
 use Rattle.steps.specs.Response.{refused, refusal}
 use Rattle.steps.specs.Step.{refusing}
@@ -35,13 +34,13 @@ line_rows n ω (o ∷ lines) = row n (line_effect ω o).response ++ line_rows (s
 -- demand 1 of a line, in the world that it finds
 pub record LineDecided (ω : World) (columns line : List ℕ) : Type 0 where
   -- refusal 12 exactly if the line breaks the form
-  pub refuses : ((line_effect ω (call_in columns line)).response.ending ≡ refused 12) ↔ (call_in columns line ≡ none)
+  pub refuses : ((line_effect ω (call_in columns line)).response.ending ≡ refused 12) ↔ (call_in columns line ≡ None)
   -- it reports zeros, and leaves store and strings
-  pub untouched : call_in columns line ≡ none → line_effect ω (call_in columns line) ≡ refusing 12 ω []
+  pub untouched : call_in columns line ≡ None → line_effect ω (call_in columns line) ≡ refusing 12 ω []
   -- any other line is its call, of which demand 1 holds
-  pub called : (c : Call) → call_in columns line ≡ some c → line_effect ω (call_in columns line) ≡ effect ω c
-  pub stepped : (bytes sheet output : List ℕ) → call_in columns line ≡ some (step bytes sheet output) → StepDecided ω bytes sheet output
-  pub entered : (units : List ℕ) → call_in columns line ≡ some (enter units) → EntryDecided ω units
+  pub called : (c : Call) → call_in columns line ≡ Some c → line_effect ω (call_in columns line) ≡ effect ω c
+  pub stepped : (bytes sheet output : List ℕ) → call_in columns line ≡ Some (step bytes sheet output) → StepDecided ω bytes sheet output
+  pub entered : (units : List ℕ) → call_in columns line ≡ Some (enter units) → EntryDecided ω units
 
 -- the lines after the names, and the output
 pub record LinesKept (columns : List ℕ) (lines : List (List ℕ)) (output : List ℕ) : Type 0 where
@@ -59,6 +58,6 @@ pub record LinesKept (columns : List ℕ) (lines : List (List ℕ)) (output : Li
 -- what is promised of a text
 pub record TextKept (input : List ℕ) : Type 0 where
   -- a first line that is not the names: one row, which says so, and nothing is read behind it
-  pub unnamed : columns_of (get_or (lines_of input) 0 []) ≡ none → run_text input ≡ heading ++ row 0 (refusal 12)
-  pub once : (columns : List ℕ) → columns_of (get_or (lines_of input) 0 []) ≡ some columns → NamesOnce (get_or (lines_of input) 0 []) columns
-  pub kept : (columns : List ℕ) → columns_of (get_or (lines_of input) 0 []) ≡ some columns → LinesKept columns (drop 1 (lines_of input)) (run_text input)
+  pub unnamed : columns_of (get_or (lines_of input) 0 []) ≡ None → run_text input ≡ heading ++ row 0 (refusal 12)
+  pub once : (columns : List ℕ) → columns_of (get_or (lines_of input) 0 []) ≡ Some columns → NamesOnce (get_or (lines_of input) 0 []) columns
+  pub kept : (columns : List ℕ) → columns_of (get_or (lines_of input) 0 []) ≡ Some columns → LinesKept columns (drop 1 (lines_of input)) (run_text input)

@@ -1,11 +1,10 @@
 -- What a line's row and memory are after a refusal, a step and the entering of a string. Assumes nothing.
+use Rattle.std.specs.Prelude.{Option, None, Some}
 use Prim.Native.Nat.{ℕ, suc, ◌+◌, ◌*◌, ◌-◌, ◌/◌, ◌%◌, ◌<◌, ◌≤◌}
 use native.Mathlib.Omega.{arith}
 use mathlib.Core.Path.{◌≡◌, refl, sym, ap, ◌∙◌, subst}
 use mathlib.Core.Bool.{Bool, true, false, false≢true}
-use mathlib.Core.Option.{Option, none, some}
 use mathlib.Core.List.{List, [], ◌∷◌, ◌++◌}
-use lib.Dec.{eqb}
 use lib.ListN.{length, get_or, take, drop, length-append, length-replicate, take-append-drop}
 use lib.Seq.{sets, take_at, length-take-le}
 use borrow.Author.Tests.{leb-true, le-leb, eq-eqb, ne_eqb}
@@ -29,10 +28,10 @@ use Rattle.text_form.specs.Lines.{key_room, cell_under, record_in, step_with, en
 use Rattle.text_form.specs.Rows.{result_bytes, ending_bytes, row_of, row}
 use Rattle.text_form.specs.Reader.{line_effect}
 use Rattle.text_rows.specs.ReportRows.{completion_bytes, outcome_bytes, report_row, CompletionHeld, Held}
-use Rattle.text_cells.specs.declared.hexadecimal.Decoded.{Decoded}
-use Rattle.text_cells.specs.declared.hexadecimal.Decoded.TheVariants.{Broken, Bytes}
 use Rattle.text_cells.specs.Answers.{told, decoded, Within, Located}
 use Rattle.text_line.specs.Lines.{LineDone}
+use Rattle.text_line.specs.Performed.{Performed}
+use Rattle.text_line.specs.declared.Memory.{Memory}
 
 -- a result's keys stand in the output, which has room for at most 256
 result-told : (r : result.Result) (output : List ℕ) → length output ≤ 2304 → output_holds r output ≡ true
@@ -73,9 +72,9 @@ written rows rows' n size r out x e t w =
 
 module _ (words cells : List ℕ) (m : is_memory words cells ≡ true) where
   pub refused-done : (rows rows' : List ℕ) (n size : ℕ) (r : Report) → r ≡ report_of (refusal 12) → (rows' ≡ sets rows 0 (report_row n r [])) × (size ≡ 0 + length (report_row n r [])) → size ≤ length rows
-      → LineDone words cells rows n none words cells rows' size
+      → LineDone words cells rows n None words cells rows' size
   refused-done rows rows' n size r e w f =
-      let p = written rows rows' n size r [] (line_effect (world_of words cells) none) (ap (λ (y : Report). report_row n y []) e) (record { held = tt; bytes = refl }) w in
+      let p = written rows rows' n size r [] (line_effect (world_of words cells) None) (ap (λ (y : Report). report_row n y []) e) (record { held = tt; bytes = refl }) w in
       record { shows = p.0; sized = p.1; fits = f; leaves = refl; memory = m }
 
   module _ (bytes sheet output : List ℕ) (room : length output ≤ 2304) (r : Report) (after out : List ℕ) (h : Stepped words cells bytes sheet output r after out) where
@@ -86,7 +85,7 @@ module _ (words cells : List ℕ) (m : is_memory words cells ≡ true) where
     step-held = subst (λ (y : Shown). Held y.report.outcome y.output) (sym shows) (step-told room (ends (world_of words cells) bytes sheet output)).held
 
     pub step-done : (rows rows' : List ℕ) (n size : ℕ) → (rows' ≡ sets rows 0 (report_row n r out)) × (size ≡ 0 + length (report_row n r out)) → size ≤ length rows
-        → LineDone words cells rows n (some (call.step bytes sheet output)) after cells rows' size
+        → LineDone words cells rows n (Some (call.step bytes sheet output)) after cells rows' size
     unfolding effect
     step-done rows rows' n size w f =
         let p = written rows rows' n size r out (step (world_of words cells) bytes sheet output) (ap (λ (y : Shown). report_row n y.report y.output) shows) (step-told room (ends (world_of words cells) bytes sheet output)) w in
@@ -116,7 +115,7 @@ module _ (words cells : List ℕ) (m : is_memory words cells ≡ true) where
     entry-held = rw (entry-report, ← entry-output) (entry-told (entry-ends (world_of words cells) units)).held
 
     pub entry_done : (rows rows' : List ℕ) (n size : ℕ) → (rows' ≡ sets rows 0 (report_row n r [])) × (size ≡ 0 + length (report_row n r [])) → size ≤ length rows
-        → LineDone words cells rows n (some (call.enter units)) words after rows' size
+        → LineDone words cells rows n (Some (call.enter units)) words after rows' size
     unfolding effect
     entry_done rows rows' n size w f =
         let x = enter_string (world_of words cells) units in
@@ -130,48 +129,47 @@ pub refused-held : (r : Report) → r ≡ report_of (refusal 12) → Held r.outc
 refused-held r e = subst (λ (y : Report). Held y.outcome []) (sym e) tt
 
 -- the same line, its call told otherwise
-pub as_call : {words cells rows : List ℕ} {n : ℕ} {a b : Option Call} {words' cells' rows' : List ℕ} {size : ℕ} → a ≡ b
-    → LineDone words cells rows n a words' cells' rows' size → LineDone words cells rows n b words' cells' rows' size
-as_call {words} {cells} {rows} {n} {a} {b} {words'} {cells'} {rows'} {size} e h = subst (λ (o : Option Call). LineDone words cells rows n o words' cells' rows' size) e h
+pub as_call : {before after : Memory} {n : ℕ} {a b : Option Call} {size : ℕ} → a ≡ b → Performed before n a after size → Performed before n b after size
+as_call {before} {after} {n} {a} {b} {size} e h = subst (λ (o : Option Call). Performed before n o after size) e h
 
 -- what was decoded of a cell
-pub bytes-within : (d : Decoded) {n room : ℕ} → d ≡ Bytes n → Within d room → n ≤ room
-bytes-within d {n} {room} e w = subst (λ (x : Decoded). Within x room) e w
+pub bytes-within : (d : Option ℕ) {n room : ℕ} → d ≡ Some n → Within d room → n ≤ room
+bytes-within d {n} {room} e w = subst (λ (x : Option ℕ). Within x room) e w
 
-pub bytes-decoded : (d : Decoded) (w : List ℕ) {n : ℕ} {o : Option (List ℕ)} → d ≡ Bytes n → decoded d w ≡ o → some (take n w) ≡ o
-bytes-decoded d w {n} {o} e h = subst (λ (x : Decoded). decoded x w ≡ o) e h
+pub bytes-decoded : (d : Option ℕ) (w : List ℕ) {n : ℕ} {o : Option (List ℕ)} → d ≡ Some n → decoded d w ≡ o → Some (take n w) ≡ o
+bytes-decoded d w {n} {o} e h = subst (λ (x : Option ℕ). decoded x w ≡ o) e h
 
-pub none-decoded : (d : Decoded) (w : List ℕ) {o : Option (List ℕ)} → d ≡ Broken → decoded d w ≡ o → none ≡ o
-none-decoded d w {o} e h = subst (λ (x : Decoded). decoded x w ≡ o) e h
+pub none-decoded : (d : Option ℕ) (w : List ℕ) {o : Option (List ℕ)} → d ≡ None → decoded d w ≡ o → None ≡ o
+none-decoded d w {o} e h = subst (λ (x : Option ℕ). decoded x w ≡ o) e h
 
 -- an entry by its test
-pub zeros-entered : (bytes units : List ℕ) (b : Bool) → b ≡ are_zero bytes 1 57 → b ≡ true → some (call.enter units) ≡ entry_of bytes (some units)
+pub zeros-entered : (bytes units : List ℕ) (b : Bool) → b ≡ are_zero bytes 1 57 → b ≡ true → Some (call.enter units) ≡ entry_of bytes (Some units)
 zeros-entered bytes units b e h = rw (sym e ∙ h)
 
-pub others-stepped : (bytes units : List ℕ) (b : Bool) → b ≡ are_zero bytes 1 57 → b ≡ false → some (call.step bytes [] key_room) ≡ entry_of bytes (some units)
+pub others-stepped : (bytes units : List ℕ) (b : Bool) → b ≡ are_zero bytes 1 57 → b ≡ false → Some (call.step bytes [] key_room) ≡ entry_of bytes (Some units)
 others-stepped bytes units b e h = rw (sym e ∙ h)
 
 -- a byte alone is no code unit
-pub odd-units : (bytes : List ℕ) (n : ℕ) → length bytes ≡ 2 * n + 1 → units_of bytes ≡ none
+pub odd-units : (bytes : List ℕ) (n : ℕ) → length bytes ≡ 2 * n + 1 → units_of bytes ≡ None
 unfolding units_of
 odd-units [] n e = absurd (omega arith)
 odd-units (a ∷ []) n e = refl
 odd-units (a ∷ b ∷ bytes) n e = rw (odd-units bytes (n - 1) (omega arith))
 
-pub odd-text : (text : List ℕ) → length text % 2 ≡ 1 → none ≡ units_of text
+pub odd-text : (text : List ℕ) → length text % 2 ≡ 1 → None ≡ units_of text
 odd-text text h = sym (odd-units text (length text / 2) (omega arith))
 
-one_more : (u n : ℕ) (o : Option (List ℕ)) (units : List ℕ) → ((rest : List ℕ) → o ≡ some rest → n ≡ 2 * length rest) → with_unit u o ≡ some units → suc (suc n) ≡ 2 * length units
-one_more u n none units f e = absurd (false≢true cc)
-one_more u n (some rest) units f e = let q : u ∷ rest ≡ units = cc in omega (arith, f rest refl, ap length q)
+one_more : (u n : ℕ) (o : Option (List ℕ)) (units : List ℕ) → ((rest : List ℕ) → o ≡ Some rest → n ≡ 2 * length rest) → with_unit u o ≡ Some units → suc (suc n) ≡ 2 * length units
+one_more u n None units f e = absurd (false≢true cc)
+one_more u n (Some rest) units f e = let q : u ∷ rest ≡ units = cc in omega (arith, f rest refl, ap length q)
 
-units-length : (bytes units : List ℕ) → units_of bytes ≡ some units → length bytes ≡ 2 * length units
+units-length : (bytes units : List ℕ) → units_of bytes ≡ Some units → length bytes ≡ 2 * length units
 unfolding units_of
 units-length [] units e = let q : ◌≡◌ {A = List ℕ} [] units = cc in omega (arith, ap length q)
 units-length (a ∷ []) units e = absurd (false≢true cc)
 units-length (a ∷ b ∷ bytes) units e = one_more (256 * a + b) (length bytes) (units_of bytes) units (λ rest f. units-length bytes rest f) e
 
-pub written-half : (text written : List ℕ) → units_of text ≡ some written → length written ≡ length text / 2
+pub written-half : (text written : List ℕ) → units_of text ≡ Some written → length written ≡ length text / 2
 written-half text written e = omega (arith, units-length text written e)
 
 -- the front half of the room is written
@@ -184,11 +182,11 @@ even-halved text units h e = omega (arith, half_length text units h)
 pub front_length : (n : ℕ) (written rest : List ℕ) → length written ≡ n → n ≡ length (take n (written ++ rest))
 front_length n written rest e = rw (take_at written rest n e) (sym e)
 
-pub front-units : (n : ℕ) (written rest : List ℕ) {o : Option (List ℕ)} → length written ≡ n → o ≡ some written → some (take n (written ++ rest)) ≡ o
+pub front-units : (n : ℕ) (written rest : List ℕ) {o : Option (List ℕ)} → length written ≡ n → o ≡ Some written → Some (take n (written ++ rest)) ≡ o
 front-units n written rest e h = rw (take_at written rest n e) (sym h)
 
 -- the sheet in a cell
-pub dash-sheet : (cell : List ℕ) → is_dash cell ≡ true → some (0 ∷ []) ≡ sheet_in cell
+pub dash-sheet : (cell : List ℕ) → is_dash cell ≡ true → Some (0 ∷ []) ≡ sheet_in cell
 unfolding sheet_in
 dash-sheet cell h = rw h
 
@@ -219,21 +217,21 @@ cell-short line starts i {cell} l h e =
     let f : length cell ≡ length (take size (drop from line)) = ap length (e ∙ sym (l.cells i h)) in
     omega (arith, f, take_short size (drop from line), drop-short from line)
 
-module _ (columns line : List ℕ) (short : length line ≤ 16384) (seven : Bool) (s : seven ≡ eqb (length (cells_of line)) 7) where
-  pub no_cells : seven ≡ false → none ≡ call_in columns line
+module _ (columns line : List ℕ) (short : length line ≤ 16384) where
+  pub no_cells : (length (cells_of line) ≡ 7 → ⊥) → None ≡ call_in columns line
   unfolding call_in
-  no_cells h = rw (le-leb _ _ short, sym s ∙ h)
+  no_cells h = rw (le-leb _ _ short, ne_eqb _ _ h)
 
-  module _ (h : seven ≡ true) (put : Bool) (bytes : List ℕ) (p : told put bytes ≡ record_in columns (cells_of line)) where
-    pub no_record : put ≡ false → none ≡ call_in columns line
+  module _ (h : length (cells_of line) ≡ 7) (put : Bool) (bytes : List ℕ) (p : told put bytes ≡ record_in columns (cells_of line)) where
+    pub no_record : put ≡ false → None ≡ call_in columns line
     unfolding call_in
-    no_record k = rw (le-leb _ _ short, sym s ∙ h, sym p, k)
+    no_record k = rw (le-leb _ _ short, eq-eqb _ _ h, sym p, k)
 
     module _ (k : put ≡ true) (cell : List ℕ) (c : cell ≡ cell_under columns (cells_of line) 6) where
       pub entry-call : get_or bytes 0 0 ≡ 15 → entry_of bytes (text_in cell) ≡ call_in columns line
       unfolding call_in
-      entry-call e = rw (le-leb _ _ short, sym s ∙ h, sym p, k, eq-eqb (get_or bytes 0 0) 15 e, c)
+      entry-call e = rw (le-leb _ _ short, eq-eqb _ _ h, sym p, k, eq-eqb (get_or bytes 0 0) 15 e, c)
 
       pub step_call : (get_or bytes 0 0 ≡ 15 → ⊥) → step_with bytes (sheet_in cell) ≡ call_in columns line
       unfolding call_in
-      step_call e = rw (le-leb _ _ short, sym s ∙ h, sym p, k, ne_eqb (get_or bytes 0 0) 15 e, c)
+      step_call e = rw (le-leb _ _ short, eq-eqb _ _ h, sym p, k, ne_eqb (get_or bytes 0 0) 15 e, c)

@@ -1,6 +1,5 @@
 -- One line of a text, done in lent memory. Assumes nothing.
-use Rattle.std.specs.Prelude.{ℕ, ◌≤◌, ◌≡◌, true, List, length}
-use Rattle.std.proofs.Math.Option.{Option}
+use Rattle.std.specs.Prelude.{ℕ, ◌≤◌, ◌≡◌, true, List, length, Option}
 use Rattle.std.proofs.lemmas.List.Edits.{sets}
 use Rattle.store.specs.Words.{world_of}
 use Rattle.steps.specs.Run.{Call}

@@ -1,23 +1,22 @@
 -- What a reader's memory holds after each of its writes. Assumes nothing.
-use Prim.Native.Nat.{ℕ, zero, suc, ◌+◌, ◌-◌, ◌≤◌, ◌<◌}
-use native.Mathlib.Nat.{le_refl}
+use Rattle.std.specs.Prelude.{Option, None, Some}
+use Prim.Native.Nat.{ℕ, zero, suc, ◌+◌, ◌≤◌, ◌<◌}
 use native.Mathlib.Numerals.{add-one}
 use native.Mathlib.Omega.{arith}
-use mathlib.Core.Path.{◌≡◌, refl, sym, ap, ◌∙◌, subst}
+use mathlib.Core.Path.{◌≡◌, refl, sym, ap, ◌∙◌}
 use mathlib.Core.Bool.{Bool, true, false, cond, false≢true}
-use mathlib.Core.Option.{Option, none, some}
 use mathlib.Core.List.{List, [], ◌∷◌, ◌++◌, append-nil}
 use lib.Dec.{leb, ltb, eqb}
-use lib.ListN.{length, get_or, take, drop, set, length-append, length-drop, length-set, drop_of_length-le}
+use lib.ListN.{length, get_or, take, drop, set, length-append, length-drop, drop_of_length-le}
 use lib.Seq.{sets, sets-eq, paste, take_at, drop_at, take-length, length-take-le, take_all, drop-set-lt}
-use borrow.Author.Tests.{lt-ltb, le-ltb, le-leb, lt-leb, eq-eqb, ne_eqb, eqb-true, eqb-false, ltb-true, leb-true}
+use borrow.Author.Tests.{lt-ltb, le-ltb, eq-eqb, ne_eqb, eqb-true, ltb-true, leb-true}
 use Rattle.value.proofs.Bools.{and-true}
 use Rattle.store.specs.Words.{world_of}
 use Rattle.record.specs.Characters.{line_feed}
 use Rattle.reporting.specs.Memory.{is_memory}
 use Rattle.text_cells.specs.Answers.{AreColumns}
 use Rattle.text_form.specs.Cells.{until}
-use Rattle.text_form.specs.Lines.{maximum_line, columns_of, call_in}
+use Rattle.text_form.specs.Lines.{maximum_line, call_in}
 use Rattle.text_form.specs.Rows.{heading, row}
 use Rattle.text_form.specs.Reader.{first, later, ended, Reader, reader, Read, read, is_ended, added, kept, Fits, columns_in, line_call, line_effect, has_begun, last_line, close, end_input, end_line, read_bytes}
 use Rattle.text_form.proofs.NameLaws.{names-once}
@@ -28,8 +27,12 @@ use Rattle.steps.specs.declared.Report.{Report}
 use Rattle.steps.specs.Run.{Call}
 use Rattle.text_rows.specs.ReportRows.{report_row, maximum_row}
 use Rattle.text_line.specs.Lines.{row_room, LineDone}
-use Rattle.text_reader.proofs.StateLaws.{part_to_end}
-use Rattle.text_reader.specs.Memory.{state_size, column_words, phase_of, phase_in, line_of, reader_of, are_below, maximum_count, is_state, is_reader, taken_of, is_accepted, LineEnded, NamesPut}
+use Rattle.std.proofs.Common.{◌⊎◌, inl, inr}
+use Rattle.text_reader.specs.declared.Phase.{Phase}
+use Rattle.text_reader.specs.declared.Phase.TheVariants.{First, Later}
+use Rattle.text_reader.specs.declared.Progress.{Progress}
+use Rattle.text_reader.specs.Reading.{phase_as}
+use Rattle.text_reader.specs.Memory.{state_size, column_words, phase_of, phase_in, line_of, reader_of, are_below, maximum_count, is_state, is_reader, taken_of, is_accepted, Ended}
 
 -- The state ----------------------------------------------------------------------------
 
@@ -59,38 +62,29 @@ reader-joined words cells state line m s l = rw (m, s, eq-eqb _ _ l)
 
 -- Phases -------------------------------------------------------------------------------
 
-below_two : (q : ℕ) → q < 2 → (q ≡ 0 → ⊥) → q ≡ 1
-below_two zero l g = absurd (g refl)
-below_two (suc zero) l g = refl
-below_two (suc (suc q)) l g = absurd (omega arith)
-
-pub phase-open : (p : ℕ) (columns : List ℕ) → p < 2 → is_ended (phase_of p columns) ≡ false
+pub phase_first : (p : ℕ) (columns : List ℕ) → p ≡ 0 → phase_of p columns ≡ first
 unfolding phase_of
-phase-open p columns h = go (eqb p 0) (eqb p 1) refl refl
-  where
-    go : (a b : Bool) → eqb p 0 ≡ a → eqb p 1 ≡ b → is_ended (cond a first (cond b (later columns) ended)) ≡ false
-    go true b e f = refl
-    go false true e f = refl
-    go false false e f = absurd (eqb-false p 1 f (let g = eqb-false p 0 e in below_two p h g))
+phase_first p columns e = rw e
 
-pub phase-ended : (p : ℕ) (columns : List ℕ) → 2 ≤ p → phase_of p columns ≡ ended
+pub phase_later : (p : ℕ) (columns : List ℕ) → p ≡ 1 → phase_of p columns ≡ later columns
 unfolding phase_of
-phase-ended p columns h = rw (ne_eqb p 0 (λ e. omega arith), ne_eqb p 1 (λ e. omega arith))
+phase_later p columns e = rw e
 
-pub phase-later : (p : ℕ) (columns : List ℕ) → is_ended (phase_of p columns) ≡ false → (p ≡ 0 → ⊥) → p ≡ 1
+pub phase_ended : (p : ℕ) (columns : List ℕ) → (p ≡ 0 → ⊥) → (p ≡ 1 → ⊥) → phase_of p columns ≡ ended
 unfolding phase_of
-phase-later p columns h g = go (eqb p 1) refl (rw (ne_eqb p 0 g) at h)
-  where
-    go : (b : Bool) → eqb p 1 ≡ b → is_ended (cond (eqb p 1) (later columns) ended) ≡ false → p ≡ 1
-    go true e k = eqb-true p 1 e
-    go false e k = absurd (false≢true (sym (rw e at k)))
+phase_ended p columns f l = rw (ne_eqb p 0 f, ne_eqb p 1 l)
+
+-- a reader that has not ended
+pub phase-open : (p : Phase) (state : List ℕ) → phase_in state ≡ phase_as p (column_words state) → (p ≡ First) ⊎ (p ≡ Later) → is_ended (phase_in state) ≡ false
+phase-open p state e (inl i) = rw (e, i)
+phase-open p state e (inr i) = rw (e, i)
 
 -- Lines --------------------------------------------------------------------------------
 
 pub fits_line : (size : ℕ) (line : List ℕ) → length line ≡ maximum_line → Fits (line_of size line)
 fits_line size line l = go (leb size maximum_line) refl
   where
-    go : (b : Bool) → leb size maximum_line ≡ b → Fits (cond b (some (take size line)) none)
+    go : (b : Bool) → leb size maximum_line ≡ b → Fits (cond b (Some (take size line)) None)
     go true e = let h = leb-true size maximum_line e in let k = length-take-le size line (omega arith) in omega (arith, k)
     go false e = tt
 
@@ -99,7 +93,7 @@ begun-line zero line l h = absurd (h refl)
 begun-line (suc n) [] l h = absurd (omega arith)
 begun-line (suc n) (b ∷ line) l h = go (leb (suc n) maximum_line)
   where
-    go : (t : Bool) → has_begun (cond t (some (b ∷ take n line)) none) ≡ true
+    go : (t : Bool) → has_begun (cond t (Some (b ∷ take n line)) None) ≡ true
     go true = refl
     go false = refl
 
@@ -122,25 +116,19 @@ module _ (words cells line : List ℕ) where
   closed-state (a ∷ b ∷ d ∷ columns) l = refl
 
   -- the line that has begun is empty, in a later phase: there is no last line
-  pub last-nothing : (state : List ℕ) → get_or state 0 0 ≡ 1 → get_or state 2 0 ≡ 0 → read (reader_of words cells state line) [] ≡ last_line (reader_of words cells state line) (phase_in state)
-  unfolding reader_of phase_of
+  pub last-nothing : (state : List ℕ) → phase_in state ≡ later (column_words state) → get_or state 2 0 ≡ 0 → read (reader_of words cells state line) [] ≡ last_line (reader_of words cells state line) (phase_in state)
+  unfolding reader_of
   last-nothing state e z = rw (e, z)
 
-  pub last-first : (state : List ℕ) → get_or state 0 0 ≡ 0 → end_line (reader_of words cells state line) (phase_in state) ≡ last_line (reader_of words cells state line) (phase_in state)
-  unfolding phase_of
-  last-first state e = rw e
+  pub last-first : (state : List ℕ) {o : Option (List ℕ)} → phase_in state ≡ first → o ≡ line_of (get_or state 2 0) line
+      → end_line (reader (phase_in state) (get_or state 1 0) o (world_of words cells)) (phase_in state) ≡ last_line (reader_of words cells state line) (phase_in state)
+  unfolding reader_of
+  last-first state e q = rw (q, e)
 
-  pub last-later : (state : List ℕ) → get_or state 0 0 ≡ 1 → has_begun (line_of (get_or state 2 0) line) ≡ true
-      → end_line (reader_of words cells state line) (phase_in state) ≡ last_line (reader_of words cells state line) (phase_in state)
-  unfolding reader_of phase_of
-  last-later state e h = rw (e, h)
-
-pub state-sized : (state : List ℕ) (size : ℕ) → is_state state ≡ true → is_state (set state 2 size) ≡ true
-unfolding is_state
-state-sized [] size h = absurd (false≢true h)
-state-sized (a ∷ []) size h = absurd (false≢true h)
-state-sized (a ∷ b ∷ []) size h = absurd (false≢true h)
-state-sized (a ∷ b ∷ d ∷ columns) size h = h
+  pub last-later : (state : List ℕ) {o : Option (List ℕ)} → phase_in state ≡ later (column_words state) → o ≡ line_of (get_or state 2 0) line → has_begun o ≡ true
+      → end_line (reader (phase_in state) (get_or state 1 0) o (world_of words cells)) (phase_in state) ≡ last_line (reader_of words cells state line) (phase_in state)
+  unfolding reader_of
+  last-later state e q h = rw (e, sym q, h)
 
 pub state-closed : (state : List ℕ) → length state ≡ state_size → are_below 7 (column_words state) ≡ true → ltb (get_or (set (set state 0 2) 2 0) 1 0) maximum_count ≡ true → is_state (set (set state 0 2) 2 0) ≡ true
 unfolding is_state
@@ -157,7 +145,7 @@ taken-all piece n e l = rw (le-ltb (until line_feed piece) (length piece) (omega
 pub taken-line : (piece : List ℕ) (n : ℕ) → n ≡ until line_feed piece → n < length piece → n + 1 ≡ taken_of false piece
 taken-line piece n e l = rw (lt-ltb (until line_feed piece) (length piece) (omega arith)) (omega arith)
 
-module _ (words cells state line piece : List ℕ) (n size : ℕ) (l : length line ≡ maximum_line) (s : is_state state ≡ true) (unended : is_ended (phase_in state) ≡ false) (e : n ≡ until line_feed piece) where
+module _ (words cells state line piece : List ℕ) (n size : ℕ) (l : length line ≡ maximum_line) (s : length state ≡ state_size) (unended : is_ended (phase_in state) ≡ false) (e : n ≡ until line_feed piece) where
   abbrev r : Reader
   r = reader_of words cells state line
 
@@ -174,26 +162,19 @@ module _ (words cells state line piece : List ℕ) (n size : ℕ) (l : length li
       → read (reader_of words cells (set state 2 size) line') [] ≡ read_bytes r (take n piece)
   reads_kept line' k h =
       let q : take n piece ≡ piece = take_all n piece (omega arith) in
-      rw q (ap (λ (x : Reader). read x []) (kept-state words cells line state line' piece size (state-parts state s).0 (h ∙ ap (added (line_of (get_or state 2 0) line)) q))
+      rw q (ap (λ (x : Reader). read x []) (kept-state words cells line state line' piece size s (h ∙ ap (added (line_of (get_or state 2 0) line)) q))
       ∙ sym (piece-kept r opened fits piece (sym e ∙ k)))
 
   -- a piece up to and with its line feed
-  pub reads-line : (line' : List ℕ) {x : Read} → n < length piece → line_of size line' ≡ added (line_of (get_or state 2 0) line) (take n piece)
-      → x ≡ end_line (reader (phase_in state) (get_or state 1 0) (line_of size line') (world_of words cells)) (phase_in state) → x ≡ read_bytes r (take (n + 1) piece)
+  pub reads-line : (line' : List ℕ) {x : Read} {o : Option (List ℕ)} → n < length piece → line_of size line' ≡ added (line_of (get_or state 2 0) line) (take n piece) → o ≡ line_of size line'
+      → x ≡ end_line (reader (phase_in state) (get_or state 1 0) o (world_of words cells)) (phase_in state) → x ≡ read_bytes r (take (n + 1) piece)
   unfolding reader_of
-  reads-line line' k h g =
+  reads-line line' k h f g =
       let q : n + 1 ≡ suc (until line_feed piece) = omega arith in
       g
-      ∙ ap (λ (o : Option (List ℕ)). end_line (reader (phase_in state) (get_or state 1 0) o (world_of words cells)) (phase_in state)) (h ∙ ap (λ (m : ℕ). added (line_of (get_or state 2 0) line) (take m piece)) e)
+      ∙ ap (λ (o : Option (List ℕ)). end_line (reader (phase_in state) (get_or state 1 0) o (world_of words cells)) (phase_in state)) (f ∙ h ∙ ap (λ (m : ℕ). added (line_of (get_or state 2 0) line) (take m piece)) e)
       ∙ sym (piece-ends r opened fits piece (omega arith))
       ∙ ap (λ (m : ℕ). read_bytes r (take m piece)) (sym q)
-
-pub taken-within : (piece : List ℕ) → taken_of false piece ≤ length piece
-taken-within piece = go (ltb (until line_feed piece) (length piece)) refl
-  where
-    go : (b : Bool) → ltb (until line_feed piece) (length piece) ≡ b → cond b (suc (until line_feed piece)) (length piece) ≤ length piece
-    go true e = ltb-true _ _ e
-    go false e = le_refl _
 
 -- The end of the input -----------------------------------------------------------------
 
@@ -203,9 +184,6 @@ pub ends-input : (words cells state line words' cells' state' rows : List ℕ) �
 unfolding end_input reader_of
 ends-input words cells state line words' cells' state' rows l h =
     ap (λ (x : Reader). read x rows) (closed-state words' cells' line state' l) ∙ ap (λ (x : Read). read (close x.reader) x.rows) h
-
-pub last-ended : (words cells state line : List ℕ) → phase_in state ≡ ended → read (reader_of words cells state line) [] ≡ last_line (reader_of words cells state line) (phase_in state)
-last-ended words cells state line e = rw e
 
 -- Names --------------------------------------------------------------------------------
 
@@ -220,11 +198,10 @@ below_each n [] h i l = absurd (omega arith)
 below_each n (x ∷ xs) h zero l = ltb-true x n (and-true (ltb x n) _ h).0
 below_each n (x ∷ xs) h (suc i) l = below_each n xs (and-true (ltb x n) _ h).1 i (omega arith)
 
-pub are-columns : (state : List ℕ) → is_state state ≡ true → AreColumns (column_words state)
-are-columns state h =
-    let p = state-parts state h in
-    let l : length (column_words state) ≡ 7 = length-drop 3 state ∙ rw p.0 in
-    record { seven = l; below = λ i k. below_each 7 (column_words state) p.1.0 i (omega arith) }
+pub are-columns : (state : List ℕ) → length state ≡ state_size → are_below 7 (column_words state) ≡ true → AreColumns (column_words state)
+are-columns state l b =
+    let e : length (column_words state) ≡ 7 = length-drop 3 state ∙ rw l in
+    record { seven = e; below = λ i k. below_each 7 (column_words state) b i (omega arith) }
 
 named-state : (state columns : List ℕ) → length state ≡ state_size → length columns ≡ 7 → paste state 3 columns (length columns) ≡ get_or state 0 0 ∷ get_or state 1 0 ∷ get_or state 2 0 ∷ columns
 named-state [] columns l k = absurd (omega arith)
@@ -234,27 +211,23 @@ named-state (a ∷ b ∷ d ∷ rest) columns l k =
     let z : length (a ∷ b ∷ d ∷ rest) ≤ 3 + length columns = omega arith in
     rw (drop_of_length-le (a ∷ b ∷ d ∷ rest) {i = 3 + length columns} z, take-length columns) (append-nil (a ∷ b ∷ d ∷ columns))
 
-pub names-found : (state columns line state' : List ℕ) {o : Option (List ℕ)} → length state ≡ state_size → some columns ≡ columns_of line → state' ≡ paste state 3 columns (length columns) → o ≡ some line
-    → NamesPut state o true state'
-names-found state columns line state' l n e q =
-    let once = names-once line columns (sym n) in
-    let k : length columns ≡ 7 = once.seven in
-    let f = e ∙ named-state state columns l k in
-    record {
-      found = λ t. rw (q, f) (sym n);
-      broken = λ t. absurd (false≢true (sym t));
-      heads = λ i h. rw f (three state columns i h);
-      below = λ h. rw f (below_all 7 columns (λ i m. once.below i (omega arith)));
-    }
-  where
-    three : (s c : List ℕ) (i : ℕ) → i < 3 → get_or (get_or s 0 0 ∷ get_or s 1 0 ∷ get_or s 2 0 ∷ c) i 0 ≡ get_or s i 0
-    three s c zero h = refl
-    three s c (suc zero) h = refl
-    three s c (suc (suc zero)) h = refl
-    three s c (suc (suc (suc i))) h = absurd (omega arith)
+-- the columns of a line's names: seven, each of a cell
+pub names-seven : (columns : List ℕ) (o : Option (List ℕ)) → columns_in o ≡ Some columns → length columns ≡ 7
+names-seven columns None e = absurd (false≢true cc)
+names-seven columns (Some line) e = (names-once line columns e).seven
 
-pub names-missing : (state : List ℕ) {o : Option (List ℕ)} → columns_in o ≡ none → NamesPut state o false state
-names-missing state e = record { found = λ t. absurd (false≢true t); broken = λ t. (e, refl); heads = λ i h. refl; below = λ h. h }
+names-below : (columns : List ℕ) (o : Option (List ℕ)) → columns_in o ≡ Some columns → are_below 7 columns ≡ true
+names-below columns None e = absurd (false≢true cc)
+names-below columns (Some line) e = let once = names-once line columns e in below_all 7 columns (λ i m. once.below i (omega (arith, once.seven)))
+
+pub named-columns : (state columns : List ℕ) (o : Option (List ℕ)) → length state ≡ state_size → columns_in o ≡ Some columns → column_words (paste state 3 columns (length columns)) ≡ columns
+named-columns state columns o l e = rw (named-state state columns l (names-seven columns o e)) refl
+
+pub named-below : (state columns : List ℕ) (o : Option (List ℕ)) → length state ≡ state_size → columns_in o ≡ Some columns → are_below 7 (column_words (paste state 3 columns (length columns))) ≡ true
+named-below state columns o l e = rw (named-columns state columns o l e) (names-below columns o e)
+
+pub named-length : (state columns : List ℕ) (o : Option (List ℕ)) → length state ≡ state_size → columns_in o ≡ Some columns → length (paste state 3 columns (length columns)) ≡ state_size
+named-length state columns o l e = rw (named-state state columns l (names-seven columns o e)) (omega (arith, names-seven columns o e))
 
 -- Rows ---------------------------------------------------------------------------------
 
@@ -266,104 +239,78 @@ dropped-sets rows xs h =
     let z : 0 + length xs ≡ length xs = omega arith in
     ap (drop (length xs)) (sets-eq xs rows 0 (omega arith)) ∙ drop_at xs (drop (0 + length xs) rows) (length xs) refl ∙ ap (λ (k : ℕ). drop k rows) z
 
--- The first line -----------------------------------------------------------------------
+-- a row from the start on
+pub row-read : (rows rows' xs : List ℕ) (n : ℕ) → n ≡ length xs → length xs ≤ length rows → rows' ≡ sets rows 0 xs → (take n rows' ≡ xs) × ((drop n rows' ≡ drop n rows) × (n ≤ length rows))
+row-read rows rows' xs n l w e = (rw (l, e) (taken-sets rows xs w), (rw (l, e) (dropped-sets rows xs w), omega arith))
 
-module _ (words cells line rows : List ℕ) (m : is_memory words cells ≡ true) (room : row_room ≤ length rows) where
-  first_reads : (state s1 : List ℕ) (size : ℕ) {o : Option (List ℕ)} → length state ≡ state_size → length s1 ≡ state_size → get_or state 0 0 ≡ 0 → line_of size line ≡ o → NamesPut (set state 2 0) o true s1
-      → read (reader_of words cells (set s1 0 1) line) heading ≡ end_line (reader (phase_in state) (get_or state 1 0) o (world_of words cells)) (phase_in state)
-  unfolding reader_of end_line phase_of
-  first_reads [] s1 size l k z q n = absurd (omega arith)
-  first_reads (a ∷ []) s1 size l k z q n = absurd (omega arith)
-  first_reads (a ∷ b ∷ []) s1 size l k z q n = absurd (omega arith)
-  first_reads (a ∷ b ∷ d ∷ rest) [] size l k z q n = absurd (omega arith)
-  first_reads (a ∷ b ∷ d ∷ rest) (e ∷ []) size l k z q n = absurd (omega arith)
-  first_reads (a ∷ b ∷ d ∷ rest) (e ∷ f ∷ []) size l k z q n = absurd (omega arith)
-  first_reads (a ∷ b ∷ d ∷ rest) (e ∷ f ∷ g ∷ columns) size l k z q n = rw (z, n.found refl, n.heads 1 (omega arith), n.heads 2 (omega arith))
+-- the heading and row 0
+pub broken-row : (rows rows1 rows' out : List ℕ) (n : ℕ) (report : Report) → row_room ≤ length rows → rows1 ≡ sets rows 0 heading → report ≡ report_of (refusal 12)
+    → (rows' ≡ sets rows1 40 (report_row 0 report out)) × (n ≡ 40 + length (report_row 0 report out)) → n ≤ 40 + maximum_row
+    → (take n rows' ≡ heading ++ row 0 (refusal 12)) × ((drop n rows' ≡ drop n rows) × (n ≤ length rows))
+broken-row rows rows1 rows' out n report room h e w b =
+    let g : rows' ≡ sets rows 0 (heading ++ row 0 (refusal 12)) = rw (h, e) at w.0 ∙ sym (sets-append heading rows 0 (row 0 (refusal 12))) in
+    let l : n ≡ length (heading ++ row 0 (refusal 12)) = rw e at w.1 ∙ sym (length-append heading (row 0 (refusal 12))) in
+    row-read rows rows' (heading ++ row 0 (refusal 12)) n l (omega arith) g
 
-  broken-reads : (state s1 : List ℕ) (size : ℕ) {o : Option (List ℕ)} → length state ≡ state_size → length s1 ≡ state_size → get_or state 0 0 ≡ 0 → line_of size line ≡ o → NamesPut (set state 2 0) o false s1
-      → read (reader_of words cells (set s1 0 2) line) (heading ++ row 0 (refusal 12)) ≡ end_line (reader (phase_in state) (get_or state 1 0) o (world_of words cells)) (phase_in state)
-  unfolding reader_of end_line phase_of
-  broken-reads [] s1 size l k z q n = absurd (omega arith)
-  broken-reads (a ∷ []) s1 size l k z q n = absurd (omega arith)
-  broken-reads (a ∷ b ∷ []) s1 size l k z q n = absurd (omega arith)
-  broken-reads (a ∷ b ∷ d ∷ rest) s1 size l k z q n = rw (z, (n.broken refl).1, (n.broken refl).0)
+-- Lines that are complete ----------------------------------------------------------------
 
-  pub first_ended : (state s1 rows' : List ℕ) (size : ℕ) → is_state state ≡ true → length s1 ≡ state_size → get_or state 0 0 ≡ 0 → NamesPut (set state 2 0) (line_of size line) true s1 → rows' ≡ sets rows 0 heading
-      → LineEnded words cells state line rows size words cells (set s1 0 1) rows' 40
-  first_ended state s1 rows' size s k z n e =
-      let p = state-parts state s in
-      record {
-        reads = ap (λ (x : List ℕ). read (reader_of words cells (set s1 0 1) line) x) (ap (take 40) e ∙ taken-sets rows heading (omega arith)) ∙ first_reads state s1 size p.0 k z refl n;
-        rest = ap (drop 40) e ∙ dropped-sets rows heading (omega arith);
-        fits = omega arith;
-        memory = m;
-        columns = rw (drop-set-lt 3 s1 0 1 (omega arith)) (n.below (rw (drop-set-lt 3 state 2 0 (omega arith)) p.1.0));
-      }
+module _ (words cells : List ℕ) where
+  first_reads : (state columns bytes : List ℕ) (o : Option (List ℕ)) → length state ≡ state_size → phase_in state ≡ first → columns_in o ≡ Some columns
+      → read (reader_of words cells (set (paste (set state 2 0) 3 columns (length columns)) 0 1) bytes) heading ≡ end_line (reader (phase_in state) (get_or state 1 0) o (world_of words cells)) (phase_in state)
+  unfolding reader_of end_line
+  first_reads [] columns bytes o l e n = absurd (omega arith)
+  first_reads (a ∷ []) columns bytes o l e n = absurd (omega arith)
+  first_reads (a ∷ b ∷ []) columns bytes o l e n = absurd (omega arith)
+  first_reads (a ∷ b ∷ d ∷ rest) columns bytes o l e n =
+      ap (λ (state : List ℕ). read (reader_of words cells (set state 0 1) bytes) heading) (named-state (a ∷ b ∷ 0 ∷ rest) columns l (names-seven columns o n)) ∙ rw (e, n, phase_later 1 columns refl)
 
-  pub broken-ended : (state s1 rows' : List ℕ) (size r : ℕ) → is_state state ≡ true → length s1 ≡ state_size → get_or state 0 0 ≡ 0 → NamesPut (set state 2 0) (line_of size line) false s1
-      → rows' ≡ sets (sets rows 0 heading) 40 (row 0 (refusal 12)) → r ≡ 40 + length (row 0 (refusal 12)) → r ≤ 40 + maximum_row
-      → LineEnded words cells state line rows size words cells (set s1 0 2) rows' r
-  broken-ended state s1 rows' size r s k z n e f b =
-      let p = state-parts state s in
-      let xs = heading ++ row 0 (refusal 12) in
-      let g : rows' ≡ sets rows 0 xs = e ∙ sym (sets-append heading rows 0 (row 0 (refusal 12))) in
-      let l : r ≡ length xs = f ∙ sym (length-append heading (row 0 (refusal 12))) in
-      let w : length xs ≤ length rows = omega arith in
-      record {
-        reads = ap (λ (x : List ℕ). read (reader_of words cells (set s1 0 2) line) x) (rw (l, g) (taken-sets rows xs w)) ∙ broken-reads state s1 size p.0 k z refl n;
-        rest = rw (l, g) (dropped-sets rows xs w);
-        fits = omega arith;
-        memory = m;
-        columns = rw (drop-set-lt 3 s1 0 2 (omega arith)) (n.below (rw (drop-set-lt 3 state 2 0 (omega arith)) p.1.0));
-      }
+  -- the names' columns are copied into the state
+  pub first_ended : (state columns state1 rows' bytes : List ℕ) (o : Option (List ℕ)) → length state ≡ state_size → phase_in state ≡ first → columns_in o ≡ Some columns
+      → state1 ≡ paste (set state 2 0) 3 columns (length columns) → take 40 rows' ≡ heading
+      → read (reader_of words cells (set state1 0 1) bytes) (take 40 rows') ≡ end_line (reader (phase_in state) (get_or state 1 0) o (world_of words cells)) (phase_in state)
+  first_ended state columns state1 rows' bytes o l e n s t = rw (s, t) (first_reads state columns bytes o l e n)
 
-  pub broken-written : (state s1 rows1 rows' out : List ℕ) (size r : ℕ) (report : Report) → is_state state ≡ true → length s1 ≡ state_size → get_or state 0 0 ≡ 0 → NamesPut (set state 2 0) (line_of size line) false s1
-      → rows1 ≡ sets rows 0 heading → report ≡ report_of (refusal 12) → (rows' ≡ sets rows1 40 (report_row 0 report out)) × (r ≡ 40 + length (report_row 0 report out)) → r ≤ 40 + maximum_row
-      → LineEnded words cells state line rows size words cells (set s1 0 2) rows' r
-  broken-written state s1 rows1 rows' out size r report s k z n h g w b = broken-ended state s1 rows' size r s k z n (rw (g, h) at w.0) (rw g at w.1) b
+  broken-reads : (state bytes : List ℕ) (o : Option (List ℕ)) → length state ≡ state_size → phase_in state ≡ first → columns_in o ≡ None
+      → read (reader_of words cells (set (set state 2 0) 0 2) bytes) (heading ++ row 0 (refusal 12)) ≡ end_line (reader (phase_in state) (get_or state 1 0) o (world_of words cells)) (phase_in state)
+  unfolding reader_of end_line
+  broken-reads [] bytes o l e n = absurd (omega arith)
+  broken-reads (a ∷ []) bytes o l e n = absurd (omega arith)
+  broken-reads (a ∷ b ∷ []) bytes o l e n = absurd (omega arith)
+  broken-reads (a ∷ b ∷ d ∷ rest) bytes o l e n = rw (e, n, phase_ended 2 rest (λ h. omega arith) (λ h. omega arith))
 
--- A later line -------------------------------------------------------------------------
+  pub broken-ended : (state rows' bytes : List ℕ) (n : ℕ) (o : Option (List ℕ)) → length state ≡ state_size → phase_in state ≡ first → columns_in o ≡ None → take n rows' ≡ heading ++ row 0 (refusal 12)
+      → read (reader_of words cells (set (set state 2 0) 0 2) bytes) (take n rows') ≡ end_line (reader (phase_in state) (get_or state 1 0) o (world_of words cells)) (phase_in state)
+  broken-ended state rows' bytes n o l e m t = rw t (broken-reads state bytes o l e m)
 
-later-reads : (words cells state line words' cells' : List ℕ) (size : ℕ) {o : Option Call} → length state ≡ state_size → get_or state 0 0 ≡ 1 → line_call (column_words state) (line_of size line) ≡ o
-    → world_of words' cells' ≡ (line_effect (world_of words cells) o).world
-    → read (reader_of words' cells' (set (set state 1 (get_or state 1 0 + 1)) 2 0) line) (row (get_or state 1 0 + 1) (line_effect (world_of words cells) o).response)
-    ≡ end_line (reader (phase_in state) (get_or state 1 0) (line_of size line) (world_of words cells)) (phase_in state)
-unfolding reader_of end_line phase_of
-later-reads words cells [] line words' cells' size l z q w = absurd (omega arith)
-later-reads words cells (a ∷ []) line words' cells' size l z q w = absurd (omega arith)
-later-reads words cells (a ∷ b ∷ []) line words' cells' size l z q w = absurd (omega arith)
-later-reads words cells (a ∷ b ∷ d ∷ columns) line words' cells' size l z q w = rw (z, q, add-one b, w)
+  later-reads : (state words' cells' bytes : List ℕ) (line : Option (List ℕ)) {o : Option Call} → length state ≡ state_size → phase_in state ≡ later (column_words state) → line_call (column_words state) line ≡ o
+      → world_of words' cells' ≡ (line_effect (world_of words cells) o).world
+      → read (reader_of words' cells' (set (set state 1 (get_or state 1 0 + 1)) 2 0) bytes) (row (get_or state 1 0 + 1) (line_effect (world_of words cells) o).response)
+      ≡ end_line (reader (phase_in state) (get_or state 1 0) line (world_of words cells)) (phase_in state)
+  unfolding reader_of end_line
+  later-reads [] words' cells' bytes line l e q w = absurd (omega arith)
+  later-reads (a ∷ []) words' cells' bytes line l e q w = absurd (omega arith)
+  later-reads (a ∷ b ∷ []) words' cells' bytes line l e q w = absurd (omega arith)
+  later-reads (a ∷ b ∷ d ∷ columns) words' cells' bytes line l e q w = rw (e, q, add-one b, w)
 
-pub later-ended : (words cells state line rows words' cells' rows' : List ℕ) (size r : ℕ) {o : Option Call} → is_state state ≡ true → get_or state 0 0 ≡ 1 → line_call (column_words state) (line_of size line) ≡ o
-    → LineDone words cells rows (get_or state 1 0 + 1) o words' cells' rows' r → LineEnded words cells state line rows size words' cells' (set (set state 1 (get_or state 1 0 + 1)) 2 0) rows' r
-later-ended words cells state line rows words' cells' rows' size r {o} s z q d =
-    let p = state-parts state s in
-    let xs = row (get_or state 1 0 + 1) (line_effect (world_of words cells) o).response in
-    let w : length xs ≤ length rows = omega (arith, d.sized, d.fits) in
-    record {
-      reads = ap (λ (x : List ℕ). read (reader_of words' cells' (set (set state 1 (get_or state 1 0 + 1)) 2 0) line) x) (rw (d.sized, d.shows) (taken-sets rows xs w)) ∙ later-reads words cells state line words' cells' size p.0 z q d.leaves;
-      rest = rw (d.sized, d.shows) (dropped-sets rows xs w);
-      fits = d.fits;
-      memory = d.memory;
-      columns = rw (drop-set-lt 3 (set state 1 (get_or state 1 0 + 1)) 2 0 (omega arith), drop-set-lt 3 state 1 (get_or state 1 0 + 1) (omega arith)) p.1.0;
-    }
+  pub later-ended : (state rows words' cells' rows' bytes : List ℕ) (n : ℕ) (line : Option (List ℕ)) {o : Option Call} → length state ≡ state_size → phase_in state ≡ later (column_words state) → line_call (column_words state) line ≡ o
+      → LineDone words cells rows (get_or state 1 0 + 1) o words' cells' rows' n
+      → read (reader_of words' cells' (set (set state 1 (get_or state 1 0 + 1)) 2 0) bytes) (take n rows') ≡ end_line (reader (phase_in state) (get_or state 1 0) line (world_of words cells)) (phase_in state)
+  later-ended state rows words' cells' rows' bytes n line {o = o} l e q d = rw (row-read rows rows' (row (get_or state 1 0 + 1) (line_effect (world_of words cells) o).response) n d.sized (omega (arith, d.sized, d.fits)) d.shows).0 (later-reads state words' cells' bytes line l e q d.leaves)
 
--- the columns as a part of the state, once its count and size are written
-later-part : (state : List ℕ) (n : ℕ) → take (length (set (set state 1 n) 2 0) - 3) (drop 3 (set (set state 1 n) 2 0)) ≡ column_words state
-later-part state n = part_to_end 3 (set (set state 1 n) 2 0) ∙ drop-set-lt 3 (set state 1 n) 2 0 (omega arith) ∙ drop-set-lt 3 state 1 n (omega arith)
+  pub later-rest : (rows words' cells' rows' : List ℕ) (number n : ℕ) {o : Option Call} → LineDone words cells rows number o words' cells' rows' n → drop n rows' ≡ drop n rows
+  later-rest rows words' cells' rows' number n {o = o} d = (row-read rows rows' (row number (line_effect (world_of words cells) o).response) n d.sized (omega (arith, d.sized, d.fits)) d.shows).1.0
 
-pub later-columns : (state : List ℕ) (n : ℕ) → is_state state ≡ true → AreColumns (take (length (set (set state 1 n) 2 0) - 3) (drop 3 (set (set state 1 n) 2 0)))
-later-columns state n s = subst AreColumns (sym (later-part state n)) (are-columns state s)
+-- the columns, once the state's count and size are written
+later-words : (state : List ℕ) (n : ℕ) → column_words (set (set state 1 n) 2 0) ≡ column_words state
+later-words state n = drop-set-lt 3 (set state 1 n) 2 0 (omega arith) ∙ drop-set-lt 3 state 1 n (omega arith)
 
-pub later-call : (state line : List ℕ) (size n : ℕ) → size ≤ maximum_line
-    → line_call (column_words state) (line_of size line) ≡ call_in (take (length (set (set state 1 n) 2 0) - 3) (drop 3 (set (set state 1 n) 2 0))) (take size line)
-later-call state line size n h = rw (le-leb size maximum_line h) (ap (λ (columns : List ℕ). call_in columns (take size line)) (sym (later-part state n)))
+pub later-columns : (state columns : List ℕ) (n : ℕ) → length state ≡ state_size → are_below 7 (column_words state) ≡ true → columns ≡ column_words (set (set state 1 n) 2 0) → AreColumns columns
+later-columns state columns n l b e = rw (e, later-words state n) (are-columns state l b)
 
-pub later-long : (state line : List ℕ) (size : ℕ) → maximum_line < size → line_call (column_words state) (line_of size line) ≡ none
-later-long state line size h = rw (lt-leb size maximum_line h)
+pub later-call : (state columns line : List ℕ) (n : ℕ) → columns ≡ column_words (set (set state 1 n) 2 0) → line_call (column_words state) (Some line) ≡ call_in columns line
+later-call state columns line n e = rw (e, later-words state n)
 
-pub later-length : (state : List ℕ) (n : ℕ) → length (set (set state 1 n) 2 0) ≡ length state
-later-length state n = length-set (set state 1 n) 2 0 ∙ length-set state 1 n
-
-pub closed-still : (state state' : List ℕ) → state' ≡ set (set state 0 2) 2 0 → length state ≡ state_size → are_below 7 (column_words state) ≡ true → ltb (get_or state' 1 0) maximum_count ≡ true → is_state state' ≡ true
-closed-still state state' e l b h = rw e (state-closed state l b (rw e at h))
+-- memory told otherwise
+pub ended-as : {words cells state line rows : List ℕ} {p : Progress} {words' cells' state' rows' : List ℕ} (words1 cells1 state1 rows1 : List ℕ) → words' ≡ words1 → cells' ≡ cells1 → state' ≡ state1 → rows' ≡ rows1
+    → Ended words cells state line rows p words1 cells1 state1 rows1 → Ended words cells state line rows p words' cells' state' rows'
+ended-as words1 cells1 state1 rows1 w c s r h = rw (w, c, s, r) h

@@ -1,13 +1,13 @@
 -- Laws of a reader's state and line. Assumes nothing.
-use Prim.Native.Nat.{ℕ, zero, suc, ◌+◌, ◌-◌, ◌≤◌, ◌<◌}
+use Rattle.std.specs.Prelude.{None}
+use Prim.Native.Nat.{ℕ, suc, ◌+◌, ◌-◌, ◌≤◌, ◌<◌}
 use native.Mathlib.Omega.{arith}
-use mathlib.Core.Path.{◌≡◌, refl, sym, ap, ◌∙◌}
-use mathlib.Core.Bool.{Bool, true, false, ◌&&◌, cond}
-use mathlib.Core.Option.{Option, none, some}
-use mathlib.Core.List.{List, [], ◌∷◌, ◌++◌}
-use lib.Dec.{leb, ltb, eqb}
-use lib.ListN.{length, get_or, set, take, drop, replicate, drop_of_length-le, length-drop}
-use lib.Seq.{drop-cons, paste, paste-suc, take-paste, take-length, take_all, length-take-le}
+use mathlib.Core.Path.{◌≡◌, sym, ap, ◌∙◌}
+use mathlib.Core.Bool.{Bool, true, false, ◌&&◌}
+use mathlib.Core.List.{List, []}
+use lib.Dec.{ltb, eqb}
+use lib.ListN.{length, get_or, take, drop, replicate, drop_of_length-le, length-drop}
+use lib.Seq.{drop-cons, paste, take-paste, take-length, take_all, length-take-le}
 use borrow.Author.Tests.{lt-ltb, le-ltb, le-leb, lt-leb, eq-eqb}
 use Rattle.text_form.specs.Lines.{maximum_line}
 use Rattle.text_form.specs.Reader.{start, added}
@@ -18,9 +18,9 @@ use Rattle.reporting.specs.Memory.{is_memory}
 use Rattle.text_reader.specs.Memory.{state_size, phase_of, are_below, line_of, reader_of, maximum_count, is_state, is_reader}
 
 -- columns below a bound, one after another
-pub below_next : (n : ℕ) (xs : List ℕ) (i : ℕ) → i < length xs → get_or xs i 0 < n → are_below n (drop i xs) ≡ are_below n (drop (suc i) xs)
+pub below_next : (n : ℕ) (xs : List ℕ) (i : ℕ) → i < length xs → get_or xs i 0 < n → are_below n (drop i xs) ≡ are_below n (drop (i + 1) xs)
 unfolding are_below
-below_next n xs i h k = rw (drop-cons xs i 0 h, lt-ltb _ _ k)
+below_next n xs i h k = let q : i + 1 ≡ suc i = omega arith in rw (q, drop-cons xs i 0 h, lt-ltb _ _ k)
 
 pub below_fails : (n : ℕ) (xs : List ℕ) (i : ℕ) → i < length xs → n ≤ get_or xs i 0 → are_below n (drop i xs) ≡ false
 unfolding are_below
@@ -36,10 +36,10 @@ pub added-fits : (line piece : List ℕ) (size : ℕ) → length line ≡ maximu
 added-fits line piece size l h = rw (le-leb _ _ h, le-leb size maximum_line (omega arith), length-take-le size line (omega arith), le-leb _ _ h, take-paste line size piece (length piece) (omega arith) (omega arith), take-length piece)
 
 pub added-long : (line piece : List ℕ) (size : ℕ) → length line ≡ maximum_line → size ≤ maximum_line → maximum_line < size + length piece
-    → none ≡ added (line_of size line) piece
+    → None ≡ added (line_of size line) piece
 added-long line piece size l s h = rw (le-leb _ _ s, length-take-le size line (omega arith), lt-leb (size + length piece) maximum_line h)
 
-pub added-past : (line piece : List ℕ) (size : ℕ) → maximum_line < size → none ≡ added (line_of size line) piece
+pub added-past : (line piece : List ℕ) (size : ℕ) → maximum_line < size → None ≡ added (line_of size line) piece
 added-past line piece size h = rw (lt-leb size maximum_line h)
 
 -- memory that was emptied is a reader that has read nothing
@@ -60,7 +60,3 @@ part_to_end n l = let e = length-drop n l in take_all (length l - n) (drop n l) 
 pub is_state_lem : (state : List ℕ) (b : Bool) → length state ≡ state_size → are_below 7 (take (length state - 3) (drop 3 state)) ≡ b → is_state state ≡ (b && ltb (get_or state 1 0) maximum_count)
 unfolding is_state
 is_state_lem state b l h = rw (eq-eqb _ _ l, sym (ap (are_below 7) (part_to_end 3 state)) ∙ h)
-
--- a copy, word by word
-pub paste-next : (d : List ℕ) (at : ℕ) (s : List ℕ) (j : ℕ) (l : List ℕ) → at + j < length d → j < length s → l ≡ paste d at s j → set l (at + j) (get_or s j 0) ≡ paste d at s (j + 1)
-paste-next d at s j l hd hs e = let q : j + 1 ≡ suc j = omega arith in rw (e, q) (paste-suc d at s j 0 hd hs)

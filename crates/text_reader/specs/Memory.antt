@@ -1,13 +1,13 @@
 -- A reader in lent memory: the store's words, the string table's cells, ten words of state and the bytes of the line that has begun. Assumes nothing.
-use Rattle.std.specs.Prelude.{ℕ, suc, ◌≤◌, ◌<◌, ◌≡◌, Bool, true, false, ◌&&◌, cond, List, [], ◌∷◌, eqb, leb, ltb, length, get_or, take, drop}
-use Rattle.std.proofs.Math.Option.{Option, none, some}
+use Rattle.std.specs.Prelude.{ℕ, suc, ◌≤◌, ◌≡◌, Bool, true, false, ◌&&◌, cond, List, [], ◌∷◌, eqb, leb, ltb, length, get_or, take, drop, Option, None, Some}
+use Rattle.std.specs.Borrow.{Bor}
 use Rattle.text.specs.Table.{table_size}
 use Rattle.store.specs.Words.{store_size, world_of}
 use Rattle.record.specs.Characters.{line_feed}
 use Rattle.reporting.specs.Memory.{is_memory}
 use Rattle.text_form.specs.Cells.{until}
 use Rattle.text_form.specs.Lines.{maximum_line}
-use Rattle.text_form.specs.Reader.{Phase, first, later, ended, Reader, reader, Read, read, is_ended, columns_in, start, end_line, read_bytes, end_input, last_line}
+use Rattle.text_form.specs.Reader.{Phase, first, later, ended, Reader, reader, Read, read, is_ended, start, read_bytes, end_input}
 use Rattle.text_line.specs.Lines.{row_room}
 use Rattle.text_reader.specs.declared.Progress.{Progress}
 
@@ -23,7 +23,12 @@ phase_of phase columns = cond (eqb phase 0) first (cond (eqb phase 1) (later col
 
 -- a size past the greatest is a line that is too long
 abbrev pub line_of : ℕ → List ℕ → Option (List ℕ)
-line_of size line = cond (leb size maximum_line) (some (take size line)) none
+line_of size line = cond (leb size maximum_line) (Some (take size line)) None
+
+-- the bytes of a line that is lent, if there is one
+abbrev pub bytes_in : Option (Bor (List ℕ)) → Option (List ℕ)
+bytes_in None = None
+bytes_in (Some line) = Some line.now
 
 abbrev pub phase_in : List ℕ → Phase
 phase_in state = phase_of (get_or state 0 0) (column_words state)
@@ -50,14 +55,6 @@ is_reader words cells state line = is_memory words cells && (is_state state && e
 abbrev pub taken_of : Bool → List ℕ → ℕ
 taken_of true piece = 0
 taken_of false piece = cond (ltb (until line_feed piece) (length piece)) (suc (until line_feed piece)) (length piece)
-
--- a line is complete, of this size
-pub record LineEnded (words cells state line rows : List ℕ) (size : ℕ) (words' cells' state' rows' : List ℕ) (written : ℕ) : Type 0 where
-  pub reads : read (reader_of words' cells' state' line) (take written rows') ≡ end_line (reader (phase_in state) (get_or state 1 0) (line_of size line) (world_of words cells)) (phase_in state)
-  pub rest : drop written rows' ≡ drop written rows
-  pub fits : written ≤ length rows
-  pub memory : is_memory words' cells' ≡ true
-  pub columns : are_below 7 (column_words state') ≡ true
 
 -- the same as an answer and two words, for C
 abbrev pub progress_of : Bool → List ℕ → Progress
@@ -103,24 +100,3 @@ pub record Ended (words cells state line rows : List ℕ) (p : Progress) (words'
   pub takes : p.taken ≡ 0
   pub does : p.accepted ≡ true → Reads rows (end_input (reader_of words cells state line)) words' cells' state' line rows' p.written
   pub within : p.written ≤ length rows
-
--- Between the two: what `put_names` ensures of the state
-pub record NamesPut (state : List ℕ) (line : Option (List ℕ)) (r : Bool) (state' : List ℕ) : Type 0 where
-  pub found : r ≡ true → columns_in line ≡ some (column_words state')
-  pub broken : r ≡ false → (columns_in line ≡ none) × (state' ≡ state)
-  pub heads : (i : ℕ) → i < 3 → get_or state' i 0 ≡ get_or state i 0
-  pub below : are_below 7 (column_words state) ≡ true → are_below 7 (column_words state') ≡ true
-
--- what `read_piece` ensures of an accepted piece
-pub record PieceRead (words cells state line piece rows : List ℕ) (p : Progress) (words' cells' state' line' rows' : List ℕ) : Type 0 where
-  pub accepted : p.accepted ≡ true
-  pub takes : p.taken ≡ taken_of false piece
-  pub does : Reads rows (read_bytes (reader_of words cells state line) (take p.taken piece)) words' cells' state' line' rows' p.written
-
--- what `read_last` ensures, before the reader is closed
-pub record LastRead (words cells state line rows words' cells' state' rows' : List ℕ) (written : ℕ) : Type 0 where
-  pub reads : read (reader_of words' cells' state' line) (take written rows') ≡ last_line (reader_of words cells state line) (phase_in state)
-  pub rest : drop written rows' ≡ drop written rows
-  pub fits : written ≤ length rows
-  pub memory : is_memory words' cells' ≡ true
-  pub columns : are_below 7 (column_words state') ≡ true

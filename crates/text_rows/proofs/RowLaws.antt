@@ -1,11 +1,10 @@
 -- Runs of bytes written one after another, and the row that they make. Assumes nothing.
 use Prim.Native.Nat.{ℕ, ◌+◌, ◌*◌, ◌<◌, ◌≤◌}
-use native.Mathlib.Numerals.{add-one}
 use native.Mathlib.Omega.{arith}
 use mathlib.Core.Path.{◌≡◌, sym, ◌∙◌}
 use mathlib.Core.List.{List, [], ◌∷◌, ◌++◌, append_assoc, append-nil}
-use lib.ListN.{length, get_or, set, drop, length-append, drop_of_length-le}
-use lib.Seq.{sets, sets-eq, drop-cons}
+use lib.ListN.{length, set, length-append, drop_of_length-le}
+use lib.Seq.{sets, sets-eq}
 use Rattle.property.specs.declared.DescriptorObject.{DescriptorObject}
 use Rattle.record.specs.Descriptor.{descriptor_bytes}
 use Rattle.record.proofs.RoundTrip.{length-value}
@@ -13,13 +12,6 @@ use Rattle.record.specs.Characters.{space, line_feed, decimal, hexadecimal}
 use Rattle.byte_records.proofs.ByteLaws.{sets-append}
 use Rattle.text_form.specs.Rows.{row_of}
 use Rattle.text_rows.specs.Written.{Written, last_cell}
-
--- a copy, byte by byte
-pub copy-next : (l xs : List ℕ) (i : ℕ) → i < length xs → sets l i (drop i xs) ≡ sets (set l i (get_or xs i 0)) (i + 1) (drop (i + 1) xs)
-copy-next l xs i h = rw (drop-cons xs i 0 h, add-one i)
-
-pub copy-end : (l xs : List ℕ) (i : ℕ) → length xs ≤ i → sets l i (drop i xs) ≡ l
-copy-end l xs i h = rw (drop_of_length-le xs {i = i} h)
 
 -- all of a list replaced
 pub all_set : (xs l : List ℕ) → length l ≡ length xs → sets l 0 xs ≡ xs

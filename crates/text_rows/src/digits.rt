@@ -45,18 +45,16 @@ fn digit_for(n: u8) -> u8
 }
 
 // Two hexadecimal digits for each byte from `at` on; all other bytes stay. The place after them.
+// (The place is answered, so it is what is counted.)
 pub fn put_hexadecimal(out: &mut [u8], at: usize, bytes: &[u8]) -> usize
     requires { at + 2 * length bytes.now ≤ length out.old }
     ensures { (out.new ≡ sets out.old at (hexadecimal bytes.now)) × (result ≡ at + 2 * length bytes.now) }
 {
-    let mut next: usize = at;
-    let mut i: usize = 0;
-    while i < bytes.len() {
-        let b = bytes[i];
-        out[next] = digit_for(b / 16);
-        out[next + 1] = digit_for(b % 16);
+    let mut next = at;
+    for b in bytes {
+        out[next] = digit_for(*b / 16);
+        out[next + 1] = digit_for(*b % 16);
         next += 2;
-        i += 1;
     }
     next
 }

@@ -29,12 +29,8 @@ pub fn put_heading(rows: &mut [u8])
     requires { 40 ≤ length rows.old }
     ensures { rows.new ≡ sets rows.old 0 heading }
 {
-    let text = *b"line outcome number answers calls value\n";
-    let mut i: usize = 0;
-    while i < 40 {
-        rows[i] = text[i];
-        i += 1;
-    }
+    let heading = b"line outcome number answers calls value\n";
+    rows[..heading.len()].copy_from_slice(heading);
 }
 
 // A number and a space.

@@ -7,21 +7,36 @@ use property::{Property, PropertyDescriptor};
 use value::Value;
 
 // Step 6: what the descriptor makes of the property.
-pub fn applied(d: PropertyDescriptor, p: Property) -> Property
-    ensures { result ≡ applied d p }
+#[tactic(auto, unfolding(property::specs::Validate::applied))]
+pub fn applied(descriptor: PropertyDescriptor, current: Property) -> Property
+    ensures { result ≡ applied descriptor current }
 {
-    match p {
-        Property::Data(v, w, e, c) => {
-            if kinds::is_accessor_descriptor(d) {
-                return completion::accessor_with(d, Value::Undefined, Value::Undefined, e, c); // 6.a
+    match current {
+        Property::Data(value, writable, enumerable, configurable) => {
+            if kinds::is_accessor_descriptor(descriptor) {
+                completion::accessor_with(
+                    descriptor,
+                    Value::Undefined,
+                    Value::Undefined,
+                    enumerable,
+                    configurable,
+                ) // 6.a
+            } else {
+                completion::data_with(descriptor, value, writable, enumerable, configurable) // 6.c
             }
-            return completion::data_with(d, v, w, e, c); // 6.c
         }
-        Property::Accessor(g, s, e, c) => {
-            if kinds::is_data_descriptor(d) {
-                return completion::data_with(d, Value::Undefined, false, e, c); // 6.b
+        Property::Accessor(get, set, enumerable, configurable) => {
+            if kinds::is_data_descriptor(descriptor) {
+                completion::data_with(
+                    descriptor,
+                    Value::Undefined,
+                    false,
+                    enumerable,
+                    configurable,
+                ) // 6.b
+            } else {
+                completion::accessor_with(descriptor, get, set, enumerable, configurable) // 6.c
             }
-            return completion::accessor_with(d, g, s, e, c); // 6.c
         }
     }
 }

@@ -1,78 +1,50 @@
 // A descriptor as a property, and the merging of two.
 ghost use Rattle.std.specs.Prelude.{◌≡◌};
-ghost use Rattle.property.specs.Validate.{applied, data_of, accessor_of, property_of, unmergeable};
-ghost use Rattle.property.specs.Answers.{own_property, fill_with};
+ghost use Rattle.property.specs.Validate.{property_of, unmergeable};
+ghost use Rattle.property.specs.Answers.{fill_with};
 
 use crate::applying;
 use descriptors::kinds;
-use property::{DescriptorKind, Field, Filling, Flag, OwnProperty, Property, PropertyDescriptor};
-
-fn data_of(value: Field, writable: Flag, enumerable: Flag, configurable: Flag) -> OwnProperty
-    ensures { result ≡ own_property (data_of value writable enumerable configurable) }
-{
-    let Field::Present(v) = value else {
-        return OwnProperty::Absent;
-    };
-    let Flag::Present(w) = writable else {
-        return OwnProperty::Absent;
-    };
-    let Flag::Present(e) = enumerable else {
-        return OwnProperty::Absent;
-    };
-    let Flag::Present(c) = configurable else {
-        return OwnProperty::Absent;
-    };
-    OwnProperty::Present(Property::Data(v, w, e, c))
-}
-
-fn accessor_of(get: Field, set: Field, enumerable: Flag, configurable: Flag) -> OwnProperty
-    ensures { result ≡ own_property (accessor_of get set enumerable configurable) }
-{
-    let Field::Present(g) = get else {
-        return OwnProperty::Absent;
-    };
-    let Field::Present(s) = set else {
-        return OwnProperty::Absent;
-    };
-    let Flag::Present(e) = enumerable else {
-        return OwnProperty::Absent;
-    };
-    let Flag::Present(c) = configurable else {
-        return OwnProperty::Absent;
-    };
-    OwnProperty::Present(Property::Accessor(g, s, e, c))
-}
+use property::{DescriptorKind, Property, PropertyDescriptor};
 
 // The property that a descriptor is, if it has all the fields that its kind needs.
-pub fn property_of(d: PropertyDescriptor) -> OwnProperty
-    ensures { result ≡ own_property (property_of d) }
+#[tactic(auto, unfolding(property::specs::Validate::property_of))]
+pub fn property_of(descriptor: PropertyDescriptor) -> Option<Property>
+    ensures { result ≡ property_of descriptor }
 {
-    let enumerable = d.enumerable;
-    let configurable = d.configurable;
-    let k = d.kind;
-    match k {
-        DescriptorKind::Data(v, w) => data_of(v, w, enumerable, configurable),
-        DescriptorKind::Accessor(g, s) => accessor_of(g, s, enumerable, configurable),
-        DescriptorKind::Generic => OwnProperty::Absent,
+    match descriptor.kind {
+        DescriptorKind::Data(value, writable) => Some(Property::Data(
+            value?,
+            writable?,
+            descriptor.enumerable?,
+            descriptor.configurable?,
+        )),
+        DescriptorKind::Accessor(get, set) => Some(Property::Accessor(
+            get?,
+            set?,
+            descriptor.enumerable?,
+            descriptor.configurable?,
+        )),
+        DescriptorKind::Generic => None,
     }
 }
 
-fn is_unmergeable(current: Property, d: PropertyDescriptor) -> bool
-    ensures { result ≡ unmergeable current d }
+fn is_unmergeable(current: Property, descriptor: PropertyDescriptor) -> bool
+    ensures { result ≡ unmergeable current descriptor }
 {
     match current {
-        Property::Data(_, _, _, _) => kinds::is_accessor_descriptor(d),
-        Property::Accessor(_, _, _, _) => kinds::is_data_descriptor(d),
+        Property::Data(_, _, _, _) => kinds::is_accessor_descriptor(descriptor),
+        Property::Accessor(_, _, _, _) => kinds::is_data_descriptor(descriptor),
     }
 }
 
 // boa's fill_with, which panics where the two cannot be merged.
-pub fn fill_with(current: Property, d: PropertyDescriptor) -> Filling
-    ensures { result ≡ fill_with current d }
+#[tactic(auto, unfolding(property::specs::Answers::fill_with))]
+pub fn fill_with(current: Property, descriptor: PropertyDescriptor) -> Option<Property>
+    ensures { result ≡ fill_with current descriptor }
 {
-    if is_unmergeable(current, d) {
-        return Filling::Incompatible;
+    if is_unmergeable(current, descriptor) {
+        return None;
     }
-    let merged = applying::applied(d, current);
-    Filling::Filled(merged)
+    Some(applying::applied(descriptor, current))
 }

@@ -2,18 +2,15 @@
 ghost use Rattle.std.specs.Prelude.{◌≡◌};
 ghost use Rattle.property.specs.Validate.{is_accepted, test_number, failed_test, settled};
 
-use property::{OwnProperty, Validation, ValidationTest};
+use property::{Property, Validation, ValidationTest};
 
-pub fn is_accepted(v: Validation) -> bool
-    ensures { result ≡ is_accepted v }
+pub fn is_accepted(validation: Validation) -> bool
+    ensures { result ≡ is_accepted validation }
 {
-    match v {
-        Validation::Rejected(_) => false,
-        Validation::Unchanged => true,
-        Validation::Becomes(_) => true,
-    }
+    !matches!(validation, Validation::Rejected(_))
 }
 
+// By number, as `DescriptorsDecided` and C's verdict tell it.
 fn test_number(test: ValidationTest) -> u64
     ensures { result ≡ test_number test }
 {
@@ -30,23 +27,21 @@ fn test_number(test: ValidationTest) -> u64
 }
 
 // The first test that fails, 0 where it is accepted.
-pub fn failed_test(v: Validation) -> u64
-    ensures { result ≡ failed_test v }
+pub fn failed_test(validation: Validation) -> u64
+    ensures { result ≡ failed_test validation }
 {
-    match v {
+    match validation {
         Validation::Rejected(test) => test_number(test),
-        Validation::Unchanged => 0,
-        Validation::Becomes(_) => 0,
+        Validation::Unchanged | Validation::Becomes(_) => 0,
     }
 }
 
 // The property after validation.
-pub fn settled(current: OwnProperty, validation: Validation) -> OwnProperty
+pub fn settled(current: Option<Property>, validation: Validation) -> Option<Property>
     ensures { result ≡ settled current validation }
 {
     match validation {
-        Validation::Rejected(_) => current,
-        Validation::Unchanged => current,
-        Validation::Becomes(p) => OwnProperty::Present(p),
+        Validation::Rejected(_) | Validation::Unchanged => current,
+        Validation::Becomes(property) => Some(property),
     }
 }

@@ -4,5 +4,4 @@ pub mod SameKey
 pub mod Numbers
 pub mod Truth
 pub mod Missing
-pub mod Objects
 pub mod BitLaws

@@ -13,12 +13,6 @@ use Rattle.value.proofs.SameValue.{number-refl, number-eq}
 pub is-nan : (x : Float) → ne x x ≡ true → x ≡ nan
 is-nan x e = differs_from_itself x (subst T (sym e) tt)
 
-pub not-nan : (x : Float) → ne x x ≡ false → T (not (is_nan x))
-unfolding is_nan
-not-nan nan e = absurd (true≢false (sym nan_differs ∙ e))
-not-nan (inf s) e = tt
-not-nan (fin s m d) e = tt
-
 nan_same : (y : Float) (b : Bool) → ne y y ≡ b → b ≡ same_number nan y
 unfolding same_number
 nan_same nan true e = refl

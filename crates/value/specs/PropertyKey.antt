@@ -1,6 +1,5 @@
 -- ECMA-262 6.1.7 property keys: a string or a symbol. Equal strings have one number. Assumes nothing.
-use Rattle.std.specs.Prelude.{ℕ, Bool, true, false, eqb}
-use Rattle.std.proofs.Math.Option.{Option, none, some}
+use Rattle.std.specs.Prelude.{ℕ, Bool, true, false, eqb, Option, None, Some}
 use Rattle.value.specs.declared.Value.{Value}
 use Rattle.value.specs.declared.Value.TheVariants as value
 use Rattle.value.specs.declared.PropertyKey.{PropertyKey}
@@ -24,12 +23,12 @@ key_value (Symbol s) = value.Symbol s
 
 -- the key that a value is, if it is a string or a symbol
 abbrev pub key_of : Value → Option PropertyKey
-key_of value.Undefined = none
-key_of value.Null = none
-key_of (value.Boolean b) = none
-key_of (value.Integer32 n) = none
-key_of (value.Float64 x) = none
-key_of (value.String s) = some (String s)
-key_of (value.Symbol s) = some (Symbol s)
-key_of (value.Object o) = none
-key_of (value.Function f) = none
+key_of value.Undefined = None
+key_of value.Null = None
+key_of (value.Boolean b) = None
+key_of (value.Integer32 n) = None
+key_of (value.Float64 x) = None
+key_of (value.String s) = Some (String s)
+key_of (value.Symbol s) = Some (Symbol s)
+key_of (value.Object o) = None
+key_of (value.Function f) = None

@@ -1,7 +1,6 @@
 -- ECMA-262 6.1 language values: 7.2.11 SameValue and 7.1.2 ToBoolean. Assumes nothing.
-use Rattle.std.specs.Prelude.{ℕ, Bool, true, false, not, ◌&&◌, cond, eqb, ℤ, pos, negsuc, Float}
+use Rattle.std.specs.Prelude.{ℕ, Bool, true, false, not, ◌&&◌, cond, eqb, ℤ, pos, negsuc, Float, Option, None, Some}
 use Rattle.std.specs.Bool.{beq}
-use Rattle.std.proofs.Math.Option.{Option, none, some}
 use Rattle.std.specs.Float.{nan, inf, fin, binary64}
 use Rattle.std.specs.Float.Ieee.{of_int, of_bits}
 use Rattle.value.specs.declared.Value.{Value}
@@ -100,12 +99,12 @@ is_callable v = eqb (type_of v) 7
 
 -- the object of the store that a value names, as 6.1.7 counts functions among the objects
 abbrev pub object_of : Value → Option ℕ
-object_of Undefined = none
-object_of Null = none
-object_of (Boolean b) = none
-object_of (Integer32 n) = none
-object_of (Float64 x) = none
-object_of (String s) = none
-object_of (Symbol s) = none
-object_of (Object o) = some o
-object_of (Function f) = some f
+object_of Undefined = None
+object_of Null = None
+object_of (Boolean b) = None
+object_of (Integer32 n) = None
+object_of (Float64 x) = None
+object_of (String s) = None
+object_of (Symbol s) = None
+object_of (Object o) = Some o
+object_of (Function f) = Some f

@@ -20,20 +20,6 @@ pub enum PropertyKey {
     Symbol(u64),
 }
 
-// The key that a value is, if it is one.
-#[derive(Clone, Copy)]
-pub enum KeyResult {
-    Key(PropertyKey),
-    NotKey,
-}
-
-// The object of the store that a value names, if it names one.
-#[derive(Clone, Copy)]
-pub enum ObjectResult {
-    Object(u64),
-    NotObject,
-}
-
 // A value as two numbers.
 #[derive(Clone, Copy)]
 pub struct Words {

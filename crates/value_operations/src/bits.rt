@@ -1,4 +1,4 @@
-// The bits of a number: which are set, what one adds to it, the number with one that is given, and a byte as a word.
+// The bits of a number: which are set, what one adds to it, and the number with one that is given.
 ghost use Rattle.std.specs.Prelude.{◌≡◌, ◌<◌, ◌≤◌};
 ghost use Rattle.value.specs.Bits.{bit, weight, with_bit};
 
@@ -6,10 +6,7 @@ ghost use Rattle.value.specs.Bits.{bit, weight, with_bit};
 pub fn bit(word: u64, i: u64) -> bool
     ensures { result ≡ bit word i }
 {
-    if i < 64 {
-        return (word >> i) % 2 == 1;
-    }
-    false
+    i < 64 && (word >> i) % 2 == 1
 }
 
 // What a bit adds to its number.
@@ -27,11 +24,4 @@ pub fn with_bit(word: u64, i: u64, b: bool) -> u64
     let place = 1 << i;
     let next = i + 1;
     word % place + weight(b, place) + ((word >> next) << next)
-}
-
-// A byte as a word.
-pub fn wide(b: u8) -> u64
-    ensures { (result ≡ b) × (result < 256) }
-{
-    b as u64
 }

@@ -8,28 +8,19 @@ use value::Value;
 fn same_number(x: f64, y: f64) -> bool
     ensures { result ≡ same_number x y }
 {
-    if x != x {
-        return y != y;
+    if x.is_nan() {
+        return y.is_nan();
     }
-    if y != y {
-        return false;
-    }
-    f64::to_bits(x) == f64::to_bits(y)
+    !y.is_nan() && x.to_bits() == y.to_bits()
 }
 
 fn number_of(v: Value) -> f64
     ensures { result ≡ number_of v }
 {
     match v {
-        Value::Undefined => 0.0,
-        Value::Null => 0.0,
-        Value::Boolean(_) => 0.0,
-        Value::Integer32(n) => n as f64,
+        Value::Integer32(n) => f64::from(n),
         Value::Float64(x) => x,
-        Value::String(_) => 0.0,
-        Value::Symbol(_) => 0.0,
-        Value::Object(_) => 0.0,
-        Value::Function(_) => 0.0,
+        _ => 0.0,
     }
 }
 
@@ -37,19 +28,14 @@ fn id_of(v: Value) -> u64
     ensures { result ≡ id_of v }
 {
     match v {
-        Value::Undefined => 0,
-        Value::Null => 0,
-        Value::Boolean(b) => if b { 1 } else { 0 },
-        Value::Integer32(_) => 0,
-        Value::Float64(_) => 0,
-        Value::String(s) => s,
-        Value::Symbol(s) => s,
-        Value::Object(o) => o,
-        Value::Function(f) => f,
+        Value::Undefined | Value::Null | Value::Integer32(_) | Value::Float64(_) => 0,
+        Value::Boolean(b) => u64::from(b),
+        Value::String(n) | Value::Symbol(n) | Value::Object(n) | Value::Function(n) => n,
     }
 }
 
 // 7.2.11 SameValue
+#[inline(always)]
 pub fn same_value(a: Value, b: Value) -> bool
     ensures { result ≡ same_value a b }
 {

@@ -1,19 +1,19 @@
 // What a value is: its language type, ToBoolean, IsCallable, and the object that it may be.
 // equality: SameValue. keys: values as property keys, and back. encoding: values as kind and payload, and back.
-// bits: the weight of a bit, and a byte as a word.
+// bits: which bit is set, and what a bit weighs.
 #![tactic(auto)]
 
 ghost use Rattle.std.specs.Prelude.{◌≡◌, not, ◌&&◌, ℕ};
 ghost use Rattle.value.specs.Value.{type_of, to_boolean, is_undefined, is_callable, object_of, is_zero, is_not_a_number};
-ghost use Rattle.value.specs.Answers.{object_result};
 
-use value::{ObjectResult, Value};
+use value::Value;
 
 pub mod bits;
 pub mod encoding;
 pub mod equality;
 pub mod keys;
 
+// By number, as the definition has it: types are only compared.
 pub fn type_of(v: Value) -> u64
     ensures { result ≡ type_of v }
 {
@@ -21,8 +21,7 @@ pub fn type_of(v: Value) -> u64
         Value::Undefined => 0,
         Value::Null => 1,
         Value::Boolean(_) => 2,
-        Value::Integer32(_) => 3,
-        Value::Float64(_) => 3,
+        Value::Integer32(_) | Value::Float64(_) => 3,
         Value::String(_) => 4,
         Value::Symbol(_) => 5,
         Value::Object(_) => 6,
@@ -33,48 +32,42 @@ pub fn type_of(v: Value) -> u64
 fn number_to_boolean(x: f64) -> bool
     ensures { result ≡ (not (is_zero x) && not (is_not_a_number x)) }
 {
-    if x != x {
-        return false;
-    }
-    x != 0.0
+    !x.is_nan() && x != 0.0
 }
 
 // 7.1.2 ToBoolean; `length` is the length of the string that v is, if it is one.
+#[tactic(auto, unfolding(value::specs::Value::to_boolean))]
 pub fn to_boolean(v: Value, length: usize) -> bool
     ensures { result ≡ to_boolean (λ (_ : ℕ). length) v }
 {
     match v {
-        Value::Undefined => false,
-        Value::Null => false,
+        Value::Undefined | Value::Null => false,
         Value::Boolean(b) => b,
         Value::Integer32(n) => n != 0,
         Value::Float64(x) => number_to_boolean(x),
         Value::String(_) => length != 0,
-        Value::Symbol(_) => true,
-        Value::Object(_) => true,
-        Value::Function(_) => true,
+        Value::Symbol(_) | Value::Object(_) | Value::Function(_) => true,
     }
 }
 
 pub fn is_undefined(v: Value) -> bool
     ensures { result ≡ is_undefined v }
 {
-    type_of(v) == 0
+    matches!(v, Value::Undefined)
 }
 
 // 7.2.3 IsCallable
 pub fn is_callable(v: Value) -> bool
     ensures { result ≡ is_callable v }
 {
-    type_of(v) == 7
+    matches!(v, Value::Function(_))
 }
 
-pub fn object_of(v: Value) -> ObjectResult
-    ensures { result ≡ object_result (object_of v) }
+pub fn object_of(v: Value) -> Option<u64>
+    ensures { result ≡ (object_of v) }
 {
     match v {
-        Value::Object(o) => ObjectResult::Object(o),
-        Value::Function(f) => ObjectResult::Object(f),
-        _ => ObjectResult::NotObject,
+        Value::Object(o) | Value::Function(o) => Some(o),
+        _ => None,
     }
 }

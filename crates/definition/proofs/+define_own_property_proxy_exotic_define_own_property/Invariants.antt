@@ -1,4 +1,3 @@
--- [[DefineOwnProperty]] of both kinds is what the definitions say, and its write is one that the words can take. Assumes nothing.
 use Prim.Native.Nat.{◌+◌, ◌*◌}
 use Rattle.definition.proofs.+define_own_property_proxy_exotic_define_own_property.Given as goal
 

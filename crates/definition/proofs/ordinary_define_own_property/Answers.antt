@@ -1,22 +1,25 @@
--- 10.1.6.1: what an ordinary object tells is what the store has, so that the write is the definition's. Assumes nothing.
+use Rattle.std.specs.Prelude.{Option}
 use mathlib.Core.Path.{sym, ap, ◌∙◌}
-use Rattle.internal_methods.specs.Monad.{pure, fails, next, ◌>>=◌}
-use Rattle.internal_methods.specs.Ordinary.{ordinary_define_own_property}
-use Rattle.calls.specs.Outs.{context, out_own_property}
-use Rattle.definition.proofs.DefineLaws.{ordinary-below, ordinary-own, same_write}
+use Rattle.property.specs.declared.Validation.{Validation}
+use Rattle.property.specs.Validate.{validate}
+use Rattle.store.specs.Store.{own}
+use Rattle.store.specs.Words.{store_of}
+use Rattle.internal_methods.specs.Monad.{next, ◌>>=◌}
+use Rattle.internal_methods.specs.Ordinary.{apply_validation, ordinary_define_own_property}
+use Rattle.calls.specs.Outs.{context_of, state_of}
+use Rattle.definition.proofs.DefineLaws.{ordinary_own}
 use Rattle.definition.proofs.ordinary_define_own_property.Goals as goal
+use Rattle.property.specs.declared.Property.{Property}
 
-pub apply_validation-requires : goal.apply_validation-requires
-apply_validation-requires c = (c.requires.0.readable.store, (record { owner = ordinary-below c.args.words.now c.args.o c.requires.1; number = c.requires.0.number }, c.requires.0.limit))
-
-pub returns-in-Failed : goal.returns-in-Failed
-unfolding pure fails next ◌>>=◌ ordinary_define_own_property
-returns-in-Failed c = record { result_value = rw (sym c.get_own_property.ensures, c.in-Failed.is); fitting = tt }
-
-pub returns-in-Failed-is_extensible : goal.returns-in-Failed-is_extensible
-unfolding pure fails next ◌>>=◌ ordinary_define_own_property
-returns-in-Failed-is_extensible c = record { result_value = rw (sym c.get_own_property.ensures, c.in-Done.is, sym c.is_extensible.ensures, c.in-Failed-is_extensible.is); fitting = tt }
-
-pub returns-in-Done-is_extensible : goal.returns-in-Done-is_extensible
-unfolding pure fails next ◌>>=◌ ordinary_define_own_property
-returns-in-Done-is_extensible c = record { result_value = rw (sym c.get_own_property.ensures, c.in-Done.is, sym c.is_extensible.ensures, c.in-Done-is_extensible.is) (c.apply_validation.ensures.by_index _ _ ∙ same_write _ _ _ _ _ _ _ _ (ordinary-own (context c.args.words.now c.args.strings.now c.args.allowance) c.args.sheet.now c.args.o c.args.key _ _ c.args.s c.args.depth c.requires.1 (sym c.get_own_property.ensures ∙ ap (out_own_property c.args.sheet.now) c.in-Done.is)) c.validate-v.ensures); fitting = c.apply_validation.ensures.fitting }
+pub returns-clause-result_value : goal.returns-clause-result_value
+unfolding ordinary_define_own_property ◌>>=◌ next
+returns-clause-result_value c =
+    let a = c.args in
+    let read = context_of a.run.now in
+    let current = c.in_ok-current.current in
+    let s = state_of a.run.now.sheet.now c.is_extensible.new.progress in
+    let told = ordinary_own read a.o a.key c.requires.found current _ a.depth _ (rw c.in_ok-current.was at c.get_own_property.ensures) in
+    rw (sym c.get_own_property.ensures, c.in_ok-current.was, sym c.is_extensible.ensures, c.in_ok-extensible.was)
+    (c.apply_validation.ensures.result_value _ _ _
+    ∙ ap (λ (v : Validation). (apply_validation read a.o a.key (own (store_of a.run.now.store.words.now) a.o a.key) v).run s) c.validate-v.ensures
+    ∙ ap (λ (p : Option Property). (apply_validation read a.o a.key p (validate c.in_ok-extensible.extensible a.d current)).run s) told)

@@ -1,4 +1,3 @@
--- [[Delete]] meets its contract: each path goes on as the definition does once `enter` or the trap has answered. Assumes nothing.
 use Prim.Native.Nat.{◌+◌, ◌*◌}
 use Rattle.deletion.proofs.+delete_proxy_exotic_delete.Given as goal
 

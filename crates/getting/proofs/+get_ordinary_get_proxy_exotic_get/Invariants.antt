@@ -1,6 +1,4 @@
--- [[Get]] is what its definition says: it cycles between both kinds of object, calls left falling. Assumes nothing.
 use Prim.Native.Nat.{◌+◌, ◌*◌}
-use Rattle.internal_methods.specs.Ordinary.{ordinary_get}
 use Rattle.getting.proofs.+get_ordinary_get_proxy_exotic_get.Given as goal
 
 abbrev pub decreases-get : goal.decreases-get

@@ -1,6 +1,4 @@
--- [[HasProperty]] is what its definition says: it cycles between both kinds of object, calls left falling. Assumes nothing.
 use Prim.Native.Nat.{◌+◌, ◌*◌}
-use Rattle.internal_methods.specs.Ordinary.{ordinary_has_property}
 use Rattle.has_property.proofs.+has_property_ordinary_has_property_proxy_exotic_has_property.Given as goal
 
 abbrev pub decreases-has_property : goal.decreases-has_property

@@ -1,33 +1,27 @@
-use mathlib.Core.Path.{sym, ◌∙◌}
+use mathlib.Core.Path.{sym}
 use Rattle.record.specs.Step.{step_of}
-use Rattle.calls.specs.Outs.{context}
+use Rattle.calls.specs.Outs.{context_of}
 use Rattle.steps.specs.Operation.{operation_of}
 use Rattle.steps.specs.Perform.{maximum_calls}
-use Rattle.performing.proofs.CreationLaws.{object-made, function-made, proxy-made, proxy-revoked, object-released, last-creation}
-use borrow.Author.Tests.{eq-eqb}
+use Rattle.performing.proofs.CreationLaws.{object_made, function_made, proxy_made, proxy_revoked, object_released, last_creation}
 use Rattle.performing.proofs.perform_creation.Goals as goal
 
-pub release-requires : goal.release-requires
-release-requires c = let q = c.requires.0 in
-    let code = sym c.wide-code.ensures.0 ∙ c.in-17.is in
-    (q.readable.store, rw c.wide-o.ensures.0 (q.live (eq-eqb _ _ code)))
-
-pub returns-in-1 : goal.returns-in-1
+pub returns-in-1-clause-result_value : goal.returns-in-1-clause-result_value
 unfolding step_of operation_of
-returns-in-1 c = record { result_value = rw (c.make_object.ensures.value, sym c.wide-code.ensures.0 ∙ c.in-1.is, sym c.value_at-v.ensures) (object-made c.args.sheet.now c.args.s maximum_calls (context c.args.words.now c.args.strings.now c.args.allowance) _); taken = c.make_object.ensures.taken }
+returns-in-1-clause-result_value c s = rw (c.make_object.ensures.value, c.in-1.is, sym c.value_at-v.ensures) (object_made c.args.run.now.sheet.now s maximum_calls (context_of c.args.run.now) _)
 
-pub returns-in-2 : goal.returns-in-2
+pub returns-in-2-clause-result_value : goal.returns-in-2-clause-result_value
 unfolding step_of operation_of
-returns-in-2 c = record { result_value = rw (c.make_proxy.ensures.value, sym c.wide-code.ensures.0 ∙ c.in-2.is, sym c.wide-o.ensures.0, sym c.value_at-v.ensures) (proxy-made c.args.sheet.now c.args.s maximum_calls (context c.args.words.now c.args.strings.now c.args.allowance) _ c.value_at-v.result); taken = c.make_proxy.ensures.taken }
+returns-in-2-clause-result_value c s = rw (c.make_proxy.ensures.value, c.from-o.ensures, c.in-2.is, sym c.value_at-v.ensures) (proxy_made c.args.run.now.sheet.now s maximum_calls (context_of c.args.run.now) _ c.value_at-v.result)
 
-pub returns-in-3 : goal.returns-in-3
+pub returns-in-3-clause-result_value : goal.returns-in-3-clause-result_value
 unfolding step_of operation_of
-returns-in-3 c = record { result_value = rw (c.revoke.ensures.value, sym c.wide-code.ensures.0 ∙ c.in-3.is, sym c.wide-o.ensures.0) (proxy-revoked c.args.sheet.now c.args.s maximum_calls (context c.args.words.now c.args.strings.now c.args.allowance) _); taken = c.revoke.ensures.taken }
+returns-in-3-clause-result_value c s = rw (c.revoke.ensures.value, c.from-o.ensures, c.in-3.is) (proxy_revoked c.args.run.now.sheet.now s maximum_calls (context_of c.args.run.now) _)
 
-pub returns-in-17 : goal.returns-in-17
+pub returns-in-17-clause-result_value : goal.returns-in-17-clause-result_value
 unfolding step_of operation_of
-returns-in-17 c = let a = c.args in record { result_value = rw (c.release.ensures.value, sym c.wide-code.ensures.0 ∙ c.in-17.is, sym c.wide-o.ensures.0) (object-released a.sheet.now a.s maximum_calls (context a.words.now a.strings.now a.allowance) _); taken = c.release.ensures.taken }
+returns-in-17-clause-result_value c s = rw (c.release.ensures.value, c.from-o.ensures, c.in-17.is) (object_released c.args.run.now.sheet.now s maximum_calls (context_of c.args.run.now) _)
 
-pub returns-in_default : goal.returns-in_default
+pub returns-in_default-clause-result_value : goal.returns-in_default-clause-result_value
 unfolding step_of operation_of
-returns-in_default c = let a = c.args in let code = c.wide-code.ensures.0 in let last = last-creation _ (rw code c.requires.1.1) (rw code c.requires.1.0) c.in_default.in_default-own.rest.0.0.0.1 c.in_default.in_default-own.rest.0.0.1 c.in_default.in_default-own.rest.0.1 c.in_default.in_default-own.rest.1 in record { result_value = rw (c.make_object-in_default.ensures.value, sym c.wide-code.ensures.0 ∙ last, sym c.value_at-v.ensures) (function-made a.sheet.now a.s maximum_calls (context a.words.now a.strings.now a.allowance) _); taken = c.make_object-in_default.ensures.taken }
+returns-in_default-clause-result_value c s = let last = last_creation _ c.requires.1.1 c.requires.1.0 c.in_default.in_default-own.rest.0.0.0.1 c.in_default.in_default-own.rest.0.0.1 c.in_default.in_default-own.rest.0.1 c.in_default.in_default-own.rest.1 in rw (c.make_object-in_default.ensures.value, last, sym c.value_at-v.ensures) (function_made c.args.run.now.sheet.now s maximum_calls (context_of c.args.run.now) _)

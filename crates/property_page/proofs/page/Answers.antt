@@ -1,35 +1,27 @@
-use mathlib.Core.Path.{sym, ap, ◌∙◌}
-use mathlib.Core.Option.{some}
-use Rattle.store.specs.Words.{store_of}
-use Rattle.store.specs.Store.{lookup}
-use Rattle.calls.proofs.EnterLaws.{objectless, objectful}
+use mathlib.Core.Path.{sym, ◌∙◌}
 use Rattle.reporting.specs.Memory.{page_over}
-use Rattle.reporting.proofs.ContractLaws.{store_is}
+use Rattle.reporting.proofs.ContractLaws.{store_is, table_is}
 use Rattle.steps.specs.Page.{property_page}
 use Rattle.property_page.proofs.page.Goals as goal
 
-pub object_at-requires : goal.object_at-requires
-object_at-requires c = store_is c.args.words.now c.args.strings.now (sym c.is_memory.ensures ∙ c.if-is_memory.true)
+pub invariant_of-store : goal.invariant_of-store
+invariant_of-store c = record { valid = store_is c.args.words.now c.args.strings.now (sym c.is_memory.ensures ∙ c.if-not-is_memory.false) }
 
-pub returns-in-Missing : goal.returns-in-Missing
+pub returns-in-None : goal.returns-in-None
 unfolding page_over property_page
-returns-in-Missing c = record { shows = rw (c.refused.ensures, sym c.is_memory.ensures ∙ c.if-is_memory.true, objectless (lookup (store_of c.args.words.now) c.args.o) (sym c.object_at.ensures ∙ c.in-Missing.is)) }
+returns-in-None c = record { shows = rw (c.refused-in-None.ensures, sym c.is_memory.ensures ∙ c.if-not-is_memory.false, sym c.object_at.ensures ∙ c.in-None.is) }
 
 pub put_page-requires : goal.put_page-requires
-put_page-requires c = record {
-  memory = sym c.is_memory.ensures ∙ c.if-is_memory.true;
-  object = _;
-  found = objectful (lookup (store_of c.args.words.now) c.args.o) _ (sym c.object_at.ensures ∙ c.in-Made.is) ∙ ap some c.in-Ordinary.is;
-}
+put_page-requires c = record { table = table_is c.args.words.now c.args.strings.now (sym c.is_memory.ensures ∙ c.if-not-is_memory.false); object = c.in-Some-Ordinary.field-0-0; found = rw c.in-Some-Ordinary.field-0-is at (sym c.object_at.ensures ∙ c.in-Some-Ordinary.is) }
 
-pub returns-in-Ordinary : goal.returns-in-Ordinary
+pub returns-in-Some-Ordinary : goal.returns-in-Some-Ordinary
 unfolding page_over property_page
-returns-in-Ordinary c = record { shows = rw (sym c.is_memory.ensures ∙ c.if-is_memory.true, objectful (lookup (store_of c.args.words.now) c.args.o) _ (sym c.object_at.ensures ∙ c.in-Made.is), c.in-Ordinary.is) c.put_page.ensures }
+returns-in-Some-Ordinary c = record { shows = rw (sym c.is_memory.ensures ∙ c.if-not-is_memory.false, sym c.object_at.ensures ∙ c.in-Some-Ordinary.is, c.in-Some-Ordinary.field-0-is) c.put_page.ensures }
 
-pub returns-in-Proxy : goal.returns-in-Proxy
+pub returns-in-Some-Proxy : goal.returns-in-Some-Proxy
 unfolding page_over property_page
-returns-in-Proxy c = record { shows = rw (c.refused-in-Proxy.ensures, sym c.is_memory.ensures ∙ c.if-is_memory.true, objectful (lookup (store_of c.args.words.now) c.args.o) _ (sym c.object_at.ensures ∙ c.in-Made.is), c.in-Proxy.is) }
+returns-in-Some-Proxy c = record { shows = rw (c.refused-in-Some-Proxy.ensures, sym c.is_memory.ensures ∙ c.if-not-is_memory.false, sym c.object_at.ensures ∙ c.in-Some-Proxy.is, c.in-Some-Proxy.field-0-is) }
 
-pub returns : goal.returns
+pub returns-then-not-is_memory : goal.returns-then-not-is_memory
 unfolding page_over
-returns c = record { shows = rw (c.refused-2.ensures, sym c.is_memory.ensures ∙ c.if-is_memory.false) }
+returns-then-not-is_memory c = record { shows = rw (c.refused.ensures, sym c.is_memory.ensures ∙ c.if-not-is_memory.true) }

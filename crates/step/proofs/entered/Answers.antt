@@ -1,7 +1,8 @@
+use mathlib.Core.Path.{sym}
 use Rattle.step.proofs.entered.Goals as goal
 
-pub returns-in-Refused : goal.returns-in-Refused
-returns-in-Refused c = rw c.in-Refused.is c.refused.ensures
+pub returns-in-Err : goal.returns-in-Err
+returns-in-Err c = rw (c.in-Err.is, sym c.refusal_number.ensures) c.refused.ensures
 
-pub returns-in-Entered : goal.returns-in-Entered
-returns-in-Entered c = rw c.in-Entered.is
+pub returns-in-Ok : goal.returns-in-Ok
+returns-in-Ok c = rw c.in-Ok.is

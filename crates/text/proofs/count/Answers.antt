@@ -9,7 +9,7 @@ bounds-cells-0 c = omega (arith, table-size _ (sym c.is_table.ensures ∙ c.if-i
 
 pub returns-then-is_table : goal.returns-then-is_table
 unfolding count_answer
-returns-then-is_table c = rw (sym c.is_table.ensures ∙ c.if-is_table.true, length-strings, c.wide.ensures)
+returns-then-is_table c = rw (sym c.is_table.ensures ∙ c.if-is_table.true, length-strings, c.from.ensures)
 
 pub returns-else-is_table : goal.returns-else-is_table
 unfolding count_answer

@@ -8,9 +8,6 @@ use Rattle.benchmark_store.proofs.conditions.is_addable.Goals as goal
 pub bounds-words-1 : goal.bounds-words-1
 bounds-words-1 c = let s = sized _ (sym c.is_store.ensures ∙ c.if-is_store.true) in omega arith
 
-pub is_new-requires : goal.is_new-requires
-is_new-requires c = sym c.is_store.ensures ∙ c.if-is_store.true
-
 pub returns-then-is_joined : goal.returns-then-is_joined
 unfolding is_addable
 returns-then-is_joined c = rw (sym c.is_store.ensures ∙ c.if-is_store.true, lt-ltb _ _ c.if-words-lt256.true, sym c.is_joined.ensures ∙ c.if-is_joined.true) c.is_new.ensures

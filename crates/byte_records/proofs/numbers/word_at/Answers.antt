@@ -1,6 +1,6 @@
-use native.Mathlib.Omega.{arith}
-use Rattle.byte_records.proofs.ByteLaws.{word_of}
+use mathlib.Core.Path.{◌∙◌}
+use Rattle.byte_records.proofs.ByteLaws.{word-of}
 use Rattle.byte_records.proofs.numbers.word_at.Goals as goal
 
 pub returns : goal.returns
-returns c = rw (word_of _ _) (omega arith)
+returns c = c.from_le_bytes.ensures ∙ word-of c.args.bytes.now c.args.at

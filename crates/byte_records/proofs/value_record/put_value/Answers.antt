@@ -1,17 +1,10 @@
-use Rattle.record.specs.Bytes.{value_bytes}
-use lib.ListN.{length, length-set}
-use lib.Seq.{length-sets}
-use mathlib.Core.Path.{◌∙◌, ap}
-use native.Mathlib.Numerals.{add-one}
 use native.Mathlib.Omega.{arith}
+use mathlib.Core.Path.{◌∙◌}
+use Rattle.record.specs.Bytes.{value_bytes}
+use Rattle.byte_records.proofs.ByteLaws.{store-words}
 use Rattle.byte_records.proofs.value_record.put_value.Goals as goal
-
-pub put_word-requires : goal.put_word-requires
-put_word-requires c = simp length-set (omega arith)
-
-pub shape_of-out : goal.shape_of-out
-shape_of-out c = ap length c.put_word.ensures ∙ simp (length-sets, length-set)
 
 pub returns : goal.returns
 unfolding value_bytes
-returns c = c.put_word.ensures ∙ rw (add-one, c.words_of-w.ensures.0, c.words_of-w.ensures.1.0)
+returns c = store-words c.args.out.now _ c.args.at _ _ _ (c.copy_from_slice.ensures.after ∙ c.to_le_bytes.ensures) (omega arith) c.requires
+    ∙ rw (c.words_of-kind.ensures.0, c.words_of-kind.ensures.1.0)

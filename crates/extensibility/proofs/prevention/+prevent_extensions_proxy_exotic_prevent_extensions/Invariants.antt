@@ -1,4 +1,3 @@
--- [[PreventExtensions]] meets its contract: each path goes on as the definition does once `enter` or the trap has answered. Assumes nothing.
 use Prim.Native.Nat.{◌+◌, ◌*◌}
 use Rattle.extensibility.proofs.prevention.+prevent_extensions_proxy_exotic_prevent_extensions.Given as goal
 

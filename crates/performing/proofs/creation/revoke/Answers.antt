@@ -1,12 +1,6 @@
-use Rattle.performing.proofs.CreationLaws.{revocation-fits}
-use mathlib.Core.Path.{refl, sym, ◌∙◌}
-use Rattle.store.specs.Store.{lookup}
-use Rattle.store.specs.Words.{store_of}
-use Rattle.calls.proofs.EnterLaws.{objectless, objectful}
+use mathlib.Core.Path.{sym, ◌∙◌}
+use Rattle.performing.proofs.CreationLaws.{revocation_fits}
 use Rattle.performing.proofs.creation.revoke.Goals as goal
 
-pub returns-in-Missing : goal.returns-in-Missing
-returns-in-Missing c = record { value = rw (objectless (lookup (store_of c.args.words.now) c.args.o) (sym c.object_at.ensures ∙ c.in-Missing.is)); taken = (record { store = c.requires; bounds = tt }, refl) }
-
-pub returns-in-Made : goal.returns-in-Made
-returns-in-Made c = let found = objectful (lookup (store_of c.args.words.now) c.args.o) _ (sym c.object_at.ensures ∙ c.in-Made.is) in record { value = rw (found, c.revocation.ensures); taken = (rw c.revocation.ensures (revocation-fits c.args.words.now c.args.o _ c.requires found), refl) }
+pub returns-in-Some-clause-fits : goal.returns-in-Some-clause-fits
+returns-in-Some-clause-fits c = rw c.revocation-write.ensures (revocation_fits c.args.store.words.now c.args.o _ c.args.store.valid (sym c.object_at.ensures ∙ c.in-Some.is))

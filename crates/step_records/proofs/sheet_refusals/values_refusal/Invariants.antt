@@ -1,11 +1,7 @@
-use Prim.Native.Nat.{◌*◌, ◌+◌, ◌≤◌}
+use Prim.Native.Nat.{◌*◌, ◌+◌, ◌-◌, ◌≤◌, min}
 use mathlib.Core.Path.{◌≡◌}
-use lib.ListN.{length}
-use Rattle.step_records.specs.Refusals.{earlier, values_refusal}
+use Rattle.step_records.specs.Refusals.{values_refusal}
 use Rattle.step_records.proofs.sheet_refusals.values_refusal.Given as goal
 
-abbrev pub invariant-loop-left : goal.invariant-loop-left
-invariant-loop-left l = (l.i + 9 * l.left ≤ length l.bytes) × ((l.found ≤ 4) × (values_refusal l.counts l.bytes l.at l.n ≡ earlier l.found (values_refusal l.counts l.bytes l.i l.left)))
-
-abbrev pub decreases-loop-left : goal.decreases-loop-left
-decreases-loop-left l = l.left
+abbrev pub invariant-loop-i : goal.invariant-loop-i
+invariant-loop-i l = (l.found ≤ 4) × (values_refusal l.counts l.bytes l.at l.n ≡ min l.found (values_refusal l.counts l.bytes (l.at + 9 * l.i) (l.n - l.i)))

@@ -1,7 +1,5 @@
-use Prim.Native.Nat.{◌≤◌, ◌-◌}
 use mathlib.Core.Path.{◌≡◌}
 use mathlib.Core.List.{map}
-use lib.ListN.{length}
 use Rattle.text.specs.Strings.{number_of}
 use Rattle.text_form.specs.Cells.{cells_of}
 use Rattle.text_form.specs.Lines.{names, all_of}
@@ -9,9 +7,4 @@ use Rattle.text_cells.proofs.NameLaws.{columns_from}
 use Rattle.text_cells.proofs.names.put_columns.Given as goal
 
 abbrev pub invariant-loop-name : goal.invariant-loop-name
-invariant-loop-name l = (l.name ≤ 7)
-    × (length l.columns ≡ 7)
-    × (all_of (map (number_of (cells_of l.line)) names) ≡ columns_from (number_of (cells_of l.line)) names l.columns l.name)
-
-abbrev pub decreases-loop-name : goal.decreases-loop-name
-decreases-loop-name l = 7 - l.name
+invariant-loop-name l = all_of (map (number_of (cells_of l.line)) names) ≡ columns_from (number_of (cells_of l.line)) names l.columns l.name

@@ -1,14 +1,10 @@
-use mathlib.Core.Path.{refl}
+use mathlib.Core.Path.{refl, sym, ◌∙◌}
 use denote.Floats.{passes}
-use Rattle.value.proofs.Numbers.{not-nan}
 use Rattle.value_operations.proofs.FloatWords.{nan-word, word_back}
 use Rattle.value_operations.proofs.encoding.float_word.Goals as goal
 
-pub float_to_bits-result : goal.float_to_bits-result
-float_to_bits-result c = not-nan _ c.if-x.false
+pub returns-then-is_nan : goal.returns-then-is_nan
+returns-then-is_nan c = word_back _ _ (passes _ c.well_formed.0.1) (nan-word _ (sym c.is_nan.ensures.value ∙ c.if-is_nan.true))
 
-pub returns-then-x : goal.returns-then-x
-returns-then-x c = word_back _ _ (passes _ c.well_formed.0.1) (nan-word _ c.if-x.true)
-
-pub returns-else-x : goal.returns-else-x
-returns-else-x c = word_back _ _ (passes _ c.well_formed.0.1) refl
+pub returns-else-is_nan : goal.returns-else-is_nan
+returns-else-is_nan c = word_back _ _ (passes _ c.well_formed.0.1) refl

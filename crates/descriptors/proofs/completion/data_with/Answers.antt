@@ -1,4 +1,0 @@
-use Rattle.descriptors.proofs.completion.data_with.Goals as goal
-
-pub returns : goal.returns
-returns c = cc

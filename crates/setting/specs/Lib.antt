@@ -1,2 +1,0 @@
-pub mod Set
-pub mod SetByTrap

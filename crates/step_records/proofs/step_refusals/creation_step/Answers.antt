@@ -1,7 +1,0 @@
-use Rattle.step_records.proofs.step_refusals.creation_step.Goals as goal
-
-pub returns-then-has_value_alone : goal.returns-then-has_value_alone
-returns-then-has_value_alone c = rw (c.earlier.ensures, c.number_refusal.ensures, c.prototype_refusal.ensures, ← c.has_value_alone.ensures, c.if-has_value_alone.true)
-
-pub returns : goal.returns
-returns c = rw (← c.has_value_alone.ensures, c.if-has_value_alone.false)

@@ -1,4 +1,0 @@
-use Rattle.value_operations.proofs.is_undefined.Goals as goal
-
-pub returns : goal.returns
-returns c = rw c.type_of.ensures
