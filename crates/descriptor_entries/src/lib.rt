@@ -1,5 +1,6 @@
 // Completing, validating and merging descriptors over lent memory, which says how many objects and strings there are, and which objects are callable.
 // operations: the three over byte records. records: reading those, and refusals 1 to 4.
+// Refusals and tests are numbers, as `DescriptorsDecided` and C have them; completing and merging are apart, as C has two functions.
 #![tactic(auto)]
 
 ghost use Rattle.std.specs.Prelude.{◌≡◌};

@@ -1,4 +1,5 @@
 // A descriptor by itself as a record, and refusals 1 to 4 over one and over two.
+// Refusals are numbers, as `DescriptorsDecided` and C have them.
 ghost use Rattle.std.specs.Prelude.{◌≡◌, IsTrue, IsFalse, MatchResult};
 ghost use Rattle.record.specs.Descriptor.{descriptor_at};
 ghost use Rattle.descriptor_entries.specs.Records.{is_record, one_descriptor, two_descriptors};

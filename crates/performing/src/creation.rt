@@ -1,4 +1,5 @@
 // Making objects, functions and proxies, revoking a proxy and releasing an object: the operations that make no calls.
+// What a value or an object becomes is a function with an equation each; `From` beside one would say the same again.
 ghost use Rattle.std.specs.Prelude.{◌≡◌, true};
 ghost use Rattle.store.specs.Store.{named, lookup};
 ghost use Rattle.value.specs.Bits.{bit};

@@ -1,4 +1,5 @@
 // Sealing and freezing an object, and the tests whether it is: codes 18 and 19.
+// That lists fit is said of the answers still to come, so a clause says it; `is_memory` is asked where words are written.
 ghost use Rattle.std.specs.Prelude.{◌≡◌, true, List, ℕ, ◌≤◌, length};
 ghost use Rattle.text.specs.Table.{is_table};
 ghost use Rattle.store.specs.Store.{maximum_properties};

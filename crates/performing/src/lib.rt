@@ -1,5 +1,6 @@
 // What a step asks for, done: the operation of each code, with its one write or, in levels, with many.
 // creation: codes 1 to 3, 16 and 17. reads: 4, 6, 8, 10 and 11. writes: 5, 7, 9, 12 and 13. listing: 14, with its output. levels: 18 and 19.
+// `Performable` speaks of a run and a step's bytes at once, so no type of one says it.
 #![tactic(auto)]
 
 ghost use Rattle.std.specs.Prelude.{◌≡◌, true, false, ◌≤◌, ◌<◌};

@@ -1,4 +1,5 @@
 // A step of [[OwnPropertyKeys]]: its keys stand at the output's start, 9 bytes each.
+// That lists fit is said of the answers still to come, so a clause says it and not `Run`.
 ghost use Rattle.std.specs.Prelude.{◌≡◌, true, ◌≤◌, length};
 ghost use Rattle.text.specs.Table.{is_table, strings_of};
 ghost use Rattle.store.specs.Store.{maximum_properties};

@@ -69,7 +69,7 @@ pub fn key_at(bytes: &[u8]) -> PropertyKey
 
 // The codes of the methods that write nothing and list no keys.
 #[tactic(auto, unfolding(crate::specs::Results::is_reading))]
-pub fn is_reading(code: u8) -> bool
+pub fn is_reading(code: u64) -> bool
     ensures { result ≡ is_reading code }
 {
     matches!(code, 4 | 6 | 8 | 10 | 11)

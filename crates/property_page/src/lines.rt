@@ -1,4 +1,5 @@
 // A line of a page, in lent bytes: key, attributes, value or getter, setter.
+// A place goes beside the bytes it is in, since its bound speaks of both.
 // Columns have fixed places in what the caller lends, so each is put there; `write!` into a String would take a heap.
 ghost use Rattle.std.specs.Prelude.{◌≡◌, [], ◌+◌, ◌≤◌, length};
 ghost use Rattle.std.proofs.lemmas.List.Edits.{sets};

@@ -5,6 +5,7 @@ use crate::line_input::Call;
 use crate::readout::Bytes;
 use steps::Report;
 
+// A refusal that no entry gives; a number, as lines have it.
 const UNKNOWN: u64 = 255;
 
 // The memory that calls are over.

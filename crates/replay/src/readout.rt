@@ -12,7 +12,7 @@ use store_read::StoreWords;
 use value::{PropertyKey, Value};
 use value_operations::{bits, encoding};
 
-// Bytes from the start of lent ones. Those for which there is no room are dropped.
+// Bytes from the start of lent ones. Those for which there is no room are dropped. (A count beside them: what is behind it stays.)
 #[derive(Drop)]
 pub struct Bytes<'a> {
     room: &'a mut [u8],

@@ -1,6 +1,7 @@
 // A report as ten words, for C: outcome, refusal or message, answers, calls, form, flags or number of keys,
 // then two values, each as its kind and its payload.
 // Each form is written out whole: ten words in the order of docs/REFERENCE.md.
+// Numbers of outcomes and flags are functions with equations, for C; flags are as a row of the store has them, by another layout.
 ghost use Rattle.std.specs.Prelude.{◌≡◌};
 ghost use Rattle.store.specs.Words.{flags_of};
 ghost use Rattle.steps.specs.declared.Completion.TheVariants.{Descriptor};

@@ -57,7 +57,7 @@ fn run(words: &mut [u64], strings: &[u16], bytes: &[u8], sheet: &[u8], output: &
     }
     let run = run_over(words, strings, sheet);
     let mut progress = reporting::start(sheet);
-    if reads::is_reading(code) {
+    if reads::is_reading(u64::from(code)) {
         return reads::perform_reading(&run, bytes, progress);
     }
     let performed = performing::perform(&run, bytes, &mut progress);

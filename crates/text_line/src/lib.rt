@@ -1,4 +1,5 @@
 // One line of a text: its call is performed, and its row is written.
+// (15 is a code of the bytes, beside those of steps.)
 #![tactic(auto)]
 
 ghost use Rattle.std.specs.Prelude.{◌≡◌, true, ◌*◌, ◌≤◌, length};
@@ -27,7 +28,9 @@ impl Memory<'_> {
 
     // Refusal 12.
     pub fn refuse(&mut self, number: u64) -> usize
-        ensures { Performed self.old number None self.new result }
+        ensures done { Performed self.old number None self.new result }
+        ensures words_after { self.new.words.now ≡ self.old.words.now }
+        ensures strings_after { self.new.strings.now ≡ self.old.strings.now }
     {
         text_rows::put_row(self.rows, 0, number, reporting::refused(12), b"")
     }

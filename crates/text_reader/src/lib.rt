@@ -1,4 +1,5 @@
 // Steps from a text, in pieces of any size: rows come out as lines are complete.
+// Feeding and ending are apart, as C has two functions. Lengths are as the definitions have them.
 #![tactic(auto)]
 
 ghost use Rattle.std.specs.Prelude.{◌≡◌, true, ◌+◌, ◌≤◌, ◌<◌, length, get_or, set};
@@ -19,7 +20,7 @@ pub struct Progress {
 
 const MAXIMUM_LINE: u64 = 16384;
 
-// The size of a line that is too long.
+// The size of a line that is too long. (A number, since it is one of the ten words that C keeps.)
 const TOO_LONG: u64 = 16385;
 
 const ROW_ROOM: usize = 4800;

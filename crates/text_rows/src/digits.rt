@@ -1,4 +1,5 @@
 // Numbers in decimal digits and bytes in hexadecimal ones, written into lent bytes.
+// Lent, since there is no heap for a String.
 ghost use Rattle.std.specs.Prelude.{◌≡◌, ◌+◌, ◌*◌, ◌<◌, ◌≤◌, length};
 ghost use Rattle.std.proofs.lemmas.List.Edits.{sets};
 ghost use Rattle.record.specs.Characters.{decimal, digit_for, hexadecimal};

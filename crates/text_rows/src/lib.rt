@@ -1,4 +1,5 @@
 // Rows of a text: a line's number and its report.
+// A place goes beside the bytes it is in, since its bound speaks of both; a row ends its value where a page has a column.
 // digits: decimal and hexadecimal digits into lent bytes.
 #![tactic(auto)]
 
@@ -39,7 +40,7 @@ fn put_number(rows: &mut [u8], at: usize, n: u64) -> usize
     ensures { Written rows.old rows.new at (decimal n ++ (space ∷ [])) 21 result }
 {
     let end = digits::put_decimal(rows, at, n);
-    rows[end] = 32;
+    rows[end] = b' ';
     end + 1
 }
 
@@ -47,8 +48,8 @@ fn put_dash(rows: &mut [u8], at: usize) -> usize
     requires { at + 2 ≤ length rows.old }
     ensures { Written rows.old rows.new at (last_cell []) 2 result }
 {
-    rows[at] = 45;
-    rows[at + 1] = 10;
+    rows[at] = b'-';
+    rows[at + 1] = b'\n';
     at + 2
 }
 
@@ -58,7 +59,7 @@ fn put_bytes(rows: &mut [u8], at: usize, bytes: &[u8]) -> usize
     ensures { Written rows.old rows.new at (last_cell bytes.now) (2 * length bytes.now + 1) result }
 {
     let end = digits::put_hexadecimal(rows, at, bytes);
-    rows[end] = 10;
+    rows[end] = b'\n';
     end + 1
 }
 

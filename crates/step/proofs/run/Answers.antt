@@ -1,10 +1,11 @@
 use native.Mathlib.Omega.{arith}
-use mathlib.Core.Path.{refl, sym, ◌∙◌}
+use mathlib.Core.Path.{refl, sym, ◌∙◌, ap}
 use Rattle.store.specs.Words.{world_of}
 use Rattle.step_records.proofs.PassedLaws.{step-length, sheet-there, sheet-formed, other-code}
 use Rattle.reporting.proofs.ContractLaws.{store_is, table_is}
 use Rattle.reporting.proofs.EndLaws.{finished-words, kept-words}
 use Rattle.step.proofs.StepLaws.{performable, lists-fit, turns, run-shown, run-listed, run-set, run-tested, run-performed}
+use Rattle.performing.specs.Results.{is_reading}
 use Rattle.step.proofs.run.Goals as goal
 
 pub bounds-bytes-0 : goal.bounds-bytes-0
@@ -41,13 +42,13 @@ pub start-progress-requires : goal.start-progress-requires
 start-progress-requires c = sheet-there (world_of c.args.words.now c.args.strings.now) c.args.bytes.now c.args.sheet.now c.requires.1
 
 pub perform_reading-requires : goal.perform_reading-requires
-perform_reading-requires c = let e = c.run_over-run.ensures in rw (e.words, e.allowance, e.sheet) (performable c.args.words.now c.args.strings.now c.args.bytes.now c.args.sheet.now c.requires.0 c.requires.1, (sheet-formed (world_of c.args.words.now c.args.strings.now) c.args.bytes.now c.args.sheet.now c.requires.1, sym c.is_reading.ensures ∙ c.if-is_reading.true))
+perform_reading-requires c = let e = c.run_over-run.ensures in rw (e.words, e.allowance, e.sheet) (performable c.args.words.now c.args.strings.now c.args.bytes.now c.args.sheet.now c.requires.0 c.requires.1, (sheet-formed (world_of c.args.words.now c.args.strings.now) c.args.bytes.now c.args.sheet.now c.requires.1, ap is_reading (sym c.from.ensures) ∙ sym c.is_reading.ensures ∙ c.if-is_reading.true))
 
 pub returns-then-is_reading : goal.returns-then-is_reading
 returns-then-is_reading c = record { output_after = run-shown c.args.words.now c.args.strings.now c.args.bytes.now c.args.sheet.now c.args.output.now (sheet-formed (world_of c.args.words.now c.args.strings.now) c.args.bytes.now c.args.sheet.now c.requires.1) _ _ c.start-progress.ensures (let e = c.run_over-run.ensures in rw (e.words, e.strings, e.allowance, e.sheet) at (c.perform_reading.ensures c.args.output.now)); words_after = kept-words c.args.words.now _ (store_is c.args.words.now c.args.strings.now c.requires.0) refl _ c.perform_reading.result.outcome }
 
 pub perform-performed-requires : goal.perform-performed-requires
-perform-performed-requires c = let e = c.run_over-run.ensures in rw (e.words, e.allowance) (performable c.args.words.now c.args.strings.now c.args.bytes.now c.args.sheet.now c.requires.0 c.requires.1, (sym c.is_reading.ensures ∙ c.if-is_reading.false, other-code (world_of c.args.words.now c.args.strings.now) c.args.bytes.now c.args.sheet.now c.requires.1 c.if-code-eq14.false c.if-code-eq18.false c.if-code-eq19.false))
+perform-performed-requires c = let e = c.run_over-run.ensures in rw (e.words, e.allowance) (performable c.args.words.now c.args.strings.now c.args.bytes.now c.args.sheet.now c.requires.0 c.requires.1, (ap is_reading (sym c.from.ensures) ∙ sym c.is_reading.ensures ∙ c.if-is_reading.false, other-code (world_of c.args.words.now c.args.strings.now) c.args.bytes.now c.args.sheet.now c.requires.1 c.if-code-eq14.false c.if-code-eq18.false c.if-code-eq19.false))
 
 pub finish-requires : goal.finish-requires
 finish-requires c = (sheet-formed (world_of c.args.words.now c.args.strings.now) c.args.bytes.now c.args.sheet.now c.requires.1, ((store_is c.args.words.now c.args.strings.now c.requires.0), rw c.run_over-run.ensures.words at c.perform-performed.ensures.taken))

@@ -15,7 +15,7 @@ pub perform_units-requires-in-Some : goal.perform_units-requires-in-Some
 perform_units-requires-in-Some c = (search rules, omega (arith, take_short c.in-Some.n c.put_some.new.bytes))
 
 pub returns-in-None : goal.returns-in-None
-returns-in-None c = as_call (ap (entry_of _) (some-text _ (sym c.is_dash.ensures ∙ c.if-is_dash.false) (none-decoded _ _ c.in-None.is c.put_some.ensures.0))) c.refuse.ensures
+returns-in-None c = as_call (ap (entry_of _) (some-text _ (sym c.is_dash.ensures ∙ c.if-is_dash.false) (none-decoded _ _ c.in-None.is c.put_some.ensures.0))) c.refuse.ensures.done
 
 pub returns-in-Some : goal.returns-in-Some
 returns-in-Some c = as_call (ap (entry_of _) (some-text _ (sym c.is_dash.ensures ∙ c.if-is_dash.false) (bytes-decoded _ _ c.in-Some.is c.put_some.ensures.0))) c.perform_units-in-Some.ensures

@@ -5,7 +5,7 @@ use borrow.Author.Rules.{rules}
 use Rattle.text_line.proofs.Memory.perform_line.Goals as goal
 
 pub returns-in_default : goal.returns-in_default
-returns-in_default c = as_call (no_cells _ _ c.requires.1 c.in_default.ensures) c.refuse.ensures
+returns-in_default c = as_call (no_cells _ _ c.requires.1 c.in_default.ensures) c.refuse.ensures.done
 
 pub put_record-requires : goal.put_record-requires
 put_record-requires c = (c.in-Some.ensures.1, (c.requires.0, refl))
@@ -26,4 +26,4 @@ pub returns-then-put_record : goal.returns-then-put_record
 returns-then-put_record c = as_call (step_call _ _ c.requires.1 c.in-Some.ensures.0 _ _ c.put_record.ensures c.if-put_record.true _ c.cell_in-cell.ensures c.if-bytes-eq15.false) c.step_line.ensures
 
 pub returns : goal.returns
-returns c = as_call (no_record _ _ c.requires.1 c.in-Some.ensures.0 _ _ c.put_record.ensures c.if-put_record.false) c.refuse-2.ensures
+returns c = as_call (no_record _ _ c.requires.1 c.in-Some.ensures.0 _ _ c.put_record.ensures c.if-put_record.false) c.refuse-2.ensures.done

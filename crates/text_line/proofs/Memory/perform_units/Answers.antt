@@ -6,7 +6,7 @@ use Rattle.text_line.proofs.LineLaws.{as_call, odd-text, half_length, even-halve
 use Rattle.text_line.proofs.Memory.perform_units.Goals as goal
 
 pub returns-then-text-eq1 : goal.returns-then-text-eq1
-returns-then-text-eq1 c = as_call (ap (entry_of _) (odd-text _ c.if-text-eq1.true)) c.refuse.ensures
+returns-then-text-eq1 c = as_call (ap (entry_of _) (odd-text _ c.if-text-eq1.true)) c.refuse.ensures.done
 
 pub slice_bounds-put_units-end-2 : goal.slice_bounds-put_units-end-2
 slice_bounds-put_units-end-2 c = half_length c.args.text.now c.args.units.now c.requires.1

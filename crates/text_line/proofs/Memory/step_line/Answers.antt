@@ -15,7 +15,7 @@ pub slice_bounds-perform_step-end-in-Some : goal.slice_bounds-perform_step-end-i
 slice_bounds-perform_step-end-in-Some c = sym (length-take-le _ _ (omega (arith, bytes-within _ c.in-Some.is c.put_some.ensures.1)))
 
 pub returns-in-None : goal.returns-in-None
-returns-in-None c = as_call (ap (step_with _) (some-sheet _ (sym c.is_dash.ensures ∙ c.if-is_dash.false) (none-decoded _ _ c.in-None.is c.put_some.ensures.0))) c.refuse.ensures
+returns-in-None c = as_call (ap (step_with _) (some-sheet _ (sym c.is_dash.ensures ∙ c.if-is_dash.false) (none-decoded _ _ c.in-None.is c.put_some.ensures.0))) c.refuse.ensures.done
 
 pub returns-in-Some : goal.returns-in-Some
 returns-in-Some c = as_call (ap (step_with _) (some-sheet _ (sym c.is_dash.ensures ∙ c.if-is_dash.false) (bytes-decoded _ _ c.in-Some.is c.put_some.ensures.0))) c.perform_step-in-Some.ensures

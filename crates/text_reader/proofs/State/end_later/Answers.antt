@@ -15,7 +15,7 @@ returns-in-Some c = let p = c.perform_line.ensures in
     }
 
 pub returns-in-None : goal.returns-in-None
-returns-in-None c = let p = c.refuse.ensures in
+returns-in-None c = let p = c.refuse.ensures.done in
     record {
       same = record { same_state = refl; same_words = p.same_words; same_strings = p.same_strings; same_rows = p.same_rows };
       reads = λ bytes. later-ended _ _ c.args.self.now.words.now _ _ _ _ bytes _ _ c.args.self.now.ten c.requires.0 (rw c.in-None.is refl) p.done;
