@@ -93,7 +93,8 @@ lib:
 	tests/build.sh demnyaluz
 
 # The library through its header, by seven C programs, one of them as C++ too and two under valgrind too. It needs gcc, g++ and valgrind, which is not
-# asked for undefined values: it takes the sign of a word for undefined where other bits of the word are padding. The library has no other names.
+# asked for undefined values: it takes the sign of a word for undefined where other bits of the word are padding. The library has no other names, and
+# asks for memcpy and memset alone.
 c-test: lib
 	for program in sealed functions release page text records null; do \
 		gcc -Wall -Wextra -Wpedantic -Werror -std=c11 -O1 -fsanitize=undefined -fno-sanitize-recover=undefined -Iinclude \
@@ -104,6 +105,7 @@ c-test: lib
 	valgrind --quiet --undef-value-errors=no --error-exitcode=1 target/lib/null
 	valgrind --quiet --undef-value-errors=no --error-exitcode=1 target/lib/release
 	! nm -g --defined-only target/lib/libdemnyaluz.a | grep ' [A-Z] ' | grep -v ' T demnyaluz_'
+	! nm -u target/lib/libdemnyaluz.a | grep ' U ' | grep -v -x ' *U mem\(cpy\|set\)'
 
 # The Rust crate's tests, against a plain implementation, and its documentation; then its formatting and clippy, where they are installed. It needs
 # cargo, and no network.

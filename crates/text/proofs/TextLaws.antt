@@ -59,7 +59,7 @@ below_by text strings units n h true e q =
     omega arith
 below_by text strings units n h false e q = below_next strings units n h (number_of strings units) refl (rw e at q)
 
--- what is was entered
+-- what is found was entered
 pub number-below : (strings : Strings) (units : List ℕ) (n : ℕ) → number_of strings units ≡ Some n → n < length strings
 unfolding number_of
 number-below [] units n q = let z : ◌≡◌ {A = ℕ} 0 1 = cc in absurd (omega arith)

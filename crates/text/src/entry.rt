@@ -4,7 +4,7 @@ ghost use Rattle.text.specs.Strings.{number_of};
 ghost use Rattle.text.specs.Table.{table_size, strings_of, is_table, added_to};
 ghost use Rattle.text.specs.Answers.{read_table, refusal_of, entry_of, enter_cells, cells_after};
 
-use crate::{EntryError, MAXIMUM_LENGTH, ROW_SIZE};
+use crate::{EntryError, MAXIMUM_LENGTH, ROW_SIZE, copying};
 
 const MAXIMUM_STRINGS: usize = 256;
 
@@ -31,7 +31,7 @@ fn add(cells: &mut [u16], units: &[u16], n: usize)
     let start = row + 1;
     let end = start + units.len();
     cells[row] = units.len() as u16;
-    cells[start..end].copy_from_slice(units);
+    copying::copy(&mut cells[start..end], units);
     cells[0] = (n + 1) as u16;
 }
 

@@ -1,5 +1,5 @@
 // The strings that were entered, by number, in lent cells: a count, then for each string its length and 32 code units.
-// entry: entering one. indices: which strings are array indices.
+// entry: entering one. indices: which strings are array indices. copying: how their code units are copied.
 #![tactic(auto)]
 
 ghost use Rattle.std.specs.Prelude.{◌≡◌, true, [], ◌<◌, eqb, length};
@@ -8,6 +8,7 @@ ghost use Rattle.text.specs.Strings.{text_of, length_of};
 ghost use Rattle.text.specs.Table.{table_size, length_at, text_at, strings_of, is_table};
 ghost use Rattle.text.specs.Answers.{read_table, count_answer, emptied};
 
+pub mod copying;
 pub mod entry;
 pub mod indices;
 

@@ -2,9 +2,9 @@
 // (15 is a code of the bytes, beside those of steps.)
 #![tactic(auto)]
 
-ghost use Rattle.std.specs.Prelude.{◌≡◌, true, ◌*◌, ◌≤◌, length};
+ghost use Rattle.std.specs.Prelude.{◌≡◌, true, ◌*◌, ◌≤◌, length, None};
 ghost use Rattle.reporting.specs.Memory.{is_memory};
-ghost use Rattle.text_line.specs.Lines.{row_room};
+ghost use Rattle.text_line.specs.Lines.{row_room, LineDone};
 
 use step_records::step_refusals;
 use text_cells::{cells, hexadecimal, parts};
@@ -19,6 +19,14 @@ pub struct Memory<'a> {
     pub ghost room: { row_room ≤ length rows.now },
 }
 
+// Refusal 12: words and strings are read alone.
+pub fn refuse(words: &[u64], strings: &[u16], number: u64, rows: &mut [u8]) -> usize
+    requires { (is_memory words.now strings.now ≡ true) × (row_room ≤ length rows.old) }
+    ensures { LineDone words.now strings.now rows.old number None words.now strings.now rows.new result }
+{
+    text_rows::put_row(rows, 0, number, reporting::refused(12), b"")
+}
+
 impl Memory<'_> {
     ghost use Rattle.steps.specs.Run.{step};
     ghost use Rattle.text_cells.specs.Answers.{AreColumns};
@@ -26,13 +34,15 @@ impl Memory<'_> {
     ghost use Rattle.text_form.specs.Lines.{key_room, step_with, entry_of, call_in};
     ghost use Rattle.text_line.specs.Performed.{Performed};
 
-    // Refusal 12.
+    // The same in this memory.
     pub fn refuse(&mut self, number: u64) -> usize
         ensures done { Performed self.old number None self.new result }
         ensures words_after { self.new.words.now ≡ self.old.words.now }
         ensures strings_after { self.new.strings.now ≡ self.old.strings.now }
     {
-        text_rows::put_row(self.rows, 0, number, reporting::refused(12), b"")
+        // Variables of their own, as in perform_step.
+        let (words, strings) = (&mut *self.words, &mut *self.strings);
+        refuse(words, strings, number, self.rows)
     }
 
     // A step with its sheet.

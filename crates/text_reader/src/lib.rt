@@ -7,6 +7,7 @@ ghost use Rattle.text_form.specs.Lines.{maximum_line};
 ghost use Rattle.text_form.specs.Reader.{first, later, added, columns_in, Fits};
 ghost use Rattle.text_reader.specs.Memory.{state_size, column_words, phase_in, line_of, are_below, maximum_count, is_state, is_accepted, bytes_in, Started, Fed, Ended};
 
+use text::copying;
 use text_cells::{cells, names};
 use text_line::Memory;
 
@@ -101,7 +102,7 @@ fn keep(line: &mut [u8], size: u64, piece: &[u8]) -> u64
         let at = size as usize;
         let count = piece.len();
         if count <= 16384 - at {
-            line[at..at + count].copy_from_slice(piece);
+            copying::copy(&mut line[at..at + count], piece);
             return (at + count) as u64;
         }
     }
